@@ -5,10 +5,20 @@
 #
 # Input, output and exit status are the program's own, and so are the arguments. It is proved and built first, where
 # a file of the crates is newer than it is: some minutes the first time, of which standard error tells how far they are.
-# WORD is a command that ends well where there is no input, as the build runs it once. The program is as new as this look
-# at the files, so `run`, `dns` and `bgp` start it without one until git changes something.
+# WORD is a command that ends well where there is no input, as the build runs it once. The program is as new as this
+# look at the files, so `run`, `dns` and `bgp` start it without one until git changes something.
+#
+# If there is no program to start, standard error says why, and the status is 125. No program ends with that.
 set -euo pipefail
-top="$(cd "$(dirname "${BASH_SOURCE[0]}")" && pwd)"
+
+# Ends without a program.
+fail() {
+    echo "program.sh: $1" >&2
+    exit 125
+}
+
+[ $# -ge 2 ] || fail "usage: program.sh CRATE WORD [ARGUMENT..]"
+top="$(CDPATH="" cd -- "$(dirname -- "${BASH_SOURCE[0]}")" && pwd)" || fail "its folder can't be entered"
 crate="$1"
 word="$2"
 shift 2
@@ -24,12 +34,12 @@ is_built() {
 # Prints the libraries of this repository that a crate stands on, lowest first, some of them more than once.
 below() {
     local name
-    for name in $(sed -n "s/^$1://p" "$top/crates.txt"); do
+    while read -r name; do
         if grep -q "^$name:" "$top/crates.txt"; then
             below "$name"
             echo "$name"
         fi
-    done
+    done < <(sed -n "s/^$1://p" "$top/crates.txt" | tr -s ' ' '\n')
 }
 
 # Reads what a check of a crate prints, and tells how many functions it has, and how many are checked where it says so.
@@ -46,11 +56,12 @@ tell() {
     done
 }
 
-# Runs a command of rt in a crate, on one processor, as a check that is spread over more takes more of each.
+# Runs a command of rt in a crate. How many processors a check takes is for rt to say, which knows how many there are
+# and how much memory: a large crate has four. The crates stand one on another, so one at a time is proved.
 rt_in() {
     local name="$1" command="$2"
     shift 2
-    (cd "$top/crates/$name" && rt "$command" --jobs 1 "$@" </dev/null 2>&1) | tee -a "$log" | tell "$name" >&2 || return
+    (cd "$top/crates/$name" && rt "$command" "$@" </dev/null 2>&1) | tee -a "$log" | tell "$name" >&2 || return
     echo "  $name: proved" >&2
 }
 
@@ -70,16 +81,18 @@ build() {
     rt_in "$crate" run -- "$word"
 }
 
-looked="$(mktemp)"
+looked="$(mktemp)" || fail "no temporary file can be made"
+trap 'rm -f -- "$looked" ${log:+"$log"}' EXIT
 if ! is_built; then
+    command -v rt >/dev/null || fail "$crate isn't built, and there is no rt to prove and build it"
     echo "proving and building $crate, and the crates that it stands on .." >&2
-    log="$(mktemp)"
+    log="$(mktemp)" || fail "no temporary file can be made"
     if ! build; then
-        cat "$log" >&2
-        exit 5
+        cat -- "$log" >&2
+        fail "$crate isn't proved and built"
     fi
-    rm -f "$log"
 fi
-touch -r "$looked" "$program"
-rm -f "$looked"
+# (where the program is somebody else's, its time stays, and the next start looks again)
+touch -r "$looked" "$program" 2>/dev/null || true
+rm -f -- "$looked" ${log:+"$log"}
 exec "$program" "$@"

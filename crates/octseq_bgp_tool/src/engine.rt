@@ -1,5 +1,5 @@
 //! The commands of the program.
-ghost use Rattle.std.specs.Prelude.{◌≡◌, ◌≢◌, ◌++◌, ℕ, List, Option, codes, IfSome, IsNone};
+ghost use Rattle.std.specs.Prelude.{◌≡◌, ◌≢◌, ◌++◌, ℕ, List, Option, codes, true, IfSome, IsNone};
 ghost use Rattle.octseq_bgp_tool.specs.Out.{Out};
 ghost use Rattle.octseq_bgp_tool.specs.Words.{name_of};
 ghost use Rattle.octseq_bgp_tool.specs.declared.engine.Command.{Command};
@@ -28,7 +28,7 @@ octseq_bgp_tool reads BGP messages and MRT records, and shows them as text.
 
 usage: octseq_bgp_tool [COMMAND [FILE]]
 
-It reads the file, or standard input where none is named.
+It reads the file, or standard input where none is named, or -.
 
 commands, the first where none is named:
   message   shows one BGP message
@@ -47,7 +47,7 @@ message and stream may be followed by these words, in this order, each after a c
   extended   messages may have 65,535 octets
 
 Of what is malformed, standard error has a line with the number of the message or record and the place in the message
-where reading stopped.
+where reading stopped. If such a line can't be written, none follows, the output goes on, and the status is 4.
 
 status:
   0  all went well
@@ -105,6 +105,8 @@ impl Commands for Command {
     ghost help = { HELP.now };
 
     ghost out = { Out };
+
+    ghost has_notes = { true };
 
     fn named(word: &str) -> Option<Command> {
         match word {

@@ -10,9 +10,9 @@ use Rattle.octseq_dns.specs.MessageText.{IsMessageText}
 use Rattle.octseq_dns.specs.Rewritten.{IsMessageOf}
 use Rattle.octseq_dns.specs.declared.header.Header.{Header}
 use Rattle.octseq_dns_tool.proofs.Stops.{one_stop}
-use Rattle.octseq_dns_tool.specs.Rewritten.{IsWritten, CannotBeWritten, IsAnew, IsStuck}
+use Rattle.octseq_dns_tool.specs.Rewritten.{IsWritten, CannotMove, IsTooLong, IsAnew, IsSuch}
 use Rattle.octseq_dns_tool.specs.Shown.{HasText, IsMalformed, IsMessagePiece, IsNote, IsShown}
-use Rattle.octseq_dns_tool.specs.Taken.{IsBlock, IsMoved, IsPiece}
+use Rattle.octseq_dns_tool.specs.Taken.{IsBlock, IsLeftNote, IsMoved, IsPiece}
 use Rattle.octseq_dns_tool.specs.declared.engine.stream.Messages.{Messages}
 use Rattle.octseq_dns_tool.specs.declared.engine.stream.Messages.TheVariants.{Shown, Rewritten}
 use Rattle.octseq_program.specs.Frames.{stop_line}
@@ -96,25 +96,51 @@ module _ (one_message : (octets : List ℕ) (h k : Header) (q others : List Ques
   anew_is_message octets x p malformed =
       malformed p.header p.questions p.answers p.authorities p.additionals p.is_message
 
-  stuck_is_message : (octets : List ℕ) → IsStuck octets → IsMalformed octets → ⊥
-  stuck_is_message octets p malformed =
+  such_is_message : (P : Header → List Question → List Record → List Record → List Record → Type 0) (octets : List ℕ)
+      → IsSuch P octets → IsMalformed octets → ⊥
+  such_is_message P octets p malformed =
       malformed p.header p.questions p.answers p.authorities p.additionals p.is_message
 
-  -- octets that are rewritten can be rewritten
-  not_stuck : (octets x : List ℕ) → IsAnew octets x → IsStuck octets → ⊥
-  not_stuck octets x p q =
+  -- octets that are rewritten aren't left out
+  not_left : (number : ℕ) (octets x note : List ℕ) → IsAnew octets x → IsLeftNote number octets note → ⊥
+  not_left number octets x note p (inl (bad, n)) = anew_is_message octets x p bad
+  not_left number octets x note p (inr (inl (such, n))) =
+      let stays =
+      carried CannotMove octets such.header p.header such.questions p.questions such.answers such.authorities
+      such.additionals p.answers p.authorities p.additionals such.is_message p.is_message such.holds in
+      stays p.is_written.moves
+  not_left number octets x note p (inr (inr (such, n))) =
       let is = p.is_written in
-      let stuck =
-      carried CannotBeWritten octets q.header p.header q.questions p.questions q.answers q.authorities
-      q.additionals p.answers p.authorities p.additionals q.is_message p.is_message q.stuck in
-      elim stuck [
-        | inl stays ↦ stays is.moves
-        | inr long ↦
-            let past = long is.contents is.contents_are in
-            let few = is.size in
-            let same = ap length is.written in
-            omega (arith, past, few, same)
-      ]
+      let long =
+      carried IsTooLong octets such.header p.header such.questions p.questions such.answers such.authorities
+      such.additionals p.answers p.authorities p.additionals such.is_message p.is_message such.holds in
+      let past = long.1 is.contents is.contents_are in
+      let few = is.size in
+      let same = ap length is.written in
+      omega (arith, past, few, same)
+
+  -- octets are left out for one reason
+  not_both : (octets : List ℕ) → IsSuch CannotMove octets → IsSuch IsTooLong octets → ⊥
+  not_both octets p q =
+      let long =
+      carried IsTooLong octets q.header p.header q.questions p.questions q.answers q.authorities q.additionals
+      p.answers p.authorities p.additionals q.is_message p.is_message q.holds in
+      p.holds long.0
+
+  one_left : (number : ℕ) (octets e f : List ℕ) → IsLeftNote number octets e → IsLeftNote number octets f → e ≡ f
+  one_left number octets e f (inl (bad, n)) (inl (also, m)) = one_note number octets e f false n m
+  one_left number octets e f (inl (bad, n)) (inr (inl (such, m))) =
+      absurd (such_is_message CannotMove octets such bad)
+  one_left number octets e f (inl (bad, n)) (inr (inr (such, m))) = absurd
+      (such_is_message IsTooLong octets such bad)
+  one_left number octets e f (inr (inl (such, n))) (inl (bad, m)) =
+      absurd (such_is_message CannotMove octets such bad)
+  one_left number octets e f (inr (inl (such, n))) (inr (inl (other, m))) = n ∙ sym m
+  one_left number octets e f (inr (inl (such, n))) (inr (inr (other, m))) = absurd (not_both octets such other)
+  one_left number octets e f (inr (inr (such, n))) (inl (bad, m)) = absurd
+      (such_is_message IsTooLong octets such bad)
+  one_left number octets e f (inr (inr (such, n))) (inr (inl (other, m))) = absurd (not_both octets other such)
+  one_left number octets e f (inr (inr (such, n))) (inr (inr (other, m))) = n ∙ sym m
 
   one_block : (number : ℕ) (octets x y e f : List ℕ) (a b : Bool) → IsBlock number octets a x e
       → IsBlock number octets b y f → (a ≡ b) × (x ≡ y) × (e ≡ f)
@@ -129,21 +155,13 @@ module _ (one_message : (octets : List ℕ) (h k : Header) (q others : List Ques
       → IsMoved number octets b y f → (a ≡ b) × (x ≡ y) × (e ≡ f)
   one_moved number octets x y e f true true (anew, p, w, n) (other, q, v, m) =
       (refl, w ∙ ap (part_of 2) (one_anew octets anew other p q) ∙ sym v, n ∙ sym m)
-  one_moved number octets x y e f true false (anew, p, w, n) (inl (bad, m), v) =
-      absurd (anew_is_message octets anew p bad)
-  one_moved number octets x y e f true false (anew, p, w, n) (inr (stuck, m), v) =
-      absurd (not_stuck octets anew p stuck)
-  one_moved number octets x y e f false true (inl (bad, m), v) (anew, p, w, n) =
-      absurd (anew_is_message octets anew p bad)
-  one_moved number octets x y e f false true (inr (stuck, m), v) (anew, p, w, n) =
-      absurd (not_stuck octets anew p stuck)
-  one_moved number octets x y e f false false (inl (bad, n), w) (inl (also, m), v) =
-      (refl, w ∙ sym v, one_note number octets e f false n m)
-  one_moved number octets x y e f false false (inl (bad, n), w) (inr (stuck, m), v) = absurd
-      (stuck_is_message octets stuck bad)
-  one_moved number octets x y e f false false (inr (stuck, m), v) (inl (bad, n), w) = absurd
-      (stuck_is_message octets stuck bad)
-  one_moved number octets x y e f false false (inr (stuck, n), w) (inr (also, m), v) = (refl, w ∙ sym v, n ∙ sym m)
+  one_moved number octets x y e f true false (anew, p, w, n) (left, v) = absurd (not_left number octets anew f p left)
+  one_moved number octets x y e f false true (left, v) (anew, p, w, n) = absurd (not_left number octets anew e p left)
+  one_moved number octets x y e f false false (left, w) (also, v) = (
+    refl,
+    w ∙ sym v,
+    one_left number octets e f left also,
+  )
 
   -- a message makes one piece
   pub one_piece : (c : Messages) (number : ℕ) (octets x y e f : List ℕ) (a b : Bool)

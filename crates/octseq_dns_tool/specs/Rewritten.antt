@@ -1,5 +1,5 @@
 -- Messages that are rewritten.
-use Rattle.std.specs.Prelude.{◌≡◌, ℕ, ◌<◌, ◌≤◌, ◌⊎◌, Bool, true, false, List, length}
+use Rattle.std.specs.Prelude.{◌≡◌, ℕ, ◌<◌, ◌≤◌, List, length}
 use Rattle.octseq_dns.specs.Contents.{octets_of}
 use Rattle.octseq_dns.specs.Contents.{Message as Contents}
 use Rattle.octseq_dns.specs.Moved.{CanMove}
@@ -7,6 +7,8 @@ use Rattle.octseq_dns.specs.Rewritten.{IsMessageOf}
 use Rattle.octseq_dns.specs.Entry.{Question, Record}
 use Rattle.octseq_dns.specs.Message.{IsMessage}
 use Rattle.octseq_dns.specs.declared.header.Header.{Header}
+use Rattle.octseq_dns_tool.specs.declared.engine.rewrite.Rewriting.{Rewriting}
+use Rattle.octseq_dns_tool.specs.declared.engine.rewrite.Rewriting.TheVariants.{Written, Immovable, Long}
 
 -- A message that was read can be moved, and these are its octets when it is rewritten with at most one name kept for
 -- each offset that a pointer can express: at most 65,535.
@@ -18,18 +20,24 @@ pub record IsWritten (header : Header) (questions : List Question) (answers auth
   pub written : anew ≡ octets_of 16384 contents
   pub size : length anew ≤ 65535
 
--- a message that was read can't be moved, or takes more than 65,535 octets when it is rewritten
-abbrev pub CannotBeWritten : Header → List Question → List Record → List Record → List Record → Type 0
-CannotBeWritten header questions answers authorities additionals = ¬ CanMove answers authorities additionals
-    ⊎ ((m : Contents) → IsMessageOf header questions answers authorities additionals m
+-- a message that was read can't be moved
+abbrev pub CannotMove : Header → List Question → List Record → List Record → List Record → Type 0
+CannotMove header questions answers authorities additionals = ¬ CanMove answers authorities additionals
+
+-- a message that was read can be moved, but takes more than 65,535 octets when it is rewritten
+abbrev pub IsTooLong : Header → List Question → List Record → List Record → List Record → Type 0
+IsTooLong header questions answers authorities additionals = CanMove answers authorities additionals
+    × ((m : Contents) → IsMessageOf header questions answers authorities additionals m
     → 65535 < length (octets_of 16384 m))
 
--- whether a message that was read is rewritten, and its octets if it is
-abbrev pub IsRewriting : Header → List Question → List Record → List Record → List Record → Bool → List ℕ → Type 0
-IsRewriting header questions answers authorities additionals true anew =
+-- whether a message that was read is rewritten, and its octets if it is, or why not
+abbrev pub IsRewriting : Header → List Question → List Record → List Record → List Record → Rewriting → List ℕ → Type 0
+IsRewriting header questions answers authorities additionals Written anew =
     IsWritten header questions answers authorities additionals anew
-IsRewriting header questions answers authorities additionals false anew =
-    CannotBeWritten header questions answers authorities additionals
+IsRewriting header questions answers authorities additionals Immovable anew =
+    CannotMove header questions answers authorities additionals
+IsRewriting header questions answers authorities additionals Long anew =
+    IsTooLong header questions answers authorities additionals
 
 -- Octets are a message, and these are its octets when it is rewritten.
 pub record IsAnew (octets anew : List ℕ) : Type 0 where
@@ -41,12 +49,13 @@ pub record IsAnew (octets anew : List ℕ) : Type 0 where
   pub is_message : IsMessage octets header questions answers authorities additionals
   pub is_written : IsWritten header questions answers authorities additionals anew
 
--- Octets are a message that can't be rewritten.
-pub record IsStuck (octets : List ℕ) : Type 0 where
+-- Octets are a message of which this holds.
+pub record IsSuch (Holds : Header → List Question → List Record → List Record → List Record → Type 0) (octets : List ℕ)
+    : Type 0 where
   pub header : Header
   pub questions : List Question
   pub answers : List Record
   pub authorities : List Record
   pub additionals : List Record
   pub is_message : IsMessage octets header questions answers authorities additionals
-  pub stuck : CannotBeWritten header questions answers authorities additionals
+  pub holds : Holds header questions answers authorities additionals

@@ -1,8 +1,9 @@
 -- What is made of the messages of a stream, one after another.
+use Rattle.std.specs.Fmt.{decimal}
 use Rattle.std.specs.Prelude.{◌≡◌, ◌⊎◌, ℕ, List, [], ◌++◌, codes, Bool, true, false}
 use Rattle.octseq.specs.Part.{part_of}
 use Rattle.octseq_dns.specs.Frames.{IsCut}
-use Rattle.octseq_dns_tool.specs.Rewritten.{IsAnew, IsStuck}
+use Rattle.octseq_dns_tool.specs.Rewritten.{IsAnew, IsSuch, CannotMove, IsTooLong}
 use Rattle.octseq_dns_tool.specs.Shown.{IsMalformed, IsNote, IsShown}
 use Rattle.octseq_dns_tool.specs.declared.engine.stream.Messages.{Messages}
 use Rattle.octseq_dns_tool.specs.declared.engine.stream.Messages.TheVariants.{Shown, Rewritten}
@@ -14,12 +15,22 @@ abbrev pub IsBlock : ℕ → List ℕ → Bool → List ℕ → List ℕ → Typ
 IsBlock number octets is_fine written note = (is_message : Bool) × (shown : List ℕ) × IsShown octets is_message shown
     × IsNote number octets is_message note × (is_fine ≡ true) × (written ≡ shown ++ codes "\n")
 
+-- the line with the number of a message that is left out, and why
+abbrev pub left_line : ℕ → List ℕ → List ℕ
+left_line number why = codes "message " ++ decimal number ++ codes ": left out: " ++ why ++ codes "\n"
+
+-- the note about octets that are left out: they aren't a message, or are one whose data may have pointers, which would
+-- point elsewhere, or are one that would be too long
+abbrev pub IsLeftNote : ℕ → List ℕ → List ℕ → Type 0
+IsLeftNote number octets note = (IsMalformed octets × IsNote number octets false note)
+    ⊎ ((IsSuch CannotMove octets × (note ≡ left_line number (codes "its data may have pointers")))
+    ⊎ (IsSuch IsTooLong octets × (note ≡ left_line number (codes "it takes more than 65535 octets"))))
+
 -- the output for a message that is rewritten: its octets, preceded by their length, or nothing if it is left out
 abbrev pub IsMoved : ℕ → List ℕ → Bool → List ℕ → List ℕ → Type 0
 IsMoved number octets true written note =
     (anew : List ℕ) × IsAnew octets anew × (written ≡ part_of 2 anew) × (note ≡ [])
-IsMoved number octets false written note =
-    ((IsMalformed octets × IsNote number octets false note) ⊎ (IsStuck octets × (note ≡ []))) × (written ≡ [])
+IsMoved number octets false written note = IsLeftNote number octets note × (written ≡ [])
 
 -- what is made of the message of this number: whether it is fine, the output for it, and the note about it
 abbrev pub IsPiece : Messages → ℕ → List ℕ → Bool → List ℕ → List ℕ → Type 0

@@ -1,5 +1,5 @@
 //! The commands of the program.
-ghost use Rattle.std.specs.Prelude.{◌≡◌, ℕ, List, Option, codes};
+ghost use Rattle.std.specs.Prelude.{◌≡◌, ℕ, List, Option, codes, true};
 ghost use Rattle.octseq_dns_tool.specs.Out.{name_of, Out};
 ghost use Rattle.octseq_dns_tool.specs.declared.engine.Command.{Command};
 ghost use Rattle.octseq_program.specs.Run.{IsNamed};
@@ -24,7 +24,7 @@ octseq_dns_tool reads DNS messages, and shows them as text or writes them anew.
 
 usage: octseq_dns_tool [COMMAND [FILE]]
 
-It reads the file, or standard input where none is named.
+It reads the file, or standard input where none is named, or -.
 
 commands, the first where none is named:
   message  shows one message
@@ -36,7 +36,8 @@ commands, the first where none is named:
            octseq_dns_tool rewrite FILE > OUTPUT
   --help   writes this
 
-Of what is malformed, standard error has a line with the number of the message and the place where reading stopped.
+Of what is malformed or left out, standard error has a line with the number of the message and the place where reading
+stopped, or the reason. If such a line can't be written, none follows, the output goes on, and the status is 4.
 
 status:
   0  all went well
@@ -80,6 +81,8 @@ impl Commands for Command {
     ghost help = { HELP.now };
 
     ghost out = { Out };
+
+    ghost has_notes = { true };
 
     fn named(word: &str) -> Option<Command> {
         match word {

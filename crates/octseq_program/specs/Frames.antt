@@ -2,8 +2,13 @@
 use Rattle.std.specs.List.{AllByRecursion, flat_map}
 use Rattle.std.specs.Fmt.{decimal}
 use Rattle.std.specs.Prelude.{◌≡◌, codes, ℕ, ◌+◌, List, [], ◌∷◌, ◌++◌, Bool, true, false, ◌&&◌, length}
+use Rattle.std.specs.Prelude.{Option, Result, Ok, Err}
+use Rattle.std.specs.Io.KnownBytes.{Appends}
+use Rattle.octseq_program.specs.Run.{IsPart}
 use Rattle.octseq_program.specs.declared.frames.Ending.{Ending}
 use Rattle.octseq_program.specs.declared.frames.Ending.TheVariants.{Whole, Cut, Misframed}
+use Rattle.octseq_program.specs.declared.status.ProgramFault.{ProgramFault}
+use Rattle.octseq_program.specs.declared.status.ProgramFault.TheVariants.{Note}
 use Rattle.octseq_program.specs.declared.status.Status.{Status}
 use Rattle.octseq_program.specs.declared.status.Status.TheVariants.{Fine, Refused}
 
@@ -23,6 +28,17 @@ HavePieces IsPiece number (octets ∷ frames) all output errors = (is_fine : Boo
 abbrev pub ends_as : Bool → Status
 ends_as true = Fine
 ends_as false = Refused
+
+-- the same with the notes: if not all were written, that is a fault
+abbrev pub ended_as : Bool → Bool → Result Status ProgramFault
+ended_as all true = Ok (ends_as all)
+ended_as all false = Err Note
+
+-- A note after others, of which all were written in full or not. It is written then, in full or a front of it;
+-- otherwise nothing is.
+abbrev pub IsNoted : Bool → Bool → List ℕ → Option (List ℕ) → Option (List ℕ) → Type 0
+IsNoted true all note before after = (part : List ℕ) × IsPart all part note × Appends before after part
+IsNoted false all note before after = (all ≡ false) × Appends before after []
 
 -- What is made of an input as one item.
 pub record IsWholeOut (IsPiece : List ℕ → Bool → List ℕ → List ℕ → Type 0) (input output errors : List ℕ)

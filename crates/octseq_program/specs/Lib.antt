@@ -1,3 +1,4 @@
 pub mod Frames
+pub mod Report
 pub mod Run
 pub mod Status

@@ -1,5 +1,5 @@
 -- A run of a program: what a word asks for, what is made of the whole input, and what is written.
-use Rattle.std.specs.Prelude.{◌≡◌, ℕ, List, [], ◌++◌, codes, Bool, IsTrue, Option, Some, None, IfSome}
+use Rattle.std.specs.Prelude.{◌≡◌, ℕ, List, [], ◌++◌, codes, Bool, true, false, IsTrue, Option, Some, None, IfSome}
 use Rattle.std.specs.Io.KnownBytes.{Appends, Consumes, IsAtEnd}
 use Rattle.octseq.specs.Parts.{IsFront}
 use Rattle.octseq_program.specs.declared.request.Asked.{Asked}
@@ -56,6 +56,26 @@ pub record BreaksOff (out : List ℕ → List ℕ → List ℕ → Status → Ty
   pub noted : Appends noted_before noted_after errors
   pub fronts : (more all notes : List ℕ) (status : Status) → (IsTrue is_end → more ≡ [])
       → out (read ++ more) all notes status → IsFront output all × IsFront errors notes
+
+-- A part of octets that were to be written: all of them, or a front.
+abbrev pub IsPart : Bool → List ℕ → List ℕ → Type 0
+IsPart true part all = part ≡ all
+IsPart false part all = IsFront part all
+
+-- A run that wrote its whole output, but only a front of its notes.
+pub record Unnoted (out : List ℕ → List ℕ → List ℕ → Status → Type 0)
+    (given left before after noted_before noted_after : Option (List ℕ)) : Type 0 where
+  pub input : List ℕ
+  pub whole : IfSome given (λ octets. input ≡ octets)
+  pub ended : IsAtEnd left
+  pub output : List ℕ
+  pub errors : List ℕ
+  pub status : Status
+  pub answered : out input output errors status
+  pub written : Appends before after output
+  pub part : List ℕ
+  pub is_front : IsFront part errors
+  pub noted : Appends noted_before noted_after part
 
 -- A complete run for a word.
 pub record Ran {C : Type 0} (name_of : C → List ℕ) (help : List ℕ)

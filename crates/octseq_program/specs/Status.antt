@@ -1,7 +1,7 @@
 -- How a process ends.
 use Rattle.std.specs.Prelude.{ℕ, Result, Ok, Err}
 use Rattle.octseq_program.specs.declared.status.ProgramFault.{ProgramFault}
-use Rattle.octseq_program.specs.declared.status.ProgramFault.TheVariants.{Memory, Read, Write}
+use Rattle.octseq_program.specs.declared.status.ProgramFault.TheVariants.{Memory, Read, Write, Note}
 use Rattle.octseq_program.specs.declared.status.Status.{Status}
 use Rattle.octseq_program.specs.declared.status.Status.TheVariants.{Fine, Refused, Usage}
 
@@ -13,3 +13,4 @@ status_of (Ok Usage) = 2
 status_of (Err Memory) = 3
 status_of (Err Read) = 4
 status_of (Err Write) = 4
+status_of (Err Note) = 4

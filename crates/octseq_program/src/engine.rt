@@ -1,8 +1,10 @@
 //! A program over any reader and any writers.
-ghost use Rattle.std.specs.Prelude.{◌≡◌, ℕ, List, [], Option, IfOk, IfErr, OnOk, OnErr};
+ghost use Rattle.std.specs.Prelude.{◌≡◌, ◌++◌, ℕ, List, [], codes, Bool, IsTrue, false};
+ghost use Rattle.std.specs.Prelude.{Option, Err, IfOk, IfErr, OnOk, OnErr};
 ghost use Rattle.std.specs.Io.KnownBytes.{Appends, IsAtEnd};
 ghost use Rattle.octseq.specs.Parts.{IsFront};
-ghost use Rattle.octseq_program.specs.Run.{IsCommand, IsNamed, Answers, BreaksOff, Ran, Broke};
+ghost use Rattle.octseq_program.specs.Run.{IsAsked, IsCommand, IsNamed, Writes};
+ghost use Rattle.octseq_program.specs.Run.{Answers, BreaksOff, Ran, Broke, Unnoted};
 ghost use Rattle.octseq_program.specs.declared.status.Status.{Status};
 
 use crate::request::{Asked, asked_for};
@@ -23,6 +25,9 @@ pub trait Commands: Copy {
 
     ghost out: { Self → List ℕ → List ℕ → List ℕ → Status → Type 0 };
 
+    // whether commands write notes on standard error
+    ghost has_notes: { Bool } = { false };
+
     /// Returns the command of a name.
     fn named(word: &str) -> Option<Self>
         ensures { IsNamed name_of word.now result };
@@ -40,7 +45,8 @@ pub trait Commands: Copy {
     ///
     /// # Errors
     ///
-    /// `Memory` if a request for memory was refused, `Read` if a read failed, `Write` if a write failed.
+    /// `Memory` if a request for memory was refused, `Read` if a read failed, `Write` if a write failed. `Note` if the
+    /// whole output was written, but not all notes on standard error.
     fn carry_out<R: Read, W: Write, E: Write>(
         self,
         alloc: Global,
@@ -52,7 +58,10 @@ pub trait Commands: Copy {
             (W.contents writer.new) (E.contents errors.old) (E.contents errors.new)) }
         ensures end { OnOk result (IsAtEnd (R.remaining reader.new)) }
         ensures broke { OnErr result (BreaksOff (out self) (R.remaining reader.old) (R.remaining reader.new)
-            (W.contents writer.old) (W.contents writer.new) (E.contents errors.old) (E.contents errors.new)) };
+            (W.contents writer.old) (W.contents writer.new) (E.contents errors.old) (E.contents errors.new)) }
+        ensures unnoted { IsTrue has_notes → result ≡ Err ProgramFault.Note → Unnoted (out self)
+            (R.remaining reader.old) (R.remaining reader.new) (W.contents writer.old) (W.contents writer.new)
+            (E.contents errors.old) (E.contents errors.new) };
 }
 
 /// Does what the word asks for: runs a command on all that the reader has left, or writes the help text, on standard
@@ -60,7 +69,8 @@ pub trait Commands: Copy {
 ///
 /// # Errors
 ///
-/// `Memory` if a request for memory was refused, `Read` if a read failed, `Write` if a write failed.
+/// `Memory` if a request for memory was refused, `Read` if a read failed, `Write` if a write failed. `Note` if the
+/// whole output was written, but not all notes on standard error.
 pub fn engine<C: Commands, R: Read, W: Write, E: Write>(
     alloc: Global,
     word: &str,
@@ -77,6 +87,12 @@ pub fn engine<C: Commands, R: Read, W: Write, E: Write>(
     ensures broke { OnErr result (Broke C.name_of C.help C.out word.now (R.remaining reader.old)
         (R.remaining reader.new) (W.contents writer.old) (W.contents writer.new)
         (E.contents errors.old) (E.contents errors.new)) }
+
+    // If only notes couldn't be written, the whole output was.
+    ensures unnoted { IsTrue C.has_notes → result ≡ Err ProgramFault.Note → (asked : Asked C)
+        × IsAsked C.name_of word.now asked × Unnoted (Writes C.out C.help asked) (R.remaining reader.old)
+        (R.remaining reader.new) (W.contents writer.old) (W.contents writer.new) (E.contents errors.old)
+        (E.contents errors.new) }
 
     // A word that isn't a command reads nothing, whatever the result.
     ensures unread { ¬ IsCommand C.name_of word.now → reader.new ≡ reader.old }

@@ -1,14 +1,14 @@
 //! Commands that process a stream frame by frame. The output for a frame is written before the next frame is read, so
 //! that a live source shows at once, and an input of any length needs only the memory of one frame and its output.
-ghost use Rattle.std.specs.Prelude.{◌≡◌, ◌&&◌, ℕ, List, [], Bool, IfOk, OnErr, OnOk, Ok};
+ghost use Rattle.std.specs.Prelude.{◌≡◌, ◌≢◌, ◌&&◌, ℕ, List, [], Bool, IfOk, IfErr, OnErr, OnOk, Ok, Err};
 ghost use Rattle.std.specs.Io.KnownBytes.{Appends, Consumes, IsAtEnd};
 ghost use Rattle.octseq.specs.Code.{HasFront, IsCode};
 ghost use Rattle.octseq.specs.Parts.{IsFront};
-ghost use Rattle.octseq_program.specs.Run.{Answers, BreaksOff};
-ghost use Rattle.octseq_program.specs.Frames.{IsStreamOut, IsWholeOut, ends_as, stop_line};
+ghost use Rattle.octseq_program.specs.Run.{Answers, BreaksOff, Unnoted};
+ghost use Rattle.octseq_program.specs.Frames.{IsNoted, IsStreamOut, IsWholeOut, ended_as, ends_as, stop_line};
 
 use crate::status::{ProgramFault, Status};
-use crate::streams::{read_all, write_all};
+use crate::streams::{read_all, write_all, write_whole};
 use std::alloc::{AllocError, Global};
 use std::io::{Read, Write};
 
@@ -152,7 +152,8 @@ pub trait StreamCommand: FrameCommand {
         ensures end { (ending : Ending) → result ≡ Ok (Next.End ending) → (rest : List ℕ) × is_rest self ending rest
             × Consumes (R.remaining reader.old) (R.remaining reader.new) rest × IsAtEnd (R.remaining reader.new) }
         ensures err { OnErr result ((read : List ℕ)
-            × Consumes (R.remaining reader.old) (R.remaining reader.new) read) };
+            × Consumes (R.remaining reader.old) (R.remaining reader.new) read) }
+        ensures note { IfErr result (λ fault. fault ≢ ProgramFault.Note) };
 
     /// Makes a piece of the rest of a stream that ends like this.
     ///
@@ -168,7 +169,8 @@ pub trait StreamCommand: FrameCommand {
 ///
 /// # Errors
 ///
-/// `Memory` if a request for memory was refused, `Read` if a read failed, `Write` if a write failed.
+/// `Memory` if a request for memory was refused, `Read` if a read failed, `Write` if a write of the output failed.
+/// `Note` if the output was written, but not the note.
 pub fn take_whole<C: FrameCommand, R: Read, W: Write, E: Write>(
     command: C,
     alloc: Global,
@@ -183,20 +185,25 @@ pub fn take_whole<C: FrameCommand, R: Read, W: Write, E: Write>(
     ensures broke { OnErr result (BreaksOff (IsWholeOut (C.is_piece command 1)) (R.remaining reader.old)
         (R.remaining reader.new) (W.contents writer.old) (W.contents writer.new) (E.contents errors.old)
         (E.contents errors.new)) }
+    ensures unnoted { result ≡ Err ProgramFault.Note → Unnoted (IsWholeOut (C.is_piece command 1))
+        (R.remaining reader.old) (R.remaining reader.new) (W.contents writer.old) (W.contents writer.new)
+        (E.contents errors.old) (E.contents errors.new) }
 {
     command.one_piece();
     let input = read_all(alloc, reader)?;
     let mut tools = command.tools(alloc);
     let piece = command.take(alloc, &mut tools, 1, input.as_slice())?;
-    write_piece(writer, errors, &piece)?;
-    Ok(status_of(piece.is_fine))
+    let is_noted = write_piece(writer, errors, &piece, true)?;
+    ended(piece.is_fine, is_noted)
 }
 
-/// Processes a stream, one frame at a time.
+/// Processes a stream, one frame at a time. A note that can't be written doesn't end the output: no note follows it,
+/// and all else does.
 ///
 /// # Errors
 ///
-/// `Memory` if a request for memory was refused, `Read` if a read failed, `Write` if a write failed.
+/// `Memory` if a request for memory was refused, `Read` if a read failed, `Write` if a write of the output failed.
+/// `Note` if the whole output was written, but not all notes.
 pub fn take_stream<C: StreamCommand, R: Read, W: Write, E: Write>(
     command: C,
     alloc: Global,
@@ -213,23 +220,28 @@ pub fn take_stream<C: StreamCommand, R: Read, W: Write, E: Write>(
         (IsStreamOut (C.fits command) (C.code command) (C.is_piece command) (C.is_end command))
         (R.remaining reader.old) (R.remaining reader.new) (W.contents writer.old) (W.contents writer.new)
         (E.contents errors.old) (E.contents errors.new)) }
+    ensures unnoted { result ≡ Err ProgramFault.Note → Unnoted
+        (IsStreamOut (C.fits command) (C.code command) (C.is_piece command) (C.is_end command))
+        (R.remaining reader.old) (R.remaining reader.new) (W.contents writer.old) (W.contents writer.new)
+        (E.contents errors.old) (E.contents errors.new) }
 {
     command.one_piece();
     command.one_end();
     let mut octets = Vec::new(alloc);
     let mut tools = command.tools(alloc);
     let mut is_all = true;
+    let mut is_noted = true;
     for index in 0..u64::MAX {
         match command.read_next(reader, &mut octets)? {
             Next::Frame => {
                 let piece = command.take(alloc, &mut tools, index + 1, octets.as_slice())?;
-                write_piece(writer, errors, &piece)?;
+                is_noted = write_piece(writer, errors, &piece, is_noted)?;
                 is_all = both(is_all, piece.is_fine);
             }
             Next::End(ending) => {
                 let piece = command.take_end(alloc, index + 1, ending)?;
-                write_piece(writer, errors, &piece)?;
-                return Ok(status_of(both(is_all, piece.is_fine)));
+                let is_noted = write_piece(writer, errors, &piece, is_noted)?;
+                return ended(both(is_all, piece.is_fine), is_noted);
             }
         }
     }
@@ -254,24 +266,53 @@ fn status_of(is_all: bool) -> Status
     }
 }
 
-/// Writes the output of a piece, and then its note on standard error.
+/// Returns how the program ends after its output was written: by whether everything is valid, and whether all notes were
+/// written.
+fn ended(is_all: bool, is_noted: bool) -> Result<Status, ProgramFault>
+    ensures { result ≡ ended_as is_all is_noted }
+{
+    if is_noted {
+        Ok(status_of(is_all))
+    } else {
+        Err(ProgramFault::Note)
+    }
+}
+
+/// Writes the output of a piece, and then its note on standard error, unless one before it wasn't written in full.
+/// Returns whether all notes so far were.
 ///
 /// # Errors
 ///
-/// `Write` if a write failed.
+/// `Write` if a write of the output failed. The note isn't written then.
 pub fn write_piece<W: Write, E: Write>(
     writer: &mut W,
     errors: &mut E,
     piece: &Piece,
-) -> Result<(), ProgramFault>
-    ensures ok { OnOk result (Appends (W.contents writer.old) (W.contents writer.new) piece.now.output.items
-        × Appends (E.contents errors.old) (E.contents errors.new) piece.now.note.items) }
-    ensures front { (front : List ℕ) × (line : List ℕ) × IsFront front piece.now.output.items
-        × IsFront line piece.now.note.items × Appends (W.contents writer.old) (W.contents writer.new) front
-        × Appends (E.contents errors.old) (E.contents errors.new) line }
+    is_noted: bool,
+) -> Result<bool, ProgramFault>
+    ensures ok { OnOk result (Appends (W.contents writer.old) (W.contents writer.new) piece.now.output.items) }
+    ensures noted { IfOk result (λ all. IsNoted is_noted all piece.now.note.items (E.contents errors.old)
+        (E.contents errors.new)) }
+    ensures front { OnErr result ((front : List ℕ) × IsFront front piece.now.output.items
+        × Appends (W.contents writer.old) (W.contents writer.new) front) }
+    ensures unnoted { OnErr result (errors.new ≡ errors.old) }
+    ensures err { IfErr result (λ fault. fault ≡ ProgramFault.Write) }
 {
     write_some(writer, piece.output.as_slice())?;
-    write_some(errors, piece.note.as_slice())
+    Ok(write_note(errors, piece.note.as_slice(), is_noted))
+}
+
+/// Writes a note, unless it is empty or one before it wasn't written in full. Returns whether all notes so far were.
+fn write_note<E: Write>(errors: &mut E, note: &[u8], is_noted: bool) -> bool
+    ensures { IsNoted is_noted result note.now (E.contents errors.old) (E.contents errors.new) }
+{
+    if !is_noted {
+        return false;
+    }
+    if note.is_empty() {
+        return true;
+    }
+    write_whole(errors, note)
 }
 
 /// Writes all of the octets, if there are any.
@@ -279,6 +320,7 @@ fn write_some<W: Write>(writer: &mut W, octets: &[u8]) -> Result<(), ProgramFaul
     ensures ok { OnOk result (Appends (W.contents writer.old) (W.contents writer.new) octets.now) }
     ensures front { (front : List ℕ) × IsFront front octets.now
         × Appends (W.contents writer.old) (W.contents writer.new) front }
+    ensures err { IfErr result (λ fault. fault ≡ ProgramFault.Write) }
 {
     if octets.is_empty() {
         return Ok(());

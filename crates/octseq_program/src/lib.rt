@@ -9,9 +9,11 @@ pub mod engine;
 pub mod frames;
 pub mod hostile;
 pub mod process;
+pub mod report;
 pub mod request;
 pub mod status;
 pub mod streams;
+pub mod watched;
 
 pub use engine::Commands;
 pub use frames::{

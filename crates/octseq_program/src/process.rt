@@ -1,19 +1,22 @@
 //! A program on the standard streams, or on a file.
 ghost use Rattle.std.specs.Prelude.{◌≡◌, ℕ, List, None, Result, IfOk};
 ghost use Rattle.std.specs.Process.{exit_status};
+ghost use Rattle.octseq_program.specs.Report.{failure_of};
 ghost use Rattle.octseq_program.specs.Run.{Ran};
 ghost use Rattle.octseq_program.specs.Status.{status_of};
 ghost use Rattle.octseq_program.specs.declared.status.ProgramFault.{ProgramFault};
 ghost use Rattle.octseq_program.specs.declared.status.Status.{Status};
 
 use crate::engine::{Commands, engine};
+use crate::report::{Failure, report};
 use crate::request::{Asked, asked_for, command_word, input_path};
 use crate::status::{ProgramFault, Status};
-use crate::streams::failed_read;
+use crate::streams::write_all;
+use crate::watched::Watched;
 use std::alloc::AllocError;
 use std::env;
 use std::fs::File;
-use std::io::{self, BufReader, ErrorKind, Read, Write};
+use std::io::{self, BufReader, Error, ErrorKind, Read};
 use std::process::ExitCode;
 
 /// Returns the program's arguments. The first is its own name.
@@ -35,30 +38,27 @@ pub fn exit_code(ended: Result<Status, ProgramFault>) -> ExitCode
         Ok(Status::Refused) => 1,
         Ok(Status::Usage) => 2,
         Err(ProgramFault::Memory) => 3,
-        Err(ProgramFault::Read | ProgramFault::Write) => 4,
+        Err(ProgramFault::Read | ProgramFault::Write | ProgramFault::Note) => 4,
     })
 }
 
-/// Ends a program that failed: a line on standard error says what failed, with the path if there is a file. A failure
-/// of that write can't be reported.
-fn give_up(rt: &HostRuntime, fault: ProgramFault, path: Option<&str>) -> ExitCode
-    ensures { exit_status result ≡ status_of (Result.Err fault) }
+/// Ends a program that failed: a line on standard error says what failed, with the path if there is a file. If there is
+/// no memory for the line, that is what failed. A failure of that write can't be reported.
+fn give_up(rt: &HostRuntime, failure: Failure, path: Option<&str>) -> ExitCode
+    ensures { (fault : ProgramFault) × (exit_status result ≡ status_of (Result.Err fault)) }
 {
-    let _ = tell(&mut rt.stderr(), fault, path);
-    exit_code(Err(fault))
+    exit_code(Err(report(rt.alloc(), &mut rt.stderr(), failure, path)))
 }
 
-/// Writes the line that says what failed, with the path if there is a file.
-///
-/// # Errors
-///
-/// Those of the writer.
-pub fn tell<E: Write>(errors: &mut E, fault: ProgramFault, path: Option<&str>) -> io::Result<()> {
-    match (fault, path) {
-        (ProgramFault::Memory, _) => errors.write_all(b"out of memory\n"),
-        (ProgramFault::Write, _) => errors.write_all(b"cannot write the output\n"),
-        (ProgramFault::Read, None) => errors.write_all(b"cannot read standard input\n"),
-        (ProgramFault::Read, Some(path)) => writeln!(errors, "cannot read {path:?}"),
+/// Returns what failed if a program ended with this fault, and with this error of its last failed read.
+fn failure_of(fault: ProgramFault, error: Option<Error>) -> Failure
+    ensures { result ≡ failure_of fault error }
+{
+    match fault {
+        ProgramFault::Memory => Failure::Memory,
+        ProgramFault::Read => Failure::Read(error),
+        ProgramFault::Write => Failure::Write,
+        ProgramFault::Note => Failure::Note,
     }
 }
 
@@ -72,9 +72,9 @@ fn run_on<C: Commands, R: Read + Drop>(
     ensures { (ended : Result Status ProgramFault) × (exit_status result ≡ status_of ended)
         × IfOk ended (Ran C.name_of C.help C.out word.now None None None None None) }
 {
-    let mut reader = match BufReader::new(rt.alloc(), reader) {
+    let mut reader = match BufReader::new(rt.alloc(), Watched::new(reader)) {
         Ok(reader) => reader,
-        Err(_) => return give_up(rt, ProgramFault::Memory, path),
+        Err(_) => return give_up(rt, Failure::Memory, path),
     };
     match engine::<C, _, _, _>(
         rt.alloc(),
@@ -84,7 +84,7 @@ fn run_on<C: Commands, R: Read + Drop>(
         &mut rt.stderr(),
     ) {
         Ok(status) => exit_code(Ok(status)),
-        Err(fault) => give_up(rt, fault, path),
+        Err(fault) => give_up(rt, failure_of(fault, reader.get_ref().error), path),
     }
 }
 
@@ -95,13 +95,10 @@ fn run_on_file<C: Commands>(rt: &HostRuntime, word: &str, path: &str) -> ExitCod
 {
     match File::open(rt, path) {
         Ok(file) => run_on::<C, _>(rt, word, file, Some(path)),
-        Err(error) => match failed_read(&error) {
-            ProgramFault::Memory => give_up(rt, ProgramFault::Memory, Some(path)),
-            fault => {
-                let _ = writeln!(rt.stderr(), "cannot open {path:?}: {error}");
-                exit_code(Err(fault))
-            }
-        },
+        Err(error) if error.kind() == ErrorKind::OutOfMemory => {
+            give_up(rt, Failure::Memory, Some(path))
+        }
+        Err(error) => give_up(rt, Failure::Open(error), Some(path)),
     }
 }
 
@@ -113,7 +110,7 @@ fn run_on_nothing<C: Commands>(rt: &HostRuntime, word: &str) -> ExitCode
     let (output, errors) = (&mut rt.stdout(), &mut rt.stderr());
     match engine::<C, _, _, _>(rt.alloc(), word, &mut rt.stdin(), output, errors) {
         Ok(status) => exit_code(Ok(status)),
-        Err(fault) => give_up(rt, fault, None),
+        Err(fault) => give_up(rt, failure_of(fault, None), None),
     }
 }
 
@@ -131,8 +128,8 @@ pub fn run<C: Commands>(rt: &HostRuntime, word: &str, path: Option<&str>) -> Exi
 }
 
 /// Does what the program's arguments ask for. If there is no memory for them, the program ends with that status; if one
-/// isn't a text, they are an unknown word. The status is that of a run of some word on some input, as no contract can
-/// say what the arguments, a file and standard input contain.
+/// isn't UTF-8, a line says so, and they are an unknown word. The status is that of a run of some word on some input,
+/// as no contract can say what the arguments, a file and standard input contain.
 pub fn start<C: Commands>(rt: &HostRuntime) -> ExitCode
     ensures { (word : List ℕ) × (ended : Result Status ProgramFault) × (exit_status result ≡ status_of ended)
         × IfOk ended (Ran C.name_of C.help C.out word None None None None None) }
@@ -140,8 +137,11 @@ pub fn start<C: Commands>(rt: &HostRuntime) -> ExitCode
     match arguments(rt) {
         Ok(args) => run::<C>(rt, command_word::<C>(&args), input_path(&args)),
         Err(error) if error.kind() == ErrorKind::OutOfMemory => {
-            give_up(rt, ProgramFault::Memory, None)
+            give_up(rt, Failure::Memory, None)
         }
-        Err(_) => run::<C>(rt, "", None),
+        Err(_) => {
+            let _ = write_all(&mut rt.stderr(), b"an argument isn't UTF-8\n");
+            run::<C>(rt, "", None)
+        }
     }
 }

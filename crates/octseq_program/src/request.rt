@@ -7,6 +7,9 @@ use crate::engine::Commands;
 /// The word for help.
 const HELP_WORD: &str = "--help";
 
+/// The path that is standard input.
+const STANDARD_INPUT: &str = "-";
+
 /// What a program is asked to do by its first word.
 #[derive(Clone, Copy, Debug, PartialEq, Eq)]
 pub enum Asked<C> {
@@ -58,14 +61,27 @@ fn unless_help(word: &str) -> &str
 }
 
 /// Returns the path of the file to read in place of standard input: the program's second argument after its own name,
-/// if there are exactly two.
+/// if there are exactly two. The path `-` is standard input.
 pub fn input_path(args: &[String]) -> Option<&str>
     ensures file { (name word path : List ℕ) → map string_bytes args.now ≡ name ∷ word ∷ path ∷ []
-        → IsSomeAnd result (λ file. file.now ≡ path) }
+        → ¬ (path ≡ codes "-") → IsSomeAnd result (λ file. file.now ≡ path) }
+    ensures dash { (name word : List ℕ) → map string_bytes args.now ≡ name ∷ word ∷ codes "-" ∷ [] → result ≡ None }
     ensures none { ¬ (length args.now ≡ 3) → result ≡ None }
 {
     match args {
-        [_, _, path] => Some(path.as_str()),
+        [_, _, path] => unless_dash(path.as_str()),
         _ => None,
+    }
+}
+
+/// Returns the path, or nothing for that of standard input.
+fn unless_dash(path: &str) -> Option<&str>
+    ensures other { ¬ (path.now ≡ codes "-") → IsSomeAnd result (λ file. file.now ≡ path.now) }
+    ensures dash { path.now ≡ codes "-" → result ≡ None }
+{
+    if path == STANDARD_INPUT {
+        None
+    } else {
+        Some(path)
     }
 }

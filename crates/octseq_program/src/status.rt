@@ -19,8 +19,10 @@ pub enum ProgramFault {
     Memory,
     /// A read failed.
     Read,
-    /// A write failed.
+    /// A write of the output failed, or of the help text.
     Write,
+    /// The whole output was written, but a note on standard error couldn't be.
+    Note,
 }
 
 impl From<AllocError> for ProgramFault {

@@ -4,6 +4,7 @@ ghost use Rattle.std.specs.Prelude.{OnOk, OnErr, Ok, false};
 ghost use Rattle.std.specs.Io.KnownBytes.{Appends, Consumes, IsAtEnd};
 ghost use Rattle.std.specs.IoError.{error_kind};
 ghost use Rattle.octseq.specs.Parts.{IsFront};
+ghost use Rattle.octseq_program.specs.Run.{IsPart};
 
 use crate::status::ProgramFault;
 use std::alloc::Global;
@@ -14,6 +15,7 @@ pub fn failed_read(e: &io::Error) -> ProgramFault
     ensures memory { error_kind e.now ≡ ErrorKind.OutOfMemory → result ≡ ProgramFault.Memory }
     ensures read { error_kind e.now ≢ ErrorKind.OutOfMemory → result ≡ ProgramFault.Read }
     ensures other { result ≢ ProgramFault.Write }
+    ensures note { result ≢ ProgramFault.Note }
 {
     match e.kind() {
         ErrorKind::OutOfMemory => ProgramFault::Memory,
@@ -30,6 +32,7 @@ pub fn read_all<R: Read>(alloc: Global, reader: &mut R) -> Result<Vec<u8>, Progr
     ensures whole { IfOk result (λ input. IfSome (R.remaining reader.old) (λ octets. input.items ≡ octets)) }
     ensures end { OnOk result (IsAtEnd (R.remaining reader.new)) }
     ensures err { IfErr result (λ fault. fault ≢ ProgramFault.Write) }
+    ensures note { IfErr result (λ fault. fault ≢ ProgramFault.Note) }
     ensures lost { IfOk result (λ input. Consumes (R.remaining reader.old) (R.remaining reader.new) input.items) }
     ensures some_lost { OnErr result ((read : List ℕ)
         × Consumes (R.remaining reader.old) (R.remaining reader.new) read) }
@@ -52,6 +55,7 @@ pub fn drop_rest<R: Read>(reader: &mut R) -> Result<(), ProgramFault>
     ensures some { OnErr result ((read : List ℕ)
         × Consumes (R.remaining reader.old) (R.remaining reader.new) read) }
     ensures err { IfErr result (λ fault. fault ≢ ProgramFault.Write) }
+    ensures note { IfErr result (λ fault. fault ≢ ProgramFault.Note) }
 {
     for _ in 0..u64::MAX {
         if !drop_next(reader)? {
@@ -66,6 +70,7 @@ fn drop_next<R: Read>(reader: &mut R) -> Result<bool, ProgramFault>
     ensures read { (read : List ℕ) × Consumes (R.remaining reader.old) (R.remaining reader.new) read }
     ensures end { result ≡ Ok false → IsAtEnd (R.remaining reader.new) }
     ensures err { IfErr result (λ fault. fault ≢ ProgramFault.Write) }
+    ensures note { IfErr result (λ fault. fault ≢ ProgramFault.Note) }
 {
     let mut room = [0; 4096];
     match reader.read(&mut room) {
@@ -95,6 +100,18 @@ pub fn write_all<W: Write>(writer: &mut W, output: &[u8]) -> Result<(), ProgramF
         rest = &rest[count..];
     }
     Err(ProgramFault::Write)
+}
+
+/// Writes all of the octets and flushes the writer. Returns whether that succeeded; otherwise a front of them was
+/// written.
+pub fn write_whole<W: Write>(writer: &mut W, octets: &[u8]) -> bool
+    ensures { (part : List ℕ) × IsPart result part octets.now
+        × Appends (W.contents writer.old) (W.contents writer.new) part }
+{
+    match write_all(writer, octets) {
+        Ok(()) => true,
+        Err(_) => false,
+    }
 }
 
 /// Writes once. Returns how many octets were taken, or 0 if the write was interrupted.

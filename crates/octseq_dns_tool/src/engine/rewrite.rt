@@ -7,6 +7,17 @@ use octseq_dns::{Message, RewriteError, Target, rewrite};
 use std::alloc::{AllocError, Global};
 use std::mem;
 
+/// Whether a message was rewritten, or why it is left out.
+#[derive(Clone, Copy, Debug, PartialEq, Eq)]
+pub(super) enum Rewriting {
+    /// It was.
+    Written,
+    /// Its data may have pointers, which would point elsewhere.
+    Immovable,
+    /// It takes more than 65,535 octets.
+    Long,
+}
+
 /// Rewrites one message after another. It holds the octets of the last one, and a table that is used for each.
 #[derive(Drop)]
 pub(super) struct Writer {
@@ -23,14 +34,15 @@ impl Writer {
         }
     }
 
-    /// Rewrites a message with its names compressed, in place of the last one. Returns whether it was written.
+    /// Rewrites a message with its names compressed, in place of the last one. Returns whether it was written, or why
+    /// not.
     pub(super) fn rewrite(
         &mut self,
         alloc: Global,
         message: &Message<&[u8]>,
-    ) -> Result<bool, AllocError>
-        ensures { IfOk result (λ is_written. IsRewriting (header_of message.now) (questions_of message.now)
-            (answers_of message.now) (authorities_of message.now) (additionals_of message.now) is_written
+    ) -> Result<Rewriting, AllocError>
+        ensures { IfOk result (λ rewriting. IsRewriting (header_of message.now) (questions_of message.now)
+            (answers_of message.now) (authorities_of message.now) (additionals_of message.now) rewriting
             self.new.octets.items) }
     {
         let octets = mem::replace(&mut self.octets, Vec::new(alloc));
@@ -40,9 +52,10 @@ impl Writer {
                 let (octets, table) = written.finish();
                 self.octets = octets;
                 self.table = table;
-                Ok(true)
+                Ok(Rewriting::Written)
             }
-            Err(RewriteError::Immovable | RewriteError::Short(_)) => Ok(false),
+            Err(RewriteError::Immovable) => Ok(Rewriting::Immovable),
+            Err(RewriteError::Short(_)) => Ok(Rewriting::Long),
             Err(RewriteError::Memory) => Err(AllocError),
         }
     }

@@ -1,12 +1,12 @@
 //! Streams of messages, each preceded by its length in two octets.
-ghost use Rattle.std.specs.Prelude.{◌≡◌, ℕ, List, [], Bool, false, IfOk};
+ghost use Rattle.std.specs.Prelude.{◌≡◌, ◌≤◌, ℕ, List, [], length, Bool, true, false, IfOk};
 ghost use Rattle.octseq.specs.Part.{part_of};
 ghost use Rattle.octseq_dns.specs.Frames.{FitsStream};
-ghost use Rattle.octseq_dns_tool.specs.Taken.{IsEnd, IsPiece, IsRest};
+ghost use Rattle.octseq_dns_tool.specs.Taken.{IsEnd, IsPiece, IsRest, left_line};
 ghost use Rattle.octseq_dns_tool.specs.declared.engine.stream.Messages.{Messages};
 ghost use Rattle.octseq_dns_tool.specs.declared.engine.stream.Messages.TheVariants as messages;
 
-use crate::engine::rewrite::Writer;
+use crate::engine::rewrite::{Rewriting, Writer};
 use crate::engine::shown::{note_on, one_message_piece, push_shown};
 use octseq::StrBuilder;
 use octseq::compose::append_part_u16_be;
@@ -70,12 +70,28 @@ fn moved_piece(
         let note = note_on(alloc, number, octets, false)?;
         return Ok(left_out(alloc, note));
     };
-    if !writer.rewrite(alloc, &message)? {
-        return Ok(left_out(alloc, Vec::new(alloc)));
+    match writer.rewrite(alloc, &message)? {
+        Rewriting::Written => written_piece(alloc, writer.octets.as_slice()),
+        Rewriting::Immovable => {
+            let note = left_line(alloc, number, "its data may have pointers")?;
+            Ok(left_out(alloc, note))
+        }
+        Rewriting::Long => {
+            let note = left_line(alloc, number, "it takes more than 65535 octets")?;
+            Ok(left_out(alloc, note))
+        }
     }
+}
+
+/// Returns the octets of a message, preceded by their length.
+fn written_piece(alloc: Global, octets: &[u8]) -> Result<Piece, AllocError>
+    requires { length octets.now ≤ 65535 }
+    ensures { IfOk result (λ piece. (piece.output.items ≡ part_of 2 octets.now) × (piece.note.items ≡ [])
+        × (piece.is_fine ≡ true)) }
+{
     let mut output = Vec::new(alloc);
     // (a vector has no limit, and there are at most 65,535 octets, so it refuses only for lack of memory)
-    match append_part_u16_be(&mut output, writer.octets.as_slice()) {
+    match append_part_u16_be(&mut output, octets) {
         Ok(()) => Ok(Piece {
             output,
             note: Vec::new(alloc),
@@ -83,6 +99,14 @@ fn moved_piece(
         }),
         Err(_) => Err(AllocError),
     }
+}
+
+/// Returns the line that reports why a numbered message is left out.
+fn left_line(alloc: Global, number: u64, why: &str) -> Result<Vec<u8>, AllocError>
+    ensures { IfOk result (λ line. line.items ≡ left_line number why.now) }
+{
+    let line = format!(in alloc; "message {number}: left out: {why}\n")?;
+    Ok(line.into_bytes())
 }
 
 /// Returns nothing for a message that is left out, with this note.

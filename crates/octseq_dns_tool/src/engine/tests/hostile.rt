@@ -1,5 +1,6 @@
 //! Hostile input, and streams that fail.
 use super::{REPLY, REPLY_TEXT, engine, joined, ran};
+use crate::engine::Command;
 use crate::engine::tests::unwrap;
 use octseq_program::hostile::{Drip, Faltering, Narrow};
 use octseq_program::{ProgramFault, Status};
@@ -107,6 +108,54 @@ fn nothing_is_written_after_a_failure(rt: HostRuntime) {
             let reported = engine(rt.alloc(), "message", &mut REPLY.as_slice(), &mut writer);
             assert_equal!(&rt, reported, answer);
             assert_equal!(&rt, writer.taken.as_slice(), taken);
+        }
+    }
+}
+
+/// Two messages that are none, and one that is between them, each after its length.
+const BROKEN: [u8; 18] = [0, 0, 0, 12, 0, 0, 0, 0, 0, 0, 0, 0, 0, 0, 0, 0, 0, 0];
+
+/// The notes about `BROKEN`.
+const NOTES: &str = "message 1: malformed at octet 0\nmessage 3: malformed at octet 0\n";
+
+/// What is written for `BROKEN` by each command that takes it.
+const AROUND: [(&str, Status, &str); 2] = [
+    (
+        "stream",
+        Status::Fine,
+        "malformed\n\nid 0 opcode 0 rcode 0 flags\n\nmalformed\n\n",
+    ),
+    ("rewrite", Status::Refused, "\0\x0C\0\0\0\0\0\0\0\0\0\0\0\0"),
+];
+
+#[test]
+fn a_note_that_cant_be_written_doesnt_end_the_output(rt: HostRuntime) {
+    let alloc = rt.alloc();
+    for (command, status, output) in AROUND {
+        // (a note takes a write and a flush)
+        for calls in 0..=4 {
+            let mut errors = Narrow {
+                taken: Vec::new(alloc),
+                at_once: usize::MAX,
+                calls,
+            };
+            let mut written = Vec::new(alloc);
+            let answer = octseq_program::engine::engine::<Command, _, _, _>(
+                alloc,
+                command,
+                &mut BROKEN.as_slice(),
+                &mut written,
+                &mut errors,
+            );
+            let wanted = if calls < 4 {
+                Err(ProgramFault::Note)
+            } else {
+                Ok(status)
+            };
+            assert_eq!(rt; answer, wanted, "{command} of {calls}");
+            assert_equal!(&rt, written.as_slice(), output.as_bytes());
+            let taken = errors.taken.as_slice();
+            assert_equal!(&rt, NOTES.as_bytes().get(..taken.len()), Some(taken));
         }
     }
 }

@@ -7,9 +7,10 @@ use crate::engine::Command;
 use crate::engine::tests::unwrap;
 use octseq::array::Array;
 use octseq_program::hostile::Fixed;
+use octseq_program::report::{Failure, report};
 use octseq_program::{ProgramFault, Status};
 use std::alloc::{AllocError, Global};
-use std::io;
+use std::io::{self, Error};
 use std::process::Abort;
 
 /// Runs a command, which writes its whole output, or a front of it if memory is refused.
@@ -62,6 +63,61 @@ fn rewrite_tells_a_front(rt: HostRuntime) {
     let octets = stream.as_slice();
     is_reported(&rt, alloc, "rewrite", octets, octets);
     is_reported(&rt, alloc, "rewrite", b"\0\x01a", b"");
+}
+
+/// Checks that the line of a failure is written, or that of refused memory. Returns the fault.
+fn is_told(
+    rt: &impl Abort,
+    alloc: Global,
+    failure: Failure,
+    path: Option<&str>,
+    line: &str,
+) -> ProgramFault {
+    let mut errors = Fixed::<128> {
+        taken: Array::new(),
+    };
+    let fault = report(alloc, &mut errors, failure, path);
+    let taken = errors.taken.as_slice();
+    if fault == ProgramFault::Memory {
+        assert_equal!(rt, taken, b"out of memory\n".as_slice());
+        if failure.fault() != ProgramFault::Memory {
+            unwrap(rt, Err(AllocError))
+        }
+    } else {
+        assert_equal!(rt, taken, line.as_bytes());
+        assert_equal!(rt, fault, failure.fault());
+    }
+    fault
+}
+
+#[test]
+fn a_failure_is_told_or_refused_memory_is(rt: HostRuntime) {
+    let alloc = rt.alloc();
+    // (EISDIR and ENOENT of Linux)
+    let (is_directory, none) = (Error::from_raw_os_error(21), Error::from_raw_os_error(2));
+    for (failure, path, line) in [
+        (Failure::Memory, None, "out of memory\n"),
+        (Failure::Write, None, "cannot write the output\n"),
+        (Failure::Note, None, "cannot write to standard error\n"),
+        (Failure::Read(None), None, "cannot read standard input\n"),
+        (
+            Failure::Read(Some(is_directory)),
+            None,
+            "cannot read standard input: Is a directory (os error 21)\n",
+        ),
+        (
+            Failure::Read(Some(is_directory)),
+            Some("a\"\n"),
+            "cannot read \"a\\\"\\n\": Is a directory (os error 21)\n",
+        ),
+        (
+            Failure::Open(none),
+            Some("b"),
+            "cannot open \"b\": No such file or directory (os error 2)\n",
+        ),
+    ] {
+        is_told(&rt, alloc, failure, path, line);
+    }
 }
 
 #[test]

@@ -1,5 +1,5 @@
 //! Rewriting streams of messages.
-use super::{REPLY, joined, ran};
+use super::{REPLY, joined, ran, reported};
 use crate::engine::tests::unwrap;
 use octseq_program::Status;
 use std::alloc::{AllocError, Global};
@@ -127,6 +127,24 @@ fn what_would_pass_65535_octets_is_left_out(rt: HostRuntime) {
     let (answer, written) = ran(alloc, "rewrite", stream.as_slice());
     assert_equal!(&rt, answer, Ok(Status::Fine));
     assert_equal!(&rt, written.len(), 65_536);
+}
+
+#[test]
+fn what_is_left_out_is_reported_with_the_reason(rt: HostRuntime) {
+    let alloc = rt.alloc();
+    // (a message of data that may have a pointer, the reply, one that would be too long, and no message)
+    let stays = unwrap(&rt, message_of(alloc, 2, 1, &[1, 0x61]));
+    let long = unwrap(&rt, longest(alloc, b"\x01a\0"));
+    let messages = [stays.as_slice(), &REPLY, &long, &[0; 11]];
+    let stream = unwrap(&rt, stream_of(alloc, &messages));
+    let (answer, written, errors) = reported(alloc, "rewrite", stream.as_slice(), usize::MAX);
+    assert_equal!(&rt, answer, Ok(Status::Refused));
+    let wanted = unwrap(&rt, stream_of(alloc, &[&REPLY]));
+    assert_equal!(&rt, written.as_slice(), wanted.as_slice());
+    let lines = "message 1: left out: its data may have pointers\n\
+        message 3: left out: it takes more than 65535 octets\n\
+        message 4: malformed at octet 0\n";
+    assert_equal!(&rt, errors.as_slice(), lines.as_bytes());
 }
 
 /// Checks that only the reply is written of a stream of the reply and this rest, which is cut off.

@@ -1,4 +1,6 @@
-use Rattle.std.proofs.Common.{◌≤◌, ◌∙◌, length, ap, arith}
+use Rattle.std.proofs.Common.{◌≤◌, ◌∙◌, length, ap, arith, subst, sym}
+use Rattle.octseq.specs.Refusal.{Is, Refusal}
+use Rattle.octseq_dns.specs.Rewritten.{rewrite_error}
 use Rattle.octseq_dns_tool.proofs.Moves.{moves}
 use Rattle.octseq_dns_tool.proofs.engine.rewrite.Writer.rewrite.Goals as goal
 
@@ -15,3 +17,11 @@ returns-in-Ok c =
       written = c.finish-octets.ensures.content ∙ ap (λ state. state.octets) is.state_is;
       size = omega (arith, same, few);
     }
+
+pub returns-in-Err-Short : goal.returns-in-Err-Short
+returns-in-Err-Short c =
+    let is = c.in-Err-Short.field-0-is in (
+      moves _ _ _ (λ stays.
+          subst (λ e. Is Refusal.malformed (rewrite_error e)) is (c.in-Err-Short.ensures.immovable.1 stays)),
+      c.in-Err-Short.ensures.short (subst (λ e. Is Refusal.short (rewrite_error e)) (sym is) tt),
+    )
