@@ -1,5 +1,4 @@
 //! What the tests share.
-use octseq_asserts::{Case, assert_equal};
 use std::alloc::AllocGlobal;
 use std::fmt::{Debug, Display};
 use std::process::Abort;
@@ -17,15 +16,9 @@ fn unwrap<T, E: Debug + Drop>(rt: &impl Abort, made: Result<T, E>) -> T {
     }
 }
 
-/// Checks what a value shows.
-fn shows<T: Display>(rt: &(impl Abort + AllocGlobal), value: &T, wanted: &str) {
-    let shown = unwrap(rt, format!(in rt.alloc(); "{value}"));
-    assert_equal!(rt, shown.as_str(), wanted);
-}
-
-/// Runs a test on the same octets in each representation that a parser may read.
-fn over_each<H: Abort + AllocGlobal, C: Case<H>>(rt: &H, case: &C, octets: &[u8]) {
-    unwrap(rt, octseq_asserts::over_each(rt, case, octets));
+/// Returns what a value shows.
+fn shown<T: Display>(rt: &(impl Abort + AllocGlobal), value: &T) -> String {
+    unwrap(rt, format!(in rt.alloc(); "{value}"))
 }
 
 mod addresses;

@@ -1,9 +1,9 @@
 //! Type bitmaps: RFC 4034, 4.1.2.
-use crate::tests::{over_each, shows, unwrap};
+use crate::tests::{shown, unwrap};
 use octseq::array::Array;
 use octseq::octets::Octets;
 use octseq::{AppendError, EmptyBuilder, ShortBuf};
-use octseq_asserts::{Case, assert_equal, assert_true};
+use octseq_asserts::{Case, assert_equal, assert_true, over_each};
 use octseq_dns_data::rtype_bitmap::append_rtypes;
 use octseq_dns_data::{Rtype, RtypeBitmap};
 use std::alloc::AllocGlobal;
@@ -16,48 +16,68 @@ const EXAMPLE: &[u8] =
 
 /// A test that octets are the bitmap of these types.
 #[derive(Drop)]
-struct Are<'a>(&'a [u16]);
+struct Are {
+    numbers: &'static [u16],
+}
 
-impl<H: Abort> Case<H> for Are<'_> {
+impl<H: Abort> Case<H> for Are {
     fn holds<R: Octets + Copy>(&self, rt: &H, octets: R) {
         let bitmap = unwrap(rt, RtypeBitmap::from_octets(octets));
         let mut types = bitmap.iter();
-        for number in self.0 {
+        for number in self.numbers {
             let rtype = Rtype::from_int(*number);
-            let found = (types.next(), bitmap.contains(rtype));
-            assert_equal!(rt, found, (Some(rtype), true));
+            assert_equal!(rt, types.next(), Some(rtype));
+            assert_true!(rt, bitmap.contains(rtype));
         }
-        assert_equal!(
-            rt,
-            (types.next(), bitmap.contains(Rtype::SOA)),
-            (None, false)
-        );
-        let found = (bitmap.is_empty(), bitmap.as_slice());
-        assert_equal!(rt, found, (self.0.is_empty(), octets.as_ref()));
+        assert_equal!(rt, types.next(), None);
+        assert_equal!(rt, bitmap.is_empty(), self.numbers.is_empty());
+        assert_equal!(rt, bitmap.contains(Rtype::SOA), false);
+        assert_equal!(rt, bitmap.as_slice(), octets.as_ref());
     }
 }
 
 #[test]
 fn octets_say_their_types(rt: HostRuntime) {
-    let mut last = [0; 34];
-    last[0] = 255;
-    last[1] = 32;
-    last[33] = 1;
-    let cases: [(&[u16], &[u8]); 7] = [
-        (&[], b""),
-        (&[1], b"\x00\x01\x40"),
-        (&[0, 7, 8], b"\x00\x02\x81\x80"),
-        (&[1, 15, 46, 47], b"\x00\x06\x40\x01\x00\x00\x00\x03"),
-        (
-            &[1, 15, 46, 47, 257],
+    unwrap(&rt, over_each(&rt, &Are { numbers: &[] }, b""));
+    unwrap(&rt, over_each(&rt, &Are { numbers: &[1] }, b"\x00\x01\x40"));
+    unwrap(
+        &rt,
+        over_each(
+            &rt,
+            &Are {
+                numbers: &[0, 7, 8],
+            },
+            b"\x00\x02\x81\x80",
+        ),
+    );
+    let nsec = Are {
+        numbers: &[1, 15, 46, 47],
+    };
+    unwrap(
+        &rt,
+        over_each(&rt, &nsec, b"\x00\x06\x40\x01\x00\x00\x00\x03"),
+    );
+    let two_windows = Are {
+        numbers: &[1, 15, 46, 47, 257],
+    };
+    unwrap(
+        &rt,
+        over_each(
+            &rt,
+            &two_windows,
             b"\x00\x06\x40\x01\x00\x00\x00\x03\x01\x01\x40",
         ),
-        (&[1, 15, 46, 47, 1234], EXAMPLE),
-        (&[65535], &last),
-    ];
-    for (numbers, octets) in cases {
-        over_each(&rt, &Are(numbers), octets);
-    }
+    );
+    let example = Are {
+        numbers: &[1, 15, 46, 47, 1234],
+    };
+    unwrap(&rt, over_each(&rt, &example, EXAMPLE));
+    let last = Are { numbers: &[65535] };
+    let mut octets = [0; 34];
+    octets[0] = 255;
+    octets[1] = 32;
+    octets[33] = 1;
+    unwrap(&rt, over_each(&rt, &last, &octets));
 }
 
 #[test]
@@ -69,7 +89,9 @@ fn types_show_after_spaces(rt: HostRuntime) {
         (&EXAMPLE[8..], " TYPE1234"),
     ];
     for (octets, wanted) in cases {
-        shows(&rt, &unwrap(&rt, RtypeBitmap::from_octets(octets)), wanted);
+        let bitmap = unwrap(&rt, RtypeBitmap::from_octets(octets));
+        let text = shown(&rt, &bitmap);
+        assert_equal!(&rt, text.as_str(), wanted);
     }
 }
 
@@ -134,8 +156,11 @@ fn a_set_is_appended_whole_or_not_at_all(rt: HostRuntime) {
     let mut builder = Array::<8>::new();
     unwrap(&rt, append_rtypes(&mut builder, &rtypes));
     unwrap(&rt, append_rtypes(&mut builder, &rtypes));
-    let refused = append_rtypes(&mut builder, &[Rtype::A]).err();
-    let wanted = b"\x00\x02\x40\x01\x00\x02\x40\x01";
-    let short = Some(AppendError::Short(ShortBuf));
-    assert_equal!(&rt, (refused, builder.as_slice()), (short, wanted));
+    let appended = append_rtypes(&mut builder, &[Rtype::A]);
+    assert_equal!(&rt, appended, Err(AppendError::Short(ShortBuf)));
+    assert_equal!(
+        &rt,
+        builder.as_slice(),
+        b"\x00\x02\x40\x01\x00\x02\x40\x01".as_slice()
+    );
 }

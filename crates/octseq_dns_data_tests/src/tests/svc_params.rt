@@ -1,7 +1,7 @@
 //! Service parameters of SVCB and HTTPS: RFC 9460.
-use crate::tests::{over_each, shows, unwrap};
+use crate::tests::{shown, unwrap};
 use octseq::octets::Octets;
-use octseq_asserts::{Case, assert_equal, assert_true};
+use octseq_asserts::{Case, assert_equal, assert_true, over_each};
 use octseq_dns_data::svc_params::key::{ALPN, ECH, PORT};
 use octseq_dns_data::{SvcParam, SvcParams};
 use std::alloc::AllocGlobal;
@@ -17,6 +17,13 @@ const MANY: &[u8] =
 const SIX: &[u8] =
     b"\x00\x00\x00\x04\x00\x01\x00\x03\x00\x01\x00\x06\x02h2\x02h3\x00\x03\x00\x02\x01\xBB\
 \x00\x05\x00\x01\x00\x00\x07\x00\x00\x02\x9B\x00\x02\"\x00";
+
+/// Checks that octets are parameters that show this text.
+fn shows(rt: &(impl Abort + AllocGlobal), octets: &[u8], wanted: &str) {
+    let params = unwrap(rt, SvcParams::from_octets(octets));
+    assert_equal!(rt, params.as_slice(), octets);
+    assert_equal!(rt, shown(rt, &params).as_str(), wanted);
+}
 
 #[test]
 fn each_parameter_shows_after_a_space(rt: HostRuntime) {
@@ -53,9 +60,7 @@ ipv6hint=\"2001:db8::1\" key7 key667=\"\\\"\\000\"",
         ),
     ];
     for (octets, wanted) in cases {
-        let params = unwrap(&rt, SvcParams::from_octets(octets));
-        assert_equal!(&rt, params.as_slice(), octets);
-        shows(&rt, &params, wanted);
+        shows(&rt, octets, wanted);
     }
 }
 
@@ -115,8 +120,12 @@ fn parameters_end_where_one_of_them_does(rt: HostRuntime) {
     let ends = [0, 8, 18, 24, 36, 41, 61, 65, 71];
     assert_equal!(&rt, MANY.len(), 71);
     for len in 0..=MANY.len() {
-        let is_whole = SvcParams::from_octets(&MANY[..len]).is_ok();
-        assert_equal!(&rt, is_whole, ends.contains(&len));
+        let front = unwrap(&rt, MANY.get(..len).ok_or("no such front"));
+        assert_equal!(
+            &rt,
+            SvcParams::from_octets(front).is_ok(),
+            ends.contains(&len)
+        );
     }
 }
 
@@ -127,22 +136,29 @@ struct AreSix;
 impl<H: Abort + AllocGlobal> Case<H> for AreSix {
     fn holds<R: Octets + Copy>(&self, rt: &H, octets: R) {
         let params = unwrap(rt, unwrap(rt, SvcParams::from_octets(octets)).clone());
-        let mut found = unwrap(rt, params.iter().clone());
-        for wanted in [(0, 4), (1, 6), (3, 2), (5, 1), (7, 0), (667, 2)] {
-            let param = unwrap(rt, found.next().ok_or("too few"));
-            assert_equal!(rt, (param.key, param.octets.remaining()), wanted);
+        let mut keys = [0_u16; 6];
+        let mut sizes = [0_usize; 6];
+        let mut count = 0_usize;
+        for param in unwrap(rt, params.iter().clone()) {
+            assert_true!(rt, count < 6);
+            if count < 6 {
+                keys[count] = param.key;
+                sizes[count] = param.octets.remaining();
+                count += 1;
+            }
         }
-        assert_equal!(
-            rt,
-            (found.next().is_none(), params.get(2).is_none()),
-            (true, true)
-        );
+        assert_equal!(rt, count, 6);
+        assert_equal!(rt, keys, [0, 1, 3, 5, 7, 667]);
+        assert_equal!(rt, sizes, [4, 6, 2, 1, 0, 2]);
+        assert_true!(rt, params.get(2).is_none());
         let port = unwrap(rt, params.get(PORT).ok_or("no port"));
-        let facts = (port.octets.peek_all(), port.alpn_ids().is_none());
-        assert_equal!(rt, facts, (b"\x01\xBB", true));
+        assert_equal!(rt, port.octets.peek_all(), b"\x01\xBB".as_slice());
+        assert_true!(rt, port.alpn_ids().is_none());
         let ech = unwrap(rt, params.get(ECH).ok_or("no ech"));
-        shows(rt, &ech, r#"ech="AA==""#);
-        has_two_ids(rt, &unwrap(rt, params.get(ALPN).ok_or("no alpn")));
+        let text = shown(rt, &ech);
+        assert_equal!(rt, text.as_str(), r#"ech="AA==""#);
+        let alpn = unwrap(rt, params.get(ALPN).ok_or("no alpn"));
+        has_two_ids(rt, &alpn);
     }
 }
 
@@ -150,14 +166,14 @@ impl<H: Abort + AllocGlobal> Case<H> for AreSix {
 fn has_two_ids<R: Octets + Copy>(rt: &impl Abort, alpn: &SvcParam<R>) {
     let ids = unwrap(rt, unwrap(rt, alpn.clone()).alpn_ids().ok_or("no ids"));
     let mut left = unwrap(rt, ids.clone());
-    for wanted in [b"h2", b"h3"] {
-        let id = unwrap(rt, left.next().ok_or("too few"));
-        assert_equal!(rt, id.peek_all(), wanted);
-    }
+    let first = unwrap(rt, left.next().ok_or("no first id"));
+    let second = unwrap(rt, left.next().ok_or("no second id"));
+    assert_equal!(rt, first.peek_all(), b"h2".as_slice());
+    assert_equal!(rt, second.peek_all(), b"h3".as_slice());
     assert_true!(rt, left.next().is_none());
 }
 
 #[test]
 fn parameters_are_read_from_each_kind_of_octets(rt: HostRuntime) {
-    over_each(&rt, &AreSix, SIX);
+    unwrap(&rt, over_each(&rt, &AreSix, SIX));
 }

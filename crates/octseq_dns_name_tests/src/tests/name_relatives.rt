@@ -1,7 +1,7 @@
 //! Relations between domain names: parents, suffixes, first and last labels, and texts with an origin.
-use crate::tests::{labels_text, over_each, shows, unwrap};
+use crate::tests::{labels_text, shown, unwrap};
 use octseq::{Array, AsOctets, Octets, Parser};
-use octseq_asserts::{Case, assert_equal};
+use octseq_asserts::{Case, assert_equal, over_each};
 use octseq_dns_name::error::FromTextError;
 use octseq_dns_name::{Name, ParsedName};
 use std::alloc::AllocGlobal;
@@ -18,14 +18,18 @@ fn name_at<R: Octets + Copy>(rt: &impl Abort, octets: R, place: usize) -> Parsed
 /// 24.
 const MESSAGE: &[u8] = b"\x00\x03COM\x00\x07example\xC0\x01\x03WWW\xC0\x06\xC0\x10\xC0\x00";
 
-/// Checks that a name has a parent of this text, or none, which is written as an empty text.
-fn has_parent<R: Octets + Copy>(rt: &(impl Abort + AllocGlobal), name: &ParsedName<R>, text: &str) {
+/// Checks that a name has a parent of this text, or none.
+fn has_parent<R: Octets + Copy>(
+    rt: &(impl Abort + AllocGlobal),
+    name: &ParsedName<R>,
+    text: Option<&str>,
+) {
     match name.parent() {
         Some(parent) => {
-            shows(rt, &parent, text);
+            assert_equal!(rt, Some(shown(rt, &parent).as_str()), text);
             assert_equal!(rt, parent.len() < name.len(), true);
         }
-        None => assert_equal!(rt, "", text),
+        None => assert_equal!(rt, None, text),
     }
 }
 
@@ -43,7 +47,7 @@ fn has_suffixes<R: Octets + Copy>(
 ) {
     assert_equal!(rt, name.iter_suffixes().count(), texts.len());
     for (suffix, text) in name.iter_suffixes().zip(texts) {
-        shows(rt, &suffix, *text);
+        assert_equal!(rt, shown(rt, &suffix).as_str(), *text);
     }
 }
 
@@ -52,22 +56,18 @@ struct HasParents;
 
 impl<H: Abort + AllocGlobal> Case<H> for HasParents {
     fn holds<R: Octets + Copy>(&self, rt: &H, octets: R) {
-        for (place, parent) in [
-            (16, "example.COM."),
-            (22, "example.COM."),
-            (6, "COM."),
-            (1, "."),
-            (0, ""),
-            (24, ""),
-        ] {
-            has_parent(rt, &name_at(rt, octets, place), parent);
-        }
+        has_parent(rt, &name_at(rt, octets, 16), Some("example.COM."));
+        has_parent(rt, &name_at(rt, octets, 22), Some("example.COM."));
+        has_parent(rt, &name_at(rt, octets, 6), Some("COM."));
+        has_parent(rt, &name_at(rt, octets, 1), Some("."));
+        has_parent(rt, &name_at(rt, octets, 0), None);
+        has_parent(rt, &name_at(rt, octets, 24), None);
     }
 }
 
 #[test]
 fn a_parent_is_without_the_first_label(rt: HostRuntime) {
-    over_each(&rt, &HasParents, MESSAGE);
+    unwrap(&rt, over_each(&rt, &HasParents, MESSAGE));
 }
 
 #[test]
@@ -93,9 +93,9 @@ fn a_parent_is_after_127_pointers_at_most(rt: HostRuntime) {
         }
     }
     let octets = octets.as_slice();
-    let place = parent_place(&rt, octets, 255);
-    let count = name_at(&rt, octets, 255).iter_suffixes().count();
-    assert_equal!(&rt, (octets.len(), place, count), (257, Some(2), 2));
+    assert_equal!(&rt, octets.len(), 257);
+    assert_equal!(&rt, parent_place(&rt, octets, 255), Some(2));
+    assert_equal!(&rt, name_at(&rt, octets, 255).iter_suffixes().count(), 2);
 }
 
 #[derive(Drop)]
@@ -104,15 +104,23 @@ struct HasSuffixes;
 impl<H: Abort + AllocGlobal> Case<H> for HasSuffixes {
     fn holds<R: Octets + Copy>(&self, rt: &H, octets: R) {
         let all: &[&str] = &["WWW.example.COM.", "example.COM.", "COM.", "."];
-        for (place, suffixes) in [(16, all), (22, all), (24, &["."])] {
-            has_suffixes(rt, &name_at(rt, octets, place), suffixes);
-        }
+        has_suffixes(rt, &name_at(rt, octets, 16), all);
+        has_suffixes(rt, &name_at(rt, octets, 22), all);
+        has_suffixes(rt, &name_at(rt, octets, 24), &["."]);
     }
 }
 
 #[test]
 fn suffixes_go_on_to_the_root(rt: HostRuntime) {
-    over_each(&rt, &HasSuffixes, MESSAGE);
+    unwrap(&rt, over_each(&rt, &HasSuffixes, MESSAGE));
+}
+
+/// Whether a name ends with another one, and whether it begins with it.
+fn relation<R: Octets + Copy, S: Octets + Copy>(
+    name: &ParsedName<R>,
+    base: &ParsedName<S>,
+) -> (bool, bool) {
+    (name.ends_with(base), name.starts_with(base))
 }
 
 /// Whether a name of its own ends with another one, and whether it begins with it.
@@ -130,8 +138,7 @@ fn relation_of<R: Octets + Copy>(
     text: &str,
 ) -> (bool, bool) {
     let base = unwrap(rt, Name::from_text(text));
-    let base = base.parsed();
-    (name.ends_with(&base), name.starts_with(&base))
+    relation(name, &base.parsed())
 }
 
 #[derive(Drop)]
@@ -139,47 +146,55 @@ struct IsRelated;
 
 impl<H: Abort + AllocGlobal> Case<H> for IsRelated {
     fn holds<R: Octets + Copy>(&self, rt: &H, octets: R) {
-        for (place, text, wanted) in [
-            (22, ".", (true, true)),
-            (22, "com.", (true, false)),
-            (22, "EXAMPLE.com.", (true, false)),
-            (22, "www.Example.Com.", (true, true)),
-            (22, "www.", (false, true)),
-            (22, "wWw.eXample.", (false, true)),
-            (22, "example.", (false, false)),
-            (22, "ww.", (false, false)),
-            (22, "om.", (false, false)),
-            (22, "wwww.example.com.", (false, false)),
-            (22, "www.www.example.com.", (false, false)),
-            (22, "www.example.com.com.", (false, false)),
-            (0, ".", (true, true)),
-            (0, "com.", (false, false)),
+        let name = name_at(rt, octets, 22);
+        for (text, wanted) in [
+            (".", (true, true)),
+            ("com.", (true, false)),
+            ("EXAMPLE.com.", (true, false)),
+            ("www.Example.Com.", (true, true)),
+            ("www.", (false, true)),
+            ("wWw.eXample.", (false, true)),
+            ("example.", (false, false)),
+            ("ww.", (false, false)),
+            ("om.", (false, false)),
+            ("wwww.example.com.", (false, false)),
+            ("www.www.example.com.", (false, false)),
+            ("www.example.com.com.", (false, false)),
         ] {
-            let name = name_at(rt, octets, place);
             assert_equal!(rt, relation_of(rt, &name, text), wanted);
         }
+        assert_equal!(
+            rt,
+            relation_of(rt, &name_at(rt, octets, 0), "."),
+            (true, true)
+        );
+        assert_equal!(
+            rt,
+            relation_of(rt, &name_at(rt, octets, 0), "com."),
+            (false, false)
+        );
     }
 }
 
 #[test]
 fn names_end_and_begin_with_others(rt: HostRuntime) {
-    over_each(&rt, &IsRelated, MESSAGE);
+    unwrap(&rt, over_each(&rt, &IsRelated, MESSAGE));
 }
 
 #[test]
 fn a_name_of_its_own_has_relatives_too(rt: HostRuntime) {
     let name = unwrap(&rt, Name::from_text("www.example.com."));
-    shows(
+    let parent = unwrap(&rt, name.parent().ok_or("no parent"));
+    assert_equal!(&rt, shown(&rt, &parent).as_str(), "example.com.");
+    assert_equal!(
         &rt,
-        &unwrap(&rt, name.parent().ok_or("no parent")),
-        "example.com.",
+        unwrap(&rt, Name::from_text(".")).parent().is_none(),
+        true
     );
-    let root = unwrap(&rt, Name::from_text("."));
-    let facts = (root.parent().is_none(), name.iter_suffixes().count());
-    assert_equal!(&rt, facts, (true, 4));
+    assert_equal!(&rt, name.iter_suffixes().count(), 4);
     let (message, first) = (name_at(&rt, MESSAGE, 6), name_at(&rt, MESSAGE, 16));
-    let relations = (own_relation(&name, &message), own_relation(&name, &first));
-    assert_equal!(&rt, relations, ((true, false), (true, true)));
+    assert_equal!(&rt, own_relation(&name, &message), (true, false));
+    assert_equal!(&rt, own_relation(&name, &first), (true, true));
     has_a_copy_with_relatives(&rt, &message, &first);
 }
 
@@ -190,9 +205,10 @@ fn has_a_copy_with_relatives<R: Octets + Copy>(
     longer: &ParsedName<R>,
 ) {
     let copy = unwrap(rt, name.try_to_name::<Vec<u8>>(rt.alloc()));
-    let relation = (copy.ends_with(name), copy.starts_with(longer));
-    let relatives = (copy.parent().is_some(), copy.iter_suffixes().count());
-    assert_equal!(rt, (relation, relatives), ((true, false), (true, 3)));
+    assert_equal!(rt, copy.ends_with(name), true);
+    assert_equal!(rt, copy.starts_with(longer), false);
+    assert_equal!(rt, copy.parent().is_some(), true);
+    assert_equal!(rt, copy.iter_suffixes().count(), 3);
 }
 
 /// Returns the name of labels of these lengths.
@@ -204,36 +220,33 @@ fn name_of(rt: &(impl Abort + AllocGlobal), lengths: &[usize]) -> Name<Array<255
 #[test]
 fn a_name_has_127_parents_at_most(rt: HostRuntime) {
     let name = name_of(&rt, &[1; 127]);
-    let counts = (name.len(), name.label_count(), name.iter_suffixes().count());
-    assert_equal!(&rt, counts, (255, 127, 128));
+    assert_equal!(&rt, (name.len(), name.label_count()), (255, 127));
+    assert_equal!(&rt, name.iter_suffixes().count(), 128);
     for (suffix, count) in name.iter_suffixes().zip((0..128).rev()) {
-        let facts = (suffix.label_count(), name.ends_with(&suffix));
-        assert_equal!(&rt, facts, (count, true));
+        assert_equal!(&rt, suffix.label_count(), count);
+        assert_equal!(&rt, name.ends_with(&suffix), true);
     }
 }
 
 #[test]
 fn a_name_of_255_octets_has_relatives(rt: HostRuntime) {
+    let alloc = rt.alloc();
     let name = name_of(&rt, &[63, 63, 63, 61]);
     let parent = unwrap(&rt, name.parent().ok_or("no parent"));
     assert_equal!(&rt, (name.len(), parent.len()), (255, 191));
+    assert_equal!(&rt, own_relation(&name, &parent), (true, false));
     let front = name_of(&rt, &[63, 63, 63]);
-    let relations = (
-        own_relation(&name, &parent),
-        own_relation(&name, &front.parsed()),
-    );
-    assert_equal!(&rt, relations, ((true, false), (false, true)));
+    assert_equal!(&rt, own_relation(&name, &front.parsed()), (false, true));
 }
 
-/// Checks the text of the name that a text spells with an origin.
-fn spells<R: Octets + Copy>(
+/// Returns the text of the name that a text spells with an origin, or why it doesn't spell one.
+fn with_origin<R: Octets + Copy>(
     rt: &(impl Abort + AllocGlobal),
     text: &str,
     origin: &ParsedName<R>,
-    wanted: &str,
-) {
-    let name = Name::from_text_with_origin(text, origin);
-    shows(rt, &unwrap(rt, name), wanted);
+) -> Result<String, FromTextError> {
+    let name = Name::from_text_with_origin(text, origin)?;
+    Ok(shown(rt, &name))
 }
 
 /// Returns why a text doesn't spell a name with an origin.
@@ -258,21 +271,26 @@ impl<H: Abort + AllocGlobal> Case<H> for IsOrigin {
             ("a\\.", "a\\..ISI.EDU."),
             ("a\\046.", "a\\.."),
         ] {
-            spells(rt, text, &origin, wanted);
+            let spelled = unwrap(rt, with_origin(rt, text, &origin));
+            assert_equal!(rt, spelled.as_str(), wanted);
         }
     }
 }
 
 #[test]
 fn a_relative_name_has_the_labels_of_the_origin(rt: HostRuntime) {
-    over_each(&rt, &IsOrigin, b"\x03EDU\x00\x03ISI\xC0\x00\xC0\x05");
+    unwrap(
+        &rt,
+        over_each(&rt, &IsOrigin, b"\x03EDU\x00\x03ISI\xC0\x00\xC0\x05"),
+    );
 }
 
 #[test]
 fn the_root_may_be_the_origin(rt: HostRuntime) {
     let root = name_at(&rt, MESSAGE, 24);
     for (text, wanted) in [("@", "."), ("a", "a."), ("a.b", "a.b."), ("a.", "a.")] {
-        spells(&rt, text, &root, wanted);
+        let spelled = unwrap(&rt, with_origin(&rt, text, &root));
+        assert_equal!(&rt, spelled.as_str(), wanted);
     }
 }
 
@@ -306,19 +324,30 @@ fn relative_refusal(rt: &(impl Abort + AllocGlobal), lengths: &[usize]) -> Optio
 
 #[test]
 fn a_relative_name_has_255_octets_at_most(rt: HostRuntime) {
-    let cases: [(&[usize], Option<FromTextError>); 6] = [
-        (&[63, 63, 63, 45], None),
-        (&[63, 63, 63, 46], Some(FromTextError::LongName)),
-        (&[63, 63, 63, 63], Some(FromTextError::LongName)),
-        (&[63, 63, 63, 64], Some(FromTextError::LongLabel)),
-        (&[64], Some(FromTextError::LongLabel)),
-        (&[63, 63, 63, 63, 1], Some(FromTextError::LongName)),
-    ];
-    for (lengths, reason) in cases {
-        assert_equal!(&rt, relative_refusal(&rt, lengths), reason);
+    let alloc = rt.alloc();
+    for (last, reason) in [
+        (45, None),
+        (46, Some(FromTextError::LongName)),
+        (63, Some(FromTextError::LongName)),
+        (64, Some(FromTextError::LongLabel)),
+    ] {
+        assert_equal!(&rt, relative_refusal(&rt, &[63, 63, 63, last]), reason);
     }
+    assert_equal!(
+        &rt,
+        relative_refusal(&rt, &[64]),
+        Some(FromTextError::LongLabel)
+    );
+    assert_equal!(
+        &rt,
+        relative_refusal(&rt, &[63, 63, 63, 63, 1]),
+        Some(FromTextError::LongName)
+    );
     let whole = labels_text(&rt, &[63, 63, 63, 61]);
     let origin = name_at(&rt, MESSAGE, 16);
-    let name = Name::from_text_with_origin(whole.as_str(), &origin);
-    assert_equal!(&rt, unwrap(&rt, name).len(), 255);
+    assert_equal!(
+        &rt,
+        unwrap(&rt, Name::from_text_with_origin(whole.as_str(), &origin)).len(),
+        255
+    );
 }

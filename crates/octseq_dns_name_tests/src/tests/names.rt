@@ -1,7 +1,7 @@
 //! The text of domain names, and how they compare.
-use crate::tests::{labels_text, over_each, shows, unwrap};
+use crate::tests::{labels_text, shown, unwrap};
 use octseq::{AppendError, Array, AsOctets, EmptyBuilder, Octets, Parser, ShortBuf};
-use octseq_asserts::{Case, assert_equal};
+use octseq_asserts::{Case, assert_equal, over_each};
 use octseq_dns_name::error::{FromLabelsError, FromTextError};
 use octseq_dns_name::{Name, ParsedName};
 use std::alloc::{AllocGlobal, Global};
@@ -27,7 +27,8 @@ fn a_name_shows_with_escapes(rt: HostRuntime) {
         (b"\x06!#/~%Z\x00", "!#/~%Z."),
         (b"\x04\x1F\x80\x99\xC8\x00", "\\031\\128\\153\\200."),
     ] {
-        shows(&rt, &name_of(&rt, octets), text);
+        let name = name_of(&rt, octets);
+        assert_equal!(&rt, shown(&rt, &name).as_str(), text);
     }
 }
 
@@ -71,8 +72,8 @@ fn ascii_letters_alone_have_two_cases(rt: HostRuntime) {
         (b"\x01b\x00", b"\x02aa\x00", Ordering::Greater),
     ] {
         let equal = wanted == Ordering::Equal;
-        let found = (compared(&rt, one, other), compared(&rt, other, one));
-        assert_equal!(&rt, found, ((wanted, equal), (wanted.reverse(), equal)));
+        assert_equal!(&rt, compared(&rt, one, other), (wanted, equal));
+        assert_equal!(&rt, compared(&rt, other, one), (wanted.reverse(), equal));
     }
 }
 
@@ -85,7 +86,8 @@ fn hash_of<T: Hash>(value: &T) -> u64 {
 
 /// Checks that two values are equal, and have equal hashes.
 fn are_equal<T: Ord + Hash>(rt: &impl Abort, one: &T, other: &T) {
-    assert_equal!(rt, (one == other, one.cmp(other)), (true, Ordering::Equal));
+    assert_equal!(rt, one == other, true);
+    assert_equal!(rt, one.cmp(other), Ordering::Equal);
     assert_equal!(rt, hash_of(one), hash_of(other));
 }
 
@@ -109,64 +111,79 @@ impl<H: Abort + AllocGlobal> Case<H> for IsOneName {
         let name = unwrap(rt, ParsedName::parse(&mut parser));
         let same = unwrap(rt, ParsedName::parse(&mut parser));
         let other = unwrap(rt, ParsedName::parse(&mut parser));
-        are_equal(rt, &name, &same);
+        assert_equal!(rt, (name == same, name == other), (true, false));
         assert_equal!(
             rt,
-            (name == other, name.cmp(&other)),
-            (false, Ordering::Less)
+            (name.cmp(&same), name.cmp(&other)),
+            (Ordering::Equal, Ordering::Less)
         );
         assert_equal!(rt, (name < same, name < other), (false, true));
+        assert_equal!(rt, hash_of(&name), hash_of(&same));
         have_equal_labels(rt, &name, &same);
-        shows(rt, &name, "wWw.A.");
+        assert_equal!(rt, shown(rt, &name).as_str(), "wWw.A.");
     }
 }
 
 #[test]
 fn names_of_one_message_compare(rt: HostRuntime) {
-    let octets = b"\x03wWw\x01A\x00\x03WWW\x01a\x00\x01x\xC0\x04";
-    over_each(&rt, &IsOneName, octets);
+    unwrap(
+        &rt,
+        over_each(
+            &rt,
+            &IsOneName,
+            b"\x03wWw\x01A\x00\x03WWW\x01a\x00\x01x\xC0\x04",
+        ),
+    );
 }
 
 /// Checks that a copy of a name has its octets in plain form.
-fn has_its_octets(rt: &impl Abort, copy: &Name<Vec<u8>>) {
-    let counts = (copy.len(), copy.label_count(), copy.labels().count());
-    assert_equal!(rt, (counts, copy.is_root()), ((13, 2, 2), false));
-    assert_equal!(rt, copy.as_slice(), b"\x03www\x07example\x00");
+fn has_its_octets<R: Octets + Copy>(rt: &(impl Abort + AllocGlobal), name: &ParsedName<R>) {
+    let copy = unwrap(rt, name.try_to_name::<Vec<u8>>(rt.alloc()));
+    assert_equal!(
+        rt,
+        (copy.len(), copy.label_count(), copy.labels().count()),
+        (13, 2, 2)
+    );
+    assert_equal!(rt, copy.as_slice(), b"\x03www\x07example\x00".as_slice());
+    assert_equal!(rt, copy.is_root(), false);
 }
 
-/// Checks that a copy of a name compares, is hashed and is shown as the name is, and that a copy of a lower name is
-/// lower.
-fn is_as_the_name<R: Octets + Copy>(
+/// Checks that a copy of a name compares, is hashed and is shown as the name is.
+fn is_as_the_name<R: Octets + Copy>(rt: &(impl Abort + AllocGlobal), name: &ParsedName<R>) {
+    let copy = unwrap(rt, name.try_to_name::<Vec<u8>>(rt.alloc()));
+    assert_equal!(rt, copy.parsed().name_eq(name), true);
+    assert_equal!(rt, hash_of(&copy), hash_of(name));
+    assert_equal!(rt, shown(rt, &copy).as_str(), "www.example.");
+}
+
+/// Checks that copies of two names compare as the names do.
+fn is_before<R: Octets + Copy>(
     rt: &(impl Abort + AllocGlobal),
-    copy: &Name<Vec<u8>>,
+    first: &ParsedName<R>,
     name: &ParsedName<R>,
-    lower: &ParsedName<R>,
 ) {
-    let is_equal = copy.parsed().name_eq(name);
-    assert_equal!(rt, (is_equal, hash_of(copy)), (true, hash_of(name)));
-    shows(rt, copy, "www.example.");
-    let lower = &unwrap(rt, lower.try_to_name::<Vec<u8>>(rt.alloc()));
-    let order = (lower == copy, lower < copy, lower.cmp(lower));
-    assert_equal!(rt, order, (false, true, Ordering::Equal));
+    let first = unwrap(rt, first.try_to_name::<Vec<u8>>(rt.alloc()));
+    let copy = unwrap(rt, name.try_to_name::<Vec<u8>>(rt.alloc()));
+    assert_equal!(
+        rt,
+        (first == copy, first < copy, first.cmp(&first)),
+        (false, true, Ordering::Equal)
+    );
 }
 
 /// Checks that a copy of a name fits an array that has room for it, and no smaller one.
 fn is_held<R: Octets + Copy>(rt: &(impl Abort + AllocGlobal), name: &ParsedName<R>) {
     let held = unwrap(rt, name.try_to_name::<Array<13>>(rt.alloc())).into_octets();
+    assert_equal!(rt, held.as_slice(), b"\x03www\x07example\x00".as_slice());
     let refused = name.try_to_name::<Array<12>>(rt.alloc()).err();
-    let short = Some(AppendError::Short(ShortBuf));
-    assert_equal!(
-        rt,
-        (held.as_slice(), refused),
-        (b"\x03www\x07example\x00", short)
-    );
+    assert_equal!(rt, refused, Some(AppendError::Short(ShortBuf)));
 }
 
 /// Checks that a copy of the root is the root.
 fn is_root<R: Octets + Copy>(rt: &(impl Abort + AllocGlobal), name: &ParsedName<R>) {
     let root = unwrap(rt, name.try_to_name::<Array<1>>(rt.alloc()));
     assert_equal!(rt, root.is_root(), true);
-    shows(rt, &root, ".");
+    assert_equal!(rt, shown(rt, &root).as_str(), ".");
 }
 
 #[derive(Drop)]
@@ -178,16 +195,19 @@ impl<H: Abort + AllocGlobal> Case<H> for IsCopied {
         is_root(rt, &unwrap(rt, ParsedName::parse(&mut parser)));
         let first = unwrap(rt, ParsedName::parse(&mut parser));
         let name = unwrap(rt, ParsedName::parse(&mut parser));
-        let copy = unwrap(rt, name.try_to_name(rt.alloc()));
-        has_its_octets(rt, &copy);
-        is_as_the_name(rt, &copy, &name, &first);
+        has_its_octets(rt, &name);
+        is_as_the_name(rt, &name);
+        is_before(rt, &first, &name);
         is_held(rt, &name);
     }
 }
 
 #[test]
 fn a_name_is_copied_with_its_octets(rt: HostRuntime) {
-    over_each(&rt, &IsCopied, b"\x00\x07example\x00\x03www\xC0\x01");
+    unwrap(
+        &rt,
+        over_each(&rt, &IsCopied, b"\x00\x07example\x00\x03www\xC0\x01"),
+    );
 }
 
 #[test]
@@ -242,7 +262,7 @@ fn the_refusals_of_names_are_shown(rt: HostRuntime) {
         (FromTextError::IllegalEscape, "illegal escape sequence"),
         (FromTextError::IllegalOctet, "illegal octet"),
     ] {
-        shows(&rt, &reason, text);
+        assert_equal!(&rt, shown(&rt, &reason).as_str(), text);
     }
     for (reason, text) in [
         (FromLabelsError::EmptyLabel, "empty label"),
@@ -251,7 +271,7 @@ fn the_refusals_of_names_are_shown(rt: HostRuntime) {
         (FromLabelsError::Short, "buffer size exceeded"),
         (FromLabelsError::Memory, "out of memory"),
     ] {
-        shows(&rt, &reason, text);
+        assert_equal!(&rt, shown(&rt, &reason).as_str(), text);
     }
 }
 
@@ -269,21 +289,26 @@ fn the_text_of_a_name_has_its_limits(rt: HostRuntime) {
     }
 }
 
-/// Checks the plain wire form of the name made from labels, in a builder of this type.
-fn is_made_of<B: EmptyBuilder>(rt: &impl Abort, alloc: Global, labels: &[&[u8]], wire: &[u8]) {
-    let name = unwrap(rt, Name::<B>::from_labels(alloc, labels));
-    assert_equal!(rt, name.into_octets().as_ref(), wire);
+/// Returns the plain wire form of the name made from labels, in a builder of this type.
+fn made_of<B: EmptyBuilder>(rt: &(impl Abort + AllocGlobal), labels: &[&[u8]]) -> Vec<u8> {
+    let name = unwrap(rt, Name::<B>::from_labels(rt.alloc(), labels));
+    unwrap(rt, name.into_octets().as_ref().to_vec(rt.alloc()))
 }
 
 #[test]
 fn a_name_is_made_of_labels(rt: HostRuntime) {
-    let alloc = rt.alloc();
     let labels: &[&[u8]] = &[b"www", b"a.\x00"];
-    let wire = b"\x03www\x03a.\x00\x00";
-    is_made_of::<Vec<u8>>(&rt, alloc, labels, wire);
-    is_made_of::<Array<255>>(&rt, alloc, labels, wire);
-    is_made_of::<Array<9>>(&rt, alloc, labels, wire);
-    is_made_of::<Array<1>>(&rt, alloc, &[], b"\x00");
+    let wire = b"\x03www\x03a.\x00\x00".as_slice();
+    assert_equal!(&rt, made_of::<Vec<u8>>(&rt, labels).as_slice(), wire);
+    assert_equal!(&rt, made_of::<Array<255>>(&rt, labels).as_slice(), wire);
+    assert_equal!(&rt, made_of::<Array<9>>(&rt, labels).as_slice(), wire);
+    let root = made_of::<Array<1>>(&rt, &[]);
+    assert_equal!(&rt, root.as_slice(), b"\x00".as_slice());
+}
+
+/// Returns why labels don't make a name in a builder of this type.
+fn refusal_of<B: EmptyBuilder>(alloc: Global, labels: &[&[u8]]) -> Option<FromLabelsError> {
+    Name::<B>::from_labels(alloc, labels).err()
 }
 
 #[test]
@@ -298,20 +323,16 @@ fn labels_that_make_no_name_are_refused_by_reason(rt: HostRuntime) {
         &long[..62],
         &long[..63],
     );
-    let cases: [(&[&[u8]], Option<FromLabelsError>); 4] = [
-        (&[one, none, long], Some(FromLabelsError::EmptyLabel)),
-        (&[one, long, none], Some(FromLabelsError::LongLabel)),
-        (
-            &[most, most, most, past, none],
-            Some(FromLabelsError::LongName),
-        ),
-        (&[most, most, most, last], None),
-    ];
-    for (labels, reason) in cases {
-        let refusal = Name::<Vec<u8>>::from_labels(alloc, labels).err();
-        assert_equal!(&rt, refusal, reason);
-    }
-    let refusal = Name::<Array<4>>::from_labels(alloc, &[b"www"]).err();
-    let other = Name::<Array<5>>::from_labels(alloc, &[b"www"]).err();
-    assert_equal!(&rt, (refusal, other), (Some(FromLabelsError::Short), None));
+    let refusal = refusal_of::<Vec<u8>>(alloc, &[one, none, long]);
+    assert_equal!(&rt, refusal, Some(FromLabelsError::EmptyLabel));
+    let refusal = refusal_of::<Vec<u8>>(alloc, &[one, long, none]);
+    assert_equal!(&rt, refusal, Some(FromLabelsError::LongLabel));
+    let refusal = refusal_of::<Vec<u8>>(alloc, &[most, most, most, past, none]);
+    assert_equal!(&rt, refusal, Some(FromLabelsError::LongName));
+    let refusal = refusal_of::<Vec<u8>>(alloc, &[most, most, most, last]);
+    assert_equal!(&rt, refusal, None);
+    let refusal = refusal_of::<Array<4>>(alloc, &[b"www"]);
+    assert_equal!(&rt, refusal, Some(FromLabelsError::Short));
+    let refusal = refusal_of::<Array<5>>(alloc, &[b"www"]);
+    assert_equal!(&rt, refusal, None);
 }

@@ -2,52 +2,58 @@
 use crate::tests::unwrap;
 use octseq::ShortInput;
 use octseq::parse::ParseOctetsError;
-use octseq_asserts::assert_equal;
+use octseq_asserts::{assert_equal, assert_true};
 use std::alloc::{AllocError, Global};
 use std::error::Error;
-use std::process::Abort;
 
-/// Checks what an error prints, through the trait of errors, and what it shows to programmers.
-fn prints<E: Error>(rt: &impl Abort, alloc: Global, error: E, text: &str, shown: &str) {
-    let printed = unwrap(rt, format!(in alloc; "{error}"));
-    let debug = unwrap(rt, format!(in alloc; "{error:?}"));
-    assert_equal!(rt, (printed.as_str(), debug.as_str()), (text, shown));
+/// Returns what an error prints, through the trait of errors.
+fn text<E: Error>(alloc: Global, error: E) -> Result<String, AllocError> {
+    Ok(format!(in alloc; "{error}")?)
 }
 
 #[test]
 fn errors_print_what_was_wrong(rt: HostRuntime) {
-    let (alloc, short) = (rt.alloc(), "unexpected end of input");
-    prints(&rt, alloc, ShortInput, short, "ShortInput");
-    prints(
+    let alloc = rt.alloc();
+    let short = "unexpected end of input";
+    assert_equal!(&rt, unwrap(&rt, text(alloc, ShortInput)).as_str(), short);
+    assert_equal!(
         &rt,
-        alloc,
-        ParseOctetsError::Short(ShortInput),
+        unwrap(&rt, text(alloc, ParseOctetsError::Short(ShortInput))).as_str(),
         short,
-        "Short(ShortInput)",
     );
-    prints(
+    assert_equal!(
         &rt,
-        alloc,
-        ParseOctetsError::Memory,
+        unwrap(&rt, text(alloc, ParseOctetsError::Memory)).as_str(),
         "out of memory",
-        "Memory",
+    );
+    assert_equal!(
+        &rt,
+        unwrap(&rt, format!(in alloc; "{ShortInput:?}")).as_str(),
+        "ShortInput",
+    );
+    let error = ParseOctetsError::Short(ShortInput);
+    assert_equal!(
+        &rt,
+        unwrap(&rt, format!(in alloc; "{error:?}")).as_str(),
+        "Short(ShortInput)",
     );
 }
 
 #[test]
 fn errors_are_made_of_others(rt: HostRuntime) {
-    let (short, memory) = (
-        ParseOctetsError::Short(ShortInput),
-        ParseOctetsError::Memory,
-    );
-    let made = (
-        ParseOctetsError::from(ShortInput),
-        ParseOctetsError::from(AllocError),
-    );
-    assert_equal!(&rt, (&made.0, &made.1), (&short, &memory));
+    assert_equal!(&rt, ShortInput::default(), ShortInput);
     assert_equal!(
         &rt,
-        (ShortInput::default(), memory != short),
-        (ShortInput, true)
+        ParseOctetsError::from(ShortInput),
+        ParseOctetsError::Short(ShortInput),
+    );
+    assert_equal!(
+        &rt,
+        ParseOctetsError::from(AllocError),
+        ParseOctetsError::Memory,
+    );
+    assert_true!(
+        &rt,
+        ParseOctetsError::Memory != ParseOctetsError::Short(ShortInput),
     );
 }

@@ -1,8 +1,8 @@
 //! Integers of each width, read in both byte orders.
-use crate::tests::over_each;
+use crate::tests::unwrap;
 use octseq::octets::Octets;
 use octseq::parse::{Parser, ShortInput};
-use octseq_asserts::{Case, assert_equal};
+use octseq_asserts::{Case, assert_equal, over_each};
 use std::alloc::AllocGlobal;
 use std::process::Abort;
 
@@ -158,38 +158,56 @@ impl<H: Abort + AllocGlobal> Case<H> for Reads128BitsLe {
 
 #[test]
 fn integers_are_read_in_both_orders(rt: HostRuntime) {
-    over_each(&rt, &ReadsSingleOctets, b"\x12\xD6");
-    over_each(&rt, &Reads16BitsBe, b"\x12\x34\xEF\x6E\x00");
-    over_each(&rt, &Reads16BitsLe, b"\x34\x12\x6E\xEF\x00");
-    over_each(
+    unwrap(&rt, over_each(&rt, &ReadsSingleOctets, b"\x12\xD6"));
+    unwrap(&rt, over_each(&rt, &Reads16BitsBe, b"\x12\x34\xEF\x6E\x00"));
+    unwrap(&rt, over_each(&rt, &Reads16BitsLe, b"\x34\x12\x6E\xEF\x00"));
+    unwrap(
         &rt,
-        &Reads32BitsBe,
-        b"\x12\x34\x56\x78\xFD\x78\xA8\x4E\x00\x00\x00",
+        over_each(
+            &rt,
+            &Reads32BitsBe,
+            b"\x12\x34\x56\x78\xFD\x78\xA8\x4E\x00\x00\x00",
+        ),
     );
-    over_each(
+    unwrap(
         &rt,
-        &Reads32BitsLe,
-        b"\x78\x56\x34\x12\x4E\xA8\x78\xFD\x00\x00\x00",
+        over_each(
+            &rt,
+            &Reads32BitsLe,
+            b"\x78\x56\x34\x12\x4E\xA8\x78\xFD\x00\x00\x00",
+        ),
     );
-    over_each(
+    unwrap(
         &rt,
-        &Reads64BitsBe,
-        b"\x12\x34\x56\x78\xFD\x78\xA8\x4E\xCE\x7A\xBA\x26\xDD\x0F\x29\x99\x00\x00\x00",
+        over_each(
+            &rt,
+            &Reads64BitsBe,
+            b"\x12\x34\x56\x78\xFD\x78\xA8\x4E\xCE\x7A\xBA\x26\xDD\x0F\x29\x99\x00\x00\x00",
+        ),
     );
-    over_each(
+    unwrap(
         &rt,
-        &Reads64BitsLe,
-        b"\x4E\xA8\x78\xFD\x78\x56\x34\x12\x99\x29\x0F\xDD\x26\xBA\x7A\xCE\x00\x00\x00",
+        over_each(
+            &rt,
+            &Reads64BitsLe,
+            b"\x4E\xA8\x78\xFD\x78\x56\x34\x12\x99\x29\x0F\xDD\x26\xBA\x7A\xCE\x00\x00\x00",
+        ),
     );
-    over_each(
+    unwrap(
         &rt,
-        &Reads128BitsBe,
-        b"\x12\x34\x56\x78\xFD\x78\xA8\x4E\xCE\x7A\xBA\x26\xDD\x0F\x29\x99\xF8\xC6\x0E\x5D\x3F\x5E\x3A\x74\x38\x38\x8F\x3F\x57\xA7\x94\xA0\x00\x00\x00\x00\x00",
+        over_each(
+            &rt,
+            &Reads128BitsBe,
+            b"\x12\x34\x56\x78\xFD\x78\xA8\x4E\xCE\x7A\xBA\x26\xDD\x0F\x29\x99\xF8\xC6\x0E\x5D\x3F\x5E\x3A\x74\x38\x38\x8F\x3F\x57\xA7\x94\xA0\x00\x00\x00\x00\x00",
+        ),
     );
-    over_each(
+    unwrap(
         &rt,
-        &Reads128BitsLe,
-        b"\x99\x29\x0F\xDD\x26\xBA\x7A\xCE\x4E\xA8\x78\xFD\x78\x56\x34\x12\xA0\x94\xA7\x57\x3F\x8F\x38\x38\x74\x3A\x5E\x3F\x5D\x0E\xC6\xF8\x00\x00\x00\x00\x00",
+        over_each(
+            &rt,
+            &Reads128BitsLe,
+            b"\x99\x29\x0F\xDD\x26\xBA\x7A\xCE\x4E\xA8\x78\xFD\x78\x56\x34\x12\xA0\x94\xA7\x57\x3F\x8F\x38\x38\x74\x3A\x5E\x3F\x5D\x0E\xC6\xF8\x00\x00\x00\x00\x00",
+        ),
     );
 }
 

@@ -1,9 +1,9 @@
 //! Lists of calls on parsers, and the reply to each.
-use crate::tests::{over_each, unwrap};
+use crate::tests::unwrap;
 use octseq::builder::AsOctets;
 use octseq::octets::Octets;
 use octseq::parse::{Kind, ParserCall, ParserCommand, ParserReply, run};
-use octseq_asserts::{Case, assert_equal};
+use octseq_asserts::{Case, assert_equal, over_each};
 use octseq_uses::scarce::Scarce;
 use std::alloc::{AllocError, AllocGlobal, Global};
 use std::fmt::Write;
@@ -17,10 +17,10 @@ fn text(octets: &[u8]) -> &str {
 /// Writes a reply as a text.
 fn show<R: Octets>(shown: &mut String, reply: &ParserReply<R>) -> Result<(), AllocError> {
     match reply {
-        ParserReply::Done => shown.push_str("Done"),
-        ParserReply::Short => shown.push_str("Short"),
-        ParserReply::Memory => shown.push_str("Memory"),
-        ParserReply::NoParser => shown.push_str("NoParser"),
+        ParserReply::Done => write!(shown, "Done"),
+        ParserReply::Short => write!(shown, "Short"),
+        ParserReply::Memory => write!(shown, "Memory"),
+        ParserReply::NoParser => write!(shown, "NoParser"),
         ParserReply::Number(n) => write!(shown, "Number({n})"),
         ParserReply::Flag(b) => write!(shown, "Flag({b})"),
         ParserReply::Slice(v) => write!(shown, "Slice({})", text(v.as_slice())),
@@ -46,8 +46,13 @@ impl<H: Abort + AllocGlobal> Case<H> for Answers<'_> {
     fn holds<R: Octets + Copy>(&self, rt: &H, octets: R) {
         let mut commands = Vec::new(rt.alloc());
         for (parser, call, _) in self.0 {
-            let (parser, call) = (*parser, *call);
-            unwrap(rt, commands.push(ParserCommand { parser, call }));
+            unwrap(
+                rt,
+                commands.push(ParserCommand {
+                    parser: *parser,
+                    call: *call,
+                }),
+            );
         }
         let replies = unwrap(rt, run(rt.alloc(), octets, &commands));
         assert_equal!(rt, replies.len(), self.0.len());
@@ -77,7 +82,7 @@ fn a_run_has_one_reply_a_command(rt: HostRuntime) {
         (0, ParserCall::Octets(3), "Range(789)"),
         (0, ParserCall::Remaining, "Number(0)"),
     ];
-    over_each(&rt, &Answers(&cases), b"0123456789");
+    unwrap(&rt, over_each(&rt, &Answers(&cases), b"0123456789"));
 }
 
 #[test]
@@ -98,7 +103,7 @@ fn a_run_seeks(rt: HostRuntime) {
         (0, ParserCall::Pos, "Number(10)"),
         (0, ParserCall::Remaining, "Number(0)"),
     ];
-    over_each(&rt, &Answers(&cases), b"0123456789");
+    unwrap(&rt, over_each(&rt, &Answers(&cases), b"0123456789"));
 }
 
 #[test]
@@ -114,7 +119,7 @@ fn a_run_advances(rt: HostRuntime) {
         (0, ParserCall::Pos, "Number(10)"),
         (0, ParserCall::PeekAll, "Slice()"),
     ];
-    over_each(&rt, &Answers(&cases), b"0123456789");
+    unwrap(&rt, over_each(&rt, &Answers(&cases), b"0123456789"));
 }
 
 #[test]
@@ -134,7 +139,7 @@ fn a_run_peeks_and_checks(rt: HostRuntime) {
         (0, ParserCall::CheckLen(8), "Done"),
         (0, ParserCall::CheckLen(9), "Short"),
     ];
-    over_each(&rt, &Answers(&cases), b"0123456789");
+    unwrap(&rt, over_each(&rt, &Answers(&cases), b"0123456789"));
 }
 
 #[test]
@@ -149,7 +154,7 @@ fn a_run_nests(rt: HostRuntime) {
         (1, ParserCall::PeekAll, "Slice(45)"),
         (0, ParserCall::PeekAll, "Slice(6789)"),
     ];
-    over_each(&rt, &Answers(&cases), b"0123456789");
+    unwrap(&rt, over_each(&rt, &Answers(&cases), b"0123456789"));
 }
 
 #[test]
@@ -175,7 +180,7 @@ fn a_run_copies_what_it_is_asked(rt: HostRuntime) {
         (0, ParserCall::Pos, "Number(3)"),
         (usize::MAX, ParserCall::Pos, "NoParser"),
     ];
-    over_each(&rt, &Answers(&cases), b"0123456789");
+    unwrap(&rt, over_each(&rt, &Answers(&cases), b"0123456789"));
 }
 
 /// Each integer at the front of FD 78 A8 4E CE 7A BA 26 DD 0F 29 99 F8 C6 0E 5D.
@@ -221,7 +226,7 @@ fn each_kind_of_integer_is_read(rt: HostRuntime) {
     let octets = b"\xFD\x78\xA8\x4E\xCE\x7A\xBA\x26\xDD\x0F\x29\x99\xF8\xC6\x0E\x5D";
     for (kind, reply) in INTEGERS {
         let cases = [(0, ParserCall::Int(kind), reply)];
-        over_each(&rt, &Answers(&cases), octets);
+        unwrap(&rt, over_each(&rt, &Answers(&cases), octets));
     }
 }
 

@@ -1,7 +1,8 @@
 //! Texts: how they are read, pushed to and refused, and where faults are.
-use crate::tests::{SHORT, array, has_octets, is_text_or_short, text_of, unwrap, vector};
+use super::is_text_or_short;
+use crate::tests::unwrap;
 use octseq::array::Array;
-use octseq::builder::{EmptyBuilder, OctetsBuilder, Truncate};
+use octseq::builder::{AppendError, EmptyBuilder, OctetsBuilder, ShortBuf, Truncate};
 use octseq::str::{Command, FromUtf8Error, Reply, StrBuilder, run};
 use octseq::utf8::{Turns, find_fault, first_fault};
 use octseq_asserts::{assert_equal, assert_true};
@@ -22,25 +23,33 @@ mod texts;
 
 #[test]
 fn thai_and_chinese_are_read(rt: HostRuntime) {
-    let (thai, octets) = ("ประเทศไทย中", "ประเทศไทย中".as_bytes());
-    let text = text_of(&rt, vector(&rt, rt.alloc(), octets));
-    assert_equal!(&rt, (text.len(), text.is_empty()), (30, false));
-    assert_equal!(&rt, (text.as_str(), text.as_slice()), (thai, octets));
+    let octets = unwrap(&rt, "ประเทศไทย中".as_bytes().to_vec(rt.alloc()));
+    let text = unwrap(&rt, StrBuilder::from_utf8(octets).ok().ok_or("refused"));
+    assert_equal!(&rt, text.len(), 30);
+    assert_true!(&rt, !text.is_empty());
+    assert_equal!(&rt, text.as_str(), "ประเทศไทย中");
+    assert_equal!(&rt, text.as_slice(), "ประเทศไทย中".as_bytes());
     assert_equal!(&rt, text.into_octets_builder().len(), 30);
 }
 
 /// Returns why octets in an array aren't a text.
 fn refused(rt: &impl Abort, octets: &[u8]) -> FromUtf8Error<Array<4>> {
-    let text = StrBuilder::from_utf8(array(rt, octets));
-    unwrap(rt, text.err().ok_or("accepted"))
+    let octets = unwrap(rt, Array::<4>::try_from(octets));
+    unwrap(rt, StrBuilder::from_utf8(octets).err().ok_or("accepted"))
+}
+
+/// Checks that the error has the octets, and says where they are wrong.
+fn is_refused(rt: &impl Abort, error: &FromUtf8Error<Array<4>>) {
+    assert_equal!(rt, error.as_slice(), b"a\xC0".as_slice());
+    let fault = error.utf8_error();
+    assert_equal!(rt, (fault.valid_up_to(), fault.error_len()), (1, Some(1)));
 }
 
 #[test]
 fn octets_that_are_no_text_are_handed_back(rt: HostRuntime) {
-    let (error, other) = (refused(&rt, b"a\xC0"), refused(&rt, b"b\xC0"));
-    let fault = error.utf8_error();
-    let place = (fault.valid_up_to(), fault.error_len());
-    assert_equal!(&rt, (error.as_slice(), place), (b"a\xC0", (1, Some(1))));
+    let error = refused(&rt, b"a\xC0");
+    is_refused(&rt, &error);
+    assert_true!(&rt, refused(&rt, b"b\xC0") != error);
     let shown = unwrap(&rt, format!(in rt.alloc(); "{error:?}"));
     assert_equal!(
         &rt,
@@ -48,8 +57,8 @@ fn octets_that_are_no_text_are_handed_back(rt: HostRuntime) {
         "FromUtf8Error { fault: Utf8Fault { valid_up_to: 1, error_len: Some(1) }, .. }",
     );
     let copy = unwrap(&rt, error.clone(rt.alloc()));
-    assert_equal!(&rt, (copy == error, other != error), (true, true));
-    has_octets(&rt, copy.into_octets(), b"a\xC0");
+    assert_true!(&rt, copy == error);
+    assert_equal!(&rt, copy.into_octets().as_slice(), b"a\xC0".as_slice());
 }
 
 /// Checks that octets aren't a text, by both errors.
@@ -62,15 +71,10 @@ fn is_faulty(
 ) {
     let fault = unwrap(rt, first_fault(octets, &mut Turns::new()).ok_or("none"));
     assert_equal!(rt, (fault.valid_up_to(), fault.error_len()), wanted);
+    assert_equal!(rt, unwrap(rt, fault.to_string(alloc)).as_str(), text);
     let error = unwrap(rt, StrBuilder::from_utf8(octets).err().ok_or("accepted"));
     assert_equal!(rt, error.utf8_error(), fault);
-    let fault_shown = unwrap(rt, fault.to_string(alloc));
-    let error_shown = unwrap(rt, error.to_string(alloc));
-    assert_equal!(
-        rt,
-        (fault_shown.as_str(), error_shown.as_str()),
-        (text, text)
-    );
+    assert_equal!(rt, unwrap(rt, error.to_string(alloc)).as_str(), text);
 }
 
 #[test]
@@ -141,61 +145,65 @@ fn maximal_subparts_are_those_of_the_standard(rt: HostRuntime) {
         (b"\xE1\x80\xE2\xF0\x91\x92\xF1\xBFA", &[2, 1, 3, 2]),
     ];
     for (octets, lengths) in cases {
-        let found = bad_lengths(&rt, rt.alloc(), octets);
-        assert_equal!(&rt, found.as_slice(), lengths);
+        assert_equal!(
+            &rt,
+            bad_lengths(&rt, rt.alloc(), octets).as_slice(),
+            lengths
+        );
     }
 }
 
 /// Makes texts through their traits only.
 fn make<B: EmptyBuilder>(rt: &impl Abort, alloc: Global) {
-    let text = unwrap(rt, StrBuilder::<B>::new(alloc));
-    let reserved = unwrap(rt, StrBuilder::<B>::with_capacity(alloc, 8));
-    assert_equal!(rt, (text.is_empty(), reserved.is_empty()), (true, true));
+    assert_true!(rt, unwrap(rt, StrBuilder::<B>::new(alloc)).is_empty());
+    assert_true!(
+        rt,
+        unwrap(rt, StrBuilder::<B>::with_capacity(alloc, 8)).is_empty()
+    );
     let text = StrBuilder::from_utf8_unchecked(B::empty(alloc).expect(rt, "error"));
     assert_equal!(rt, text.as_str(), "");
 }
 
 #[test]
 fn texts_are_made_empty(rt: HostRuntime) {
-    let alloc = rt.alloc();
-    make::<Vec<u8>>(&rt, alloc);
-    make::<Array<0>>(&rt, alloc);
+    make::<Vec<u8>>(&rt, rt.alloc());
+    make::<Array<0>>(&rt, rt.alloc());
 }
 
 #[test]
 fn characters_are_pushed(rt: HostRuntime) {
-    let mut text = text_of(&rt, vector(&rt, rt.alloc(), "ประเทศไทย中".as_bytes()));
+    let octets = unwrap(&rt, "ประเทศไทย中".as_bytes().to_vec(rt.alloc()));
+    let mut text = unwrap(&rt, StrBuilder::from_utf8(octets).ok().ok_or("refused"));
     for ch in ['华', 'b', '¢', '€', '𤭢'] {
         unwrap(&rt, text.push(ch));
     }
-    assert_equal!(&rt, (text.len(), text.as_str()), (43, "ประเทศไทย中华b¢€𤭢"));
+    assert_equal!(&rt, text.len(), 43);
+    assert_equal!(&rt, text.as_str(), "ประเทศไทย中华b¢€𤭢");
 }
 
 #[test]
 fn texts_are_pushed(rt: HostRuntime) {
     let mut text = unwrap(&rt, StrBuilder::<Vec<u8>>::new(rt.alloc()));
-    let cases = [
-        ("", ""),
-        ("abc", "abc"),
-        ("ประเทศไทย中华Việt Nam", "abcประเทศไทย中华Việt Nam"),
-    ];
-    for (pushed, wanted) in cases {
-        unwrap(&rt, text.push_str(pushed));
-        assert_equal!(&rt, text.as_str(), wanted);
-    }
+    unwrap(&rt, text.push_str(""));
+    assert_equal!(&rt, text.as_str(), "");
+    unwrap(&rt, text.push_str("abc"));
+    assert_equal!(&rt, text.as_str(), "abc");
+    unwrap(&rt, text.push_str("ประเทศไทย中华Việt Nam"));
+    assert_equal!(&rt, text.as_str(), "abcประเทศไทย中华Việt Nam");
     assert_equal!(&rt, text.len(), 46);
 }
 
 #[test]
 fn a_push_that_passes_the_limit_is_refused(rt: HostRuntime) {
     let mut text = unwrap(&rt, StrBuilder::<Array<4>>::new(rt.alloc()));
-    unwrap(&rt, text.try_push_str("abc"));
+    assert_equal!(&rt, text.try_push_str("abc"), Ok(()));
+    assert_equal!(&rt, text.try_push('¢'), Err(AppendError::Short(ShortBuf)));
     assert_equal!(
         &rt,
-        (text.try_push('¢'), text.try_push_str("de")),
-        (SHORT, SHORT)
+        text.try_push_str("de"),
+        Err(AppendError::Short(ShortBuf)),
     );
-    unwrap(&rt, text.try_push('d'));
+    assert_equal!(&rt, text.try_push('d'), Ok(()));
     assert_equal!(&rt, text.as_str(), "abcd");
 }
 
@@ -263,7 +271,8 @@ fn a_refusal_of_memory_leaves_the_text(rt: HostRuntime) {
     ];
     let texts = ["abéc", "éc", "abc", "abé"];
     for (n, text) in texts.iter().enumerate() {
-        let mut builder = text_of(&rt, Rationed::new(Vec::new(alloc), n));
+        let rationed = Rationed::new(Vec::new(alloc), n);
+        let mut builder = unwrap(&rt, StrBuilder::from_utf8(rationed).ok().ok_or("refused"));
         let replies = unwrap(&rt, run(alloc, &mut builder, &commands));
         assert_equal!(&rt, builder.as_str(), *text);
         are_done_but_one(&rt, replies.as_slice(), n);
@@ -272,13 +281,16 @@ fn a_refusal_of_memory_leaves_the_text(rt: HostRuntime) {
 
 /// Checks that three commands were done except the n-th, if there is one.
 fn are_done_but_one(rt: &impl Abort, replies: &[Reply], n: usize) {
-    let wanted = match n {
-        1 => [Reply::Memory, Reply::Done, Reply::Done],
-        2 => [Reply::Done, Reply::Memory, Reply::Done],
-        3 => [Reply::Done, Reply::Done, Reply::Memory],
-        _ => [Reply::Done, Reply::Done, Reply::Done],
-    };
-    assert_equal!(rt, replies, &wanted);
+    assert_equal!(rt, replies.len(), 3);
+    for (i, reply) in replies.iter().enumerate() {
+        let is_refused = i.checked_add(1) == Some(n);
+        let wanted = if is_refused {
+            Reply::Memory
+        } else {
+            Reply::Done
+        };
+        assert_equal!(rt, reply, &wanted);
+    }
 }
 
 /// Octets and their lossy texts.
@@ -336,9 +348,14 @@ fn lossy_texts() -> [(&'static [u8], &'static str); 16] {
 
 /// Returns the lossy text of octets, in a vector.
 fn lossy(rt: &impl Abort, alloc: Global, octets: &[u8]) -> StrBuilder<Vec<u8>> {
-    let octets = vector(rt, alloc, octets);
-    let text = StrBuilder::try_from_utf8_lossy_counted(alloc, octets, &mut Turns::new());
-    unwrap(rt, text)
+    unwrap(
+        rt,
+        StrBuilder::try_from_utf8_lossy_counted(
+            alloc,
+            unwrap(rt, octets.to_vec(alloc)),
+            &mut Turns::new(),
+        ),
+    )
 }
 
 /// Checks that octets pushed to a text are their lossy text.
@@ -352,10 +369,12 @@ fn is_pushed_lossily(rt: &impl Abort, alloc: Global, octets: &[u8], text: &str) 
 fn each_bad_part_becomes_one_replacement(rt: HostRuntime) {
     let alloc = rt.alloc();
     for (octets, text) in lossy_texts() {
-        let counted = lossy(&rt, alloc, octets);
-        let read = StrBuilder::from_utf8_lossy(alloc, vector(&rt, alloc, octets));
-        let read = unwrap(&rt, read);
-        assert_equal!(&rt, (counted.as_str(), read.as_str()), (text, text));
+        assert_equal!(&rt, lossy(&rt, alloc, octets).as_str(), text);
+        let read = unwrap(
+            &rt,
+            StrBuilder::from_utf8_lossy(alloc, unwrap(&rt, octets.to_vec(alloc))),
+        );
+        assert_equal!(&rt, read.as_str(), text);
         is_pushed_lossily(&rt, alloc, octets, text);
     }
     let text = lossy(&rt, alloc, b"Hello\xC0\x80 There\xE6\x83 Goodbye");
@@ -363,10 +382,10 @@ fn each_bad_part_becomes_one_replacement(rt: HostRuntime) {
 }
 
 /// Puts octets into a builder.
-fn filled<B: EmptyBuilder>(rt: &impl Abort, alloc: Global, octets: &[u8]) -> B {
-    let mut builder = unwrap(rt, B::empty(alloc));
-    unwrap(rt, builder.append_slice(octets));
-    builder
+fn filled<B: EmptyBuilder>(alloc: Global, octets: &[u8]) -> Result<B, AppendError> {
+    let mut builder = B::empty(alloc)?;
+    builder.append_slice(octets)?;
+    Ok(builder)
 }
 
 /// Checks that both calls return the expected text for these octets, or refuse it as too long.
@@ -376,9 +395,9 @@ fn lossy_over<B: EmptyBuilder>(
     octets: &[u8],
     wanted: Option<&str>,
 ) {
-    let builder = filled::<B>(rt, alloc, octets);
-    is_text_or_short(rt, StrBuilder::try_from_utf8_lossy(alloc, builder), wanted);
-    let builder = filled::<B>(rt, alloc, octets);
+    let text = StrBuilder::try_from_utf8_lossy(alloc, unwrap(rt, filled::<B>(alloc, octets)));
+    is_text_or_short(rt, text, wanted);
+    let builder = unwrap(rt, filled::<B>(alloc, octets));
     let text = StrBuilder::try_from_utf8_lossy_counted(alloc, builder, &mut Turns::new());
     is_text_or_short(rt, text, wanted);
     is_text_or_short(rt, StrBuilder::<B>::try_copy_lossy(alloc, octets), wanted);
@@ -392,5 +411,6 @@ fn a_lossy_text_that_passes_the_limit_is_refused(rt: HostRuntime) {
     lossy_over::<Array<7>>(&rt, alloc, b"a\xFF\xFF", Some("a\u{FFFD}\u{FFFD}"));
     lossy_over::<Capped>(&rt, alloc, b"a\xFF", Some("a\u{FFFD}"));
     lossy_over::<Capped>(&rt, alloc, b"\xFF\xFF", None);
-    assert_equal!(&rt, Array::<0>::new().append_slice(b"a"), SHORT);
+    let refused = Array::<0>::new().append_slice(b"a");
+    assert_equal!(&rt, refused, Err(AppendError::Short(ShortBuf)));
 }

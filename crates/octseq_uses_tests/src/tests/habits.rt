@@ -1,5 +1,5 @@
 //! Calls written as in Rust: ranges, dereferences, `write!`, content that is overwritten, errors that are shown.
-use crate::tests::{has_octets, leaves, unwrap};
+use crate::tests::unwrap;
 use arrayvec::ArrayVec;
 use bytes::{Bytes, BytesMut};
 use octseq::array::Array;
@@ -46,9 +46,14 @@ fn ranges_are_written_as_rusts(rt: HostRuntime) {
     is_cut(&rt, 5.., None);
     is_cut(&rt, ..=4, None);
     assert_equal!(&rt, try_range(4, 1..=2), Some(1..3));
-    let shared = unwrap(&rt, Bytes::copy_from_slice(rt.alloc(), b"abcd"));
-    let inner = cut(&shared, 1..).ok_or("no range");
-    has_octets(&rt, unwrap(&rt, inner), b"bcd");
+    shared_octets_are_cut(&rt, rt.alloc());
+}
+
+/// Checks that shared octets are cut as a slice is.
+fn shared_octets_are_cut(rt: &impl Abort, alloc: Global) {
+    let shared = unwrap(rt, Bytes::copy_from_slice(alloc, b"abcd"));
+    let inner = unwrap(rt, cut(&shared, 1..).ok_or("no range"));
+    assert_equal!(rt, inner.as_slice(), b"bcd".as_slice());
 }
 
 /// Returns a parser of a range of "abcd".
@@ -64,20 +69,23 @@ fn parsers_begin_with_ranges_as_rusts(rt: HostRuntime) {
     let parser = parser_of(&rt, 1..3);
     assert_equal!(&rt, (parser.pos(), parser.len()), (1, 3));
     let parser = parser_of(&rt, 2..);
-    let peeked = (parser.peek_all(), parser.peek_u8());
-    assert_equal!(&rt, (peeked, parser.pos()), ((b"cd", Ok(b'c')), 2));
+    assert_equal!(&rt, parser.peek_all(), b"cd".as_slice());
     let none = Parser::try_with_range(b"abcd".as_slice(), ..=4);
     assert_true!(&rt, none.is_none());
-    assert_equal!(&rt, parser_of(&rt, 4..).peek_u8(), Err(ShortInput));
+    assert_equal!(&rt, parser.peek_u8(), Ok(b'c'));
+    assert_equal!(&rt, parser.pos(), 2);
+    let end = parser_of(&rt, 4..);
+    assert_equal!(&rt, end.peek_u8(), Err(ShortInput));
 }
 
 #[test]
 fn arrays_are_slices(rt: HostRuntime) {
     let mut array = unwrap(&rt, Array::<4>::try_from(b"abc".as_slice()));
-    let facts = (array.len(), array.first(), array.ends_with(b"bc"));
-    assert_equal!(&rt, facts, (3, Some(&b'a'), true));
+    assert_equal!(&rt, array.len(), 3);
+    assert_equal!(&rt, array.first(), Some(&b'a'));
+    assert_true!(&rt, array.ends_with(b"bc"));
     array.reverse();
-    assert_equal!(&rt, array.as_slice(), b"cba");
+    assert_equal!(&rt, array.as_slice(), b"cba".as_slice());
 }
 
 /// A call that takes any text.
@@ -105,8 +113,8 @@ fn calls_take_texts_and_arrays(rt: HostRuntime) {
 #[test]
 fn texts_are_strs(rt: HostRuntime) {
     let text = unwrap(&rt, StrBuilder::from_utf8("a€b".as_bytes()));
-    let facts = (text.starts_with("a€"), text.find('b'));
-    assert_equal!(&rt, facts, (true, Some(4)));
+    assert_true!(&rt, text.starts_with("a€"));
+    assert_equal!(&rt, text.find('b'), Some(4));
     let text = unwrap(&rt, Str::from_utf8(b"x, y".as_slice()));
     assert_true!(&rt, text.contains(", "));
 }
@@ -114,11 +122,19 @@ fn texts_are_strs(rt: HostRuntime) {
 /// Checks that the octets of a builder are overwritten in place.
 fn is_written_over<B: AsOctetsMut, E: Debug + Drop>(rt: &impl Abort, made: Result<B, E>) {
     let mut octets = unwrap(rt, made);
-    assert_equal!(rt, (octets.len(), octets.is_empty()), (3, false));
+    assert_equal!(rt, octets.len(), 3);
+    assert_true!(rt, !octets.is_empty());
     if let Some(first) = octets.as_mut().first_mut() {
         *first = b'x';
     }
-    has_octets(rt, octets, b"xbc");
+    assert_equal!(rt, octets.as_ref(), b"xbc".as_slice());
+}
+
+/// Makes a builder of a fixed size from octets.
+fn fixed(octets: &[u8]) -> Result<ArrayVec<u8, 4>, AppendError> {
+    let mut fixed = ArrayVec::<u8, 4>::new();
+    fixed.append_slice(octets)?;
+    Ok(fixed)
 }
 
 #[test]
@@ -129,9 +145,7 @@ fn octets_are_written_over_in_place(rt: HostRuntime) {
     is_written_over(&rt, BytesMut::copy_from_slice(alloc, slice));
     is_written_over(&rt, SmallVec::<u8, 2>::from_slice(alloc, slice));
     is_written_over(&rt, Array::<4>::try_from(slice));
-    let mut fixed = ArrayVec::<u8, 4>::new();
-    unwrap(&rt, fixed.append_slice(slice));
-    is_written_over::<_, AppendError>(&rt, Ok(fixed));
+    is_written_over(&rt, fixed(slice));
 }
 
 /// A value that shows nothing, and returns an error.
@@ -158,48 +172,40 @@ impl Display for Unfinished {
 #[test]
 fn values_are_written_to_texts(rt: HostRuntime) {
     let mut text = unwrap(&rt, StrBuilder::<Array<8>>::new(rt.alloc()));
-    let written = write!(text, "{}/{}", 12_u8, "é").is_ok();
-    assert_equal!(&rt, (written, text.as_str()), (true, "12/é"));
-    let written = write!(text, "{}", 1234_u16).is_ok();
-    assert_equal!(&rt, (written, text.as_str()), (false, "12/é"));
+    assert_true!(&rt, write!(text, "{}/{}", 12_u8, "é").is_ok());
+    assert_equal!(&rt, text.as_str(), "12/é");
+    assert_true!(&rt, write!(text, "{}", 1234_u16).is_err());
+    assert_equal!(&rt, text.as_str(), "12/é");
 }
 
 #[test]
 fn values_are_pushed_whole_or_not_at_all(rt: HostRuntime) {
     let mut text = unwrap(&rt, StrBuilder::<Array<8>>::new(rt.alloc()));
-    leaves(&rt, text.try_push_display(4321_u16), Ok(()), &text, b"4321");
-    let fault = StrBuilder::from_utf8(b"\xFF".as_slice()).err();
-    let fault = unwrap(&rt, fault.ok_or("a text"));
-    let refused = Err(DisplayError::Short);
-    leaves(&rt, text.try_push_display(fault), refused, &text, b"4321");
-    let refused = Err(DisplayError::Display);
-    leaves(
+    assert_equal!(&rt, text.try_push_display(4321_u16), Ok(()));
+    assert_equal!(&rt, text.as_str(), "4321");
+    let fault = unwrap(
         &rt,
-        text.try_push_display(Unshowable),
-        refused,
-        &text,
-        b"4321",
+        StrBuilder::from_utf8(b"\xFF".as_slice())
+            .err()
+            .ok_or("a text"),
     );
-    leaves(
-        &rt,
-        text.try_push_display(Unfinished),
-        refused,
-        &text,
-        b"4321",
-    );
+    assert_equal!(&rt, text.try_push_display(fault), Err(DisplayError::Short));
+    assert_equal!(&rt, text.as_str(), "4321");
+    let shown = text.try_push_display(Unshowable);
+    assert_equal!(&rt, shown, Err(DisplayError::Display));
+    let shown = text.try_push_display(Unfinished);
+    assert_equal!(&rt, shown, Err(DisplayError::Display));
+    assert_equal!(&rt, text.as_str(), "4321");
 }
 
 #[test]
 fn octets_are_counted(rt: HostRuntime) {
     let mut counter = Counter { count: 0 };
-    let written = write!(counter, "{}/{}", 12_u8, "é").is_ok();
-    assert_equal!(&rt, (written, counter.count), (true, 5));
+    assert_true!(&rt, write!(counter, "{}/{}", 12_u8, "é").is_ok());
+    assert_equal!(&rt, counter.count, 5);
     counter.count = usize::MAX;
-    let written = (
-        counter.write_str("").is_ok(),
-        counter.write_str("a").is_ok(),
-    );
-    assert_equal!(&rt, (written, counter.count), ((true, false), usize::MAX));
+    assert_true!(&rt, counter.write_str("").is_ok());
+    assert_true!(&rt, counter.write_str("a").is_err());
     assert_equal!(&rt, counter, Counter { count: usize::MAX });
 }
 
@@ -228,38 +234,44 @@ fn errors_are_shown(rt: HostRuntime) {
 fn errors_are_copied_and_passed_on(rt: HostRuntime) {
     let error = AppendError::Short(ShortBuf);
     assert_equal!(&rt, (error, error), (error, AppendError::Short(ShortBuf)));
-    let made = (ComposeError::from(error), WriteError::from(error));
-    assert_equal!(&rt, made, (ComposeError::Short, WriteError::Short));
-    let made = (
+    assert_equal!(&rt, ComposeError::from(error), ComposeError::Short);
+    assert_equal!(&rt, WriteError::from(error), WriteError::Short);
+    assert_equal!(
+        &rt,
         WriteError::from(ComposeError::TooLong),
-        ReadError::from(ShortInput),
+        WriteError::Malformed
     );
-    assert_equal!(&rt, made, (WriteError::Malformed, ReadError::Malformed));
-    let made = (
-        ReadError::from(AllocFailed { value: 1_u8 }),
-        WriteError::from(AllocFailed { value: 1_u8 }),
+    assert_equal!(&rt, ReadError::from(ShortInput), ReadError::Malformed);
+    let refused = AllocFailed { value: 1_u8 };
+    assert_equal!(&rt, ReadError::from(refused), ReadError::Memory);
+    let refused = AllocFailed { value: 1_u8 };
+    assert_equal!(&rt, WriteError::from(refused), WriteError::Memory);
+    assert_equal!(
+        &rt,
         DisplayError::from(AppendError::Memory),
+        DisplayError::Memory
     );
-    let memory = (ReadError::Memory, WriteError::Memory, DisplayError::Memory);
-    assert_equal!(&rt, made, memory);
 }
 
 #[test]
 fn integers_of_3_and_6_octets_are_read(rt: HostRuntime) {
     let octets = b"\x12\x34\x56\x78\x9A\xBC".as_slice();
-    let read = (
-        Parser::from_ref(octets).parse_u24_be(),
-        Parser::from_ref(octets).parse_u24_le(),
-    );
-    assert_equal!(&rt, read, (Ok(1_193_046), Ok(5_649_426)));
-    let read = (
+    assert_equal!(&rt, Parser::from_ref(octets).parse_u24_be(), Ok(1_193_046));
+    assert_equal!(&rt, Parser::from_ref(octets).parse_u24_le(), Ok(5_649_426));
+    assert_equal!(
+        &rt,
         Parser::from_ref(octets).parse_u48_be(),
-        Parser::from_ref(octets).parse_u48_le(),
+        Ok(20_015_998_343_868)
     );
-    assert_equal!(&rt, read, (Ok(20_015_998_343_868), Ok(207_371_629_900_818)));
+    assert_equal!(
+        &rt,
+        Parser::from_ref(octets).parse_u48_le(),
+        Ok(207_371_629_900_818)
+    );
     let mut short = Parser::from_ref(b"\x12\x34".as_slice());
-    let read = (short.parse_u24_be(), short.parse_u48_le(), short.pos());
-    assert_equal!(&rt, read, (Err(ShortInput), Err(ShortInput), 0));
+    assert_equal!(&rt, short.parse_u24_be(), Err(ShortInput));
+    assert_equal!(&rt, short.parse_u48_le(), Err(ShortInput));
+    assert_equal!(&rt, short.pos(), 0);
 }
 
 #[test]
@@ -270,28 +282,22 @@ fn integers_of_3_and_6_octets_are_appended(rt: HostRuntime) {
     unwrap(&rt, append_u48_be(&mut octets, 0x1234_5678_9ABC));
     unwrap(&rt, append_u48_le(&mut octets, 0x1234_5678_9ABC));
     let wanted = b"\x12\x34\x56\x56\x34\x12\x12\x34\x56\x78\x9A\xBC\xBC\x9A\x78\x56\x34\x12";
-    has_octets(&rt, &octets, wanted);
-    let (short, too_long) = (Err(ComposeError::Short), Err(ComposeError::TooLong));
-    leaves(&rt, append_u24_be(&mut octets, 0), short, &octets, wanted);
-    leaves(
+    assert_equal!(&rt, octets.as_slice(), wanted.as_slice());
+    assert_equal!(&rt, append_u24_be(&mut octets, 0), Err(ComposeError::Short));
+    assert_equal!(
         &rt,
         append_u24_le(&mut octets, 1 << 24),
-        too_long,
-        &octets,
-        wanted,
+        Err(ComposeError::TooLong)
     );
-    leaves(
+    assert_equal!(
         &rt,
         append_u48_be(&mut octets, 1 << 48),
-        too_long,
-        &octets,
-        wanted,
+        Err(ComposeError::TooLong)
     );
-    leaves(
+    assert_equal!(
         &rt,
         append_u48_le(&mut octets, (1 << 48) - 1),
-        short,
-        &octets,
-        wanted,
+        Err(ComposeError::Short)
     );
+    assert_equal!(&rt, octets.as_slice(), wanted.as_slice());
 }

@@ -1,10 +1,10 @@
 //! Octets in chunks of text. The first rows are from the documentation of Rust's `utf8_chunks`.
-use crate::tests::{SHORT, unwrap};
+use crate::tests::unwrap;
 use octseq::array::Array;
-use octseq::builder::AppendError;
+use octseq::builder::{AppendError, ShortBuf};
 use octseq::str::StrBuilder;
 use octseq::utf8::{Turns, Utf8Chunk, chunks};
-use octseq_asserts::assert_equal;
+use octseq_asserts::{assert_equal, assert_true};
 use std::process::Abort;
 
 /// Returns what a chunk has: its text, its invalid part, and whether the octets end within a character.
@@ -12,20 +12,20 @@ fn lent<'a>(chunk: &Utf8Chunk<'a>) -> (&'a str, &'a [u8], bool) {
     (chunk.valid(), chunk.invalid(), chunk.is_incomplete())
 }
 
-/// Checks the chunks of octets, by both calls.
+/// Checks the chunks of octets.
 fn has_chunks(rt: &impl Abort, octets: &[u8], wanted: &[(&str, &[u8], bool)]) {
-    let (mut found, mut counted) = (chunks(octets), chunks(octets));
+    let mut found = chunks(octets);
+    for each in wanted {
+        assert_equal!(rt, found.next().as_ref().map(lent), Some(*each));
+    }
+    assert_true!(rt, found.next().is_none());
+    let mut counted = chunks(octets);
     let mut turns = Turns::new();
     for each in wanted {
-        let (chunk, other) = (found.next(), counted.next_counted(&mut turns));
-        let lent = (chunk.as_ref().map(lent), other.as_ref().map(lent));
-        assert_equal!(rt, lent, (Some(*each), Some(*each)));
+        let chunk = counted.next_counted(&mut turns);
+        assert_equal!(rt, chunk.as_ref().map(lent), Some(*each));
     }
-    let ended = (
-        found.next().is_none(),
-        counted.next_counted(&mut turns).is_none(),
-    );
-    assert_equal!(rt, ended, (true, true));
+    assert_true!(rt, counted.next_counted(&mut turns).is_none());
 }
 
 #[test]
@@ -65,39 +65,43 @@ fn bad_octets(octets: &[u8]) -> usize {
 
 #[test]
 fn chunks_are_read_by_a_loop(rt: HostRuntime) {
-    let counts = (
-        bad_octets(b"foo\xF1\x80bar\xF1\x80\x80baz"),
-        bad_octets("äöü".as_bytes()),
-    );
-    assert_equal!(&rt, counts, (5, 0));
+    assert_equal!(&rt, bad_octets(b"foo\xF1\x80bar\xF1\x80\x80baz"), 5);
+    assert_equal!(&rt, bad_octets("äöü".as_bytes()), 0);
 }
 
-/// Checks what a push to a text returned, and the text that it left.
-fn leaves(
+/// Checks the result of pushing octets to a text, and the text afterwards.
+fn is_left(
     rt: &impl Abort,
     pushed: Result<(), AppendError>,
-    wanted: Result<(), AppendError>,
+    fits: bool,
     text: &StrBuilder<Array<8>>,
-    left: &str,
+    wanted: &str,
 ) {
-    assert_equal!(rt, (pushed, text.as_str()), (wanted, left));
+    let answer = if fits {
+        Ok(())
+    } else {
+        Err(AppendError::Short(ShortBuf))
+    };
+    assert_equal!(rt, pushed, answer);
+    assert_equal!(rt, text.as_str(), wanted);
 }
 
 #[test]
 fn a_push_of_octets_keeps_the_limit(rt: HostRuntime) {
-    let alloc = rt.alloc();
-    let whole = "ab\u{FFFD}\u{FFFD}";
-    let mut text = unwrap(&rt, StrBuilder::try_copy_lossy(alloc, b"ab"));
-    leaves(&rt, text.try_push_lossy(b"\xFF\xFF"), Ok(()), &text, whole);
-    leaves(
+    let mut text = unwrap(
         &rt,
-        text.try_push_lossy_with(b"\xFF", '?'),
-        SHORT,
-        &text,
-        whole,
+        StrBuilder::<Array<8>>::try_copy_lossy(rt.alloc(), b"ab"),
     );
-    let mut text = unwrap(&rt, StrBuilder::try_copy_lossy(alloc, b"ab"));
-    leaves(&rt, text.try_push_lossy(b"c\xFF\xFF"), SHORT, &text, "ab");
+    let pushed = text.try_push_lossy(b"\xFF\xFF");
+    is_left(&rt, pushed, true, &text, "ab\u{FFFD}\u{FFFD}");
+    let pushed = text.try_push_lossy_with(b"\xFF", '?');
+    is_left(&rt, pushed, false, &text, "ab\u{FFFD}\u{FFFD}");
+    let mut text = unwrap(
+        &rt,
+        StrBuilder::<Array<8>>::try_copy_lossy(rt.alloc(), b"ab"),
+    );
+    let pushed = text.try_push_lossy(b"c\xFF\xFF");
+    is_left(&rt, pushed, false, &text, "ab");
     let pushed = text.try_push_lossy_with(b"c\xFF\xFF\xFFde", '?');
-    leaves(&rt, pushed, Ok(()), &text, "abc???de");
+    is_left(&rt, pushed, true, &text, "abc???de");
 }

@@ -7,56 +7,67 @@ use octseq_asserts::assert_equal;
 use std::alloc::Global;
 use std::process::Abort;
 
-/// Returns the position and the length of the first fault.
-fn fault(octets: &[u8]) -> Option<(usize, Option<usize>)> {
-    first_fault(octets, &mut Turns::new()).map(|fault| (fault.valid_up_to(), fault.error_len()))
-}
-
 /// Checks that both find the same.
 fn agrees(rt: &impl Abort, octets: &[u8]) {
-    assert_eq!(rt; fault(octets), plain_fault(octets), "{octets:?}");
+    let found = first_fault(octets, &mut Turns::new());
+    let found = found.map(|fault| (fault.valid_up_to(), fault.error_len()));
+    assert_eq!(rt; found, plain_fault(octets), "{octets:?}");
 }
 
 /// Checks an encoding after this many octets of ASCII, with others after it: whole, truncated at each place, and
 /// truncated with another octet after it.
 fn agrees_around(rt: &impl Abort, alloc: Global, before: usize, encoding: &[u8]) {
-    for after in [b"".as_slice(), b"z", b"zzzzzzzzzzzzzzzzzzzz"] {
+    for after in [0, 1, 20] {
         for len in 0..=encoding.len() {
             let mut octets = unwrap(rt, Vec::from_elem(alloc, b'a', before));
-            for piece in [&encoding[..len], after, &[0x80]] {
-                unwrap(rt, octets.extend_from_slice(piece));
-                agrees(rt, octets.as_slice());
-            }
+            unwrap(rt, octets.extend_from_slice(&encoding[..len]));
+            agrees(rt, octets.as_slice());
+            unwrap(
+                rt,
+                octets.extend_from_slice(unwrap(rt, Vec::from_elem(alloc, b'z', after)).as_slice()),
+            );
+            agrees(rt, octets.as_slice());
+            unwrap(rt, octets.push(0x80));
+            agrees(rt, octets.as_slice());
         }
     }
 }
 
 #[test]
 fn each_row_is_found_as_by_the_table(rt: HostRuntime) {
-    let alloc = rt.alloc();
     for row in ROWS {
         for before in [0, 1, 3, 12, 13, 15, 16, 17, 31, 33] {
-            let (least, greatest) = edges(&rt, alloc, row);
-            agrees_around(&rt, alloc, before, least.as_slice());
-            agrees_around(&rt, alloc, before, greatest.as_slice());
+            let (least, greatest) = unwrap(&rt, edges(rt.alloc(), row));
+            agrees_around(&rt, rt.alloc(), before, least.as_slice());
+            agrees_around(&rt, rt.alloc(), before, greatest.as_slice());
         }
     }
 }
 
 #[test]
 fn each_octet_out_of_its_range_is_found_as_by_the_table(rt: HostRuntime) {
-    let alloc = rt.alloc();
     for row in ROWS {
         for wrong in 0..row.len() {
-            let (mut below, mut above) = (Vec::new(alloc), Vec::new(alloc));
+            let mut below = Vec::new(rt.alloc());
+            let mut above = Vec::new(rt.alloc());
             for (place, (low, high)) in row.iter().enumerate() {
-                let beyond = if place == wrong { 1 } else { 0 };
-                unwrap(&rt, below.push(low.wrapping_sub(beyond)));
-                unwrap(&rt, above.push(high.wrapping_add(beyond)));
+                let is_wrong = place == wrong;
+                unwrap(
+                    &rt,
+                    below.push(if is_wrong { low.wrapping_sub(1) } else { *low }),
+                );
+                unwrap(
+                    &rt,
+                    above.push(if is_wrong {
+                        high.wrapping_add(1)
+                    } else {
+                        *high
+                    }),
+                );
             }
             for before in [0, 13, 16] {
-                agrees_around(&rt, alloc, before, below.as_slice());
-                agrees_around(&rt, alloc, before, above.as_slice());
+                agrees_around(&rt, rt.alloc(), before, below.as_slice());
+                agrees_around(&rt, rt.alloc(), before, above.as_slice());
             }
         }
     }
@@ -64,9 +75,10 @@ fn each_octet_out_of_its_range_is_found_as_by_the_table(rt: HostRuntime) {
 
 /// Returns octets of ASCII, some of which are replaced from an index on.
 fn ascii_with(rt: &impl Abort, alloc: Global, len: usize, place: usize, others: &[u8]) -> Vec<u8> {
-    let mut octets = unwrap(rt, Vec::from_elem(alloc, b'a', place));
-    unwrap(rt, octets.extend_from_slice(others));
-    unwrap(rt, octets.resize(len, b'a'));
+    let mut octets = unwrap(rt, Vec::from_elem(alloc, b'a', len));
+    for (octet, other) in octets.as_mut_slice().iter_mut().skip(place).zip(others) {
+        *octet = *other;
+    }
     octets
 }
 
@@ -78,7 +90,15 @@ fn fault_within(
     place: usize,
     others: &[u8],
 ) -> Option<(usize, Option<usize>)> {
-    fault(ascii_with(rt, alloc, 48, place, others).as_slice())
+    let octets = ascii_with(rt, alloc, 48, place, others);
+    let fault = first_fault(octets.as_slice(), &mut Turns::new());
+    fault.map(|fault| (fault.valid_up_to(), fault.error_len()))
+}
+
+/// Checks that a lane of ASCII has no fault.
+fn is_passed(rt: &impl Abort, alloc: Global, len: usize) {
+    let octets = ascii_with(rt, alloc, len, 0, b"");
+    assert_equal!(rt, first_fault(octets.as_slice(), &mut Turns::new()), None);
 }
 
 /// Returns the length of the lossy text of octets with one invalid octet at an index.
@@ -91,23 +111,19 @@ fn lossy_length(rt: &impl Abort, alloc: Global, place: usize) -> usize {
 fn lanes_are_passed_and_faults_within_them_found(rt: HostRuntime) {
     let alloc = rt.alloc();
     for len in [0, 15, 16, 17, 31, 32, 48] {
-        assert_equal!(
-            &rt,
-            fault(ascii_with(&rt, alloc, len, 0, b"").as_slice()),
-            None
-        );
+        is_passed(&rt, alloc, len);
     }
     for place in 0..48 {
         let fault = fault_within(&rt, alloc, place, b"\xFF");
-        let found = (fault, lossy_length(&rt, alloc, place));
-        assert_equal!(&rt, found, (Some((place, Some(1))), 50));
+        assert_equal!(&rt, fault, Some((place, Some(1))));
+        assert_equal!(&rt, lossy_length(&rt, alloc, place), 50);
     }
-    let cases = [
-        (15, b"\xC3\xA9".as_slice(), None),
-        (47, b"\xC3", Some((47, None))),
-        (46, b"\xE2\x82", Some((46, None))),
-    ];
-    for (place, others, fault) in cases {
-        assert_equal!(&rt, fault_within(&rt, alloc, place, others), fault);
+    assert_equal!(&rt, fault_within(&rt, alloc, 15, b"\xC3\xA9"), None);
+    for (place, cut) in [(47, b"\xC3".as_slice()), (46, b"\xE2\x82")] {
+        assert_equal!(
+            &rt,
+            fault_within(&rt, alloc, place, cut),
+            Some((place, None))
+        );
     }
 }

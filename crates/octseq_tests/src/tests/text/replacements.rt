@@ -1,9 +1,9 @@
 //! Lossy reading with any character as the replacement.
 use super::filled;
-use crate::tests::is_text_or_short;
+use crate::tests::{is_text_or_short, unwrap};
 use octseq::Turns;
 use octseq::array::Array;
-use octseq::builder::EmptyBuilder;
+use octseq::builder::{AppendError, EmptyBuilder};
 use octseq::str::StrBuilder;
 use std::alloc::Global;
 use std::process::Abort;
@@ -16,10 +16,10 @@ fn replaces<B: EmptyBuilder>(
     replacement: char,
     wanted: Option<&str>,
 ) {
-    let builder = filled::<B>(rt, alloc, octets);
+    let builder = unwrap(rt, filled::<B>(alloc, octets));
     let text = StrBuilder::try_from_utf8_lossy_with(alloc, builder, replacement);
     is_text_or_short(rt, text, wanted);
-    let (builder, turns) = (filled::<B>(rt, alloc, octets), &mut Turns::new());
+    let (builder, turns) = (unwrap(rt, filled::<B>(alloc, octets)), &mut Turns::new());
     let text = StrBuilder::try_from_utf8_lossy_with_counted(alloc, builder, replacement, turns);
     is_text_or_short(rt, text, wanted);
     let text = StrBuilder::<B>::try_copy_lossy_with(alloc, octets, replacement);

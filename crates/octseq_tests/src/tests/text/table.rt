@@ -1,8 +1,6 @@
 //! Table 3-7 of the Unicode Standard, chapter 3, as data, and a fault finder that reads it octet by octet.
 
-use crate::tests::unwrap;
-use std::alloc::Global;
-use std::process::Abort;
+use std::alloc::{AllocError, Global};
 
 /// The rows of Table 3-7: the ranges of the octets of an encoding, one after another.
 pub(super) const ROWS: [&[(u8, u8)]; 9] = [
@@ -19,14 +17,11 @@ pub(super) const ROWS: [&[(u8, u8)]; 9] = [
 
 /// Returns how many octets at the front are in the ranges of the row.
 fn fitting(octets: &[u8], row: &[(u8, u8)]) -> usize {
-    let mut count = 0_usize;
-    for (octet, (low, high)) in octets.iter().zip(row) {
-        if octet < low || high < octet {
-            break;
-        }
-        count = count.saturating_add(1);
-    }
-    count
+    octets
+        .iter()
+        .zip(row)
+        .take_while(|(octet, range)| range.0 <= **octet && **octet <= range.1)
+        .count()
 }
 
 /// Returns the position and the length of the first fault, part by part and row by row.
@@ -55,12 +50,12 @@ pub(super) fn plain_fault(octets: &[u8]) -> Option<(usize, Option<usize>)> {
 }
 
 /// Returns the lowest encoding of a row and the highest.
-pub(super) fn edges(rt: &impl Abort, alloc: Global, row: &[(u8, u8)]) -> (Vec<u8>, Vec<u8>) {
+pub(super) fn edges(alloc: Global, row: &[(u8, u8)]) -> Result<(Vec<u8>, Vec<u8>), AllocError> {
     let mut least = Vec::new(alloc);
     let mut greatest = Vec::new(alloc);
     for (low, high) in row {
-        unwrap(rt, least.push(*low));
-        unwrap(rt, greatest.push(*high));
+        least.push(*low)?;
+        greatest.push(*high)?;
     }
-    (least, greatest)
+    Ok((least, greatest))
 }

@@ -1,5 +1,5 @@
 //! Callers of one pattern each.
-use crate::tests::{has_octets, leaves, unwrap};
+use crate::tests::unwrap;
 use octseq::builder::OctetsBuilder;
 use octseq::str::{DisplayError, Str, StrBuilder};
 use octseq::{Array, Parser, WriteError};
@@ -14,64 +14,60 @@ use std::process::Abort;
 #[test]
 fn a_frame_has_its_length_in_front(rt: HostRuntime) {
     let mut octets = Array::<9>::new();
-    unwrap(&rt, append_frame(&mut octets, b"ab", b"c"));
+    assert_equal!(&rt, append_frame(&mut octets, b"ab", b"c"), Ok(()));
     let full = append_frame(&mut octets, b"abc", b"");
-    leaves(&rt, full, Err(WriteError::Short), &octets, b"\x00\x03abc");
+    assert_equal!(&rt, full, Err(WriteError::Short));
+    assert_equal!(&rt, octets.as_slice(), b"\x00\x03abc".as_slice());
+}
+
+/// Checks that no note is at the front of octets.
+fn has_no_note(rt: &impl Abort, octets: &[u8]) {
+    assert_true!(rt, read_note(&mut Parser::from_ref(octets)).is_err());
 }
 
 /// Checks that octets are a note and nothing else.
 fn is_note(rt: &impl Abort, octets: &[u8]) {
     let mut parser = Parser::from_ref(octets);
     let note = unwrap(rt, read_note(&mut parser));
-    let read = (note.number, note.words.as_str(), parser.remaining());
-    assert_equal!(rt, read, (258, "hé", 0));
+    assert_equal!(rt, (note.number, note.words.as_str()), (258, "hé"));
+    assert_equal!(rt, parser.remaining(), 0);
 }
 
 #[test]
 fn a_note_is_written_and_read(rt: HostRuntime) {
-    let (mut octets, wanted) = (Array::<8>::new(), b"N\x01\x02\x03h\xC3\xA9");
-    let first = append_note(&mut octets, 258, "hé").is_ok();
-    let second = append_note(&mut octets, 1, "h").is_ok();
-    leaves(&rt, (first, second), (true, false), &octets, wanted);
+    let mut octets = Array::<8>::new();
+    assert_true!(&rt, append_note(&mut octets, 258, "hé").is_ok());
+    assert_true!(&rt, append_note(&mut octets, 1, "h").is_err());
+    let wanted = b"N\x01\x02\x03h\xC3\xA9";
+    assert_equal!(&rt, octets.as_slice(), wanted.as_slice());
+    has_no_note(&rt, b"N\x01");
+    has_no_note(&rt, b"n\x01\x02\x00");
+    assert_true!(&rt, kept(&[0; 64]).is_ok());
+    assert_true!(&rt, kept(&[0; 65]).is_err());
     is_note(&rt, wanted);
-    for octets in [b"N\x01".as_slice(), b"n\x01\x02\x00"] {
-        assert_true!(&rt, read_note(&mut Parser::from_ref(octets)).is_err());
-    }
-    assert_equal!(
-        &rt,
-        (kept(&[0; 64]).is_ok(), kept(&[0; 65]).is_ok()),
-        (true, false)
-    );
 }
 
 #[test]
 fn ranges_of_any_octets_are_cut(rt: HostRuntime) {
-    let (octets, short) = (b"abcd".as_slice(), b"ab".as_slice());
-    let keys = (unwrap(&rt, key(&octets)), unwrap(&rt, key(&short)));
-    assert_equal!(&rt, keys, (Some(b"bc"), None));
-    let onwards = (
-        unwrap(&rt, onward(&octets, 4)),
-        unwrap(&rt, onward(&octets, 5)),
-    );
-    assert_equal!(&rt, onwards, (Some(b""), None));
+    let octets = b"abcd".as_slice();
+    assert_equal!(&rt, unwrap(&rt, key(&octets)), Some(b"bc".as_slice()));
+    assert_equal!(&rt, unwrap(&rt, key(&b"ab".as_slice())), None);
+    assert_equal!(&rt, unwrap(&rt, onward(&octets, 4)), Some(b"".as_slice()));
+    assert_equal!(&rt, unwrap(&rt, onward(&octets, 5)), None);
     if octets.len() >= 2 {
-        has_octets(&rt, after_two(octets).peek_all(), b"cd");
+        assert_equal!(&rt, after_two(octets).peek_all(), b"cd".as_slice());
     }
 }
 
 #[test]
 fn numbers_are_shown_and_views_are_asked(rt: HostRuntime) {
     let mut text = unwrap(&rt, StrBuilder::<Array<4>>::new(rt.alloc()));
-    unwrap(&rt, write_number(&mut text, 123));
-    leaves(
-        &rt,
-        push_number(&mut text, 45),
-        Err(DisplayError::Short),
-        &text,
-        b"123",
-    );
+    assert_true!(&rt, write_number(&mut text, 123).is_ok());
+    assert_equal!(&rt, push_number(&mut text, 45), Err(DisplayError::Short));
+    assert_equal!(&rt, text.as_str(), "123");
     let line = unwrap(&rt, Str::from_utf8(b"# x".as_slice()));
+    assert_true!(&rt, is_comment(&line));
     let mut array = Array::<8>::new();
     unwrap(&rt, array.append_slice(b"abcd"));
-    assert_equal!(&rt, (is_comment(&line), fourth(&array)), (true, Some(b'd')));
+    assert_equal!(&rt, fourth(&array), Some(b'd'));
 }
