@@ -16,11 +16,10 @@ ghost use Rattle.octseq_bgp.specs.declared.session.SessionConfig.{SessionConfig 
 use crate::message::Message;
 use crate::session::SessionConfig;
 use octseq::{Malformed, Parser};
+pub use octseq_stream::FrameError as ReadMessageError;
 use octseq_stream::{FrameReader, Framing, frames_are_apart, read_frame};
 use std::alloc::Global;
 use std::io::Read;
-
-pub use octseq_stream::FrameError as ReadMessageError;
 
 /// At most one framed message is at the front of octets.
 ///

@@ -8,11 +8,10 @@ ghost use Rattle.octseq_mrt.specs.Records.{IsRecordOctets, BeginsWithRecord, IsC
 
 use crate::record::Record;
 use octseq::{Malformed, Parser};
+pub use octseq_stream::FrameError as RecordError;
 use octseq_stream::{FrameReader, Framing, frames_are_apart, read_frame};
 use std::alloc::Global;
 use std::io::Read;
-
-pub use octseq_stream::FrameError as RecordError;
 
 /// At most one record is at the front of octets.
 ///

@@ -2,9 +2,7 @@
 use crate::tests::unwrap;
 use octseq::Parser;
 use octseq_asserts::{assert_equal, assert_true};
-use octseq_dns::{
-    FrameError, FrameReader, WriteFrameError, next_frame, read_frame, write_frame,
-};
+use octseq_dns::{FrameError, FrameReader, WriteFrameError, next_frame, read_frame, write_frame};
 use std::alloc::AllocGlobal;
 use std::io::{self, Error, ErrorKind, Read, Write};
 use std::process::Abort;
