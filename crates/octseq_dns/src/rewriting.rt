@@ -69,9 +69,10 @@ impl fmt::Display for RewriteError {
 ///         let (octets, table) = written.finish();
 ///         self.octets = octets;
 ///         self.table = table;
-///         Ok(true)
+///         Ok(Rewriting::Written)
 ///     }
-///     Err(RewriteError::Immovable | RewriteError::Short(_)) => Ok(false),
+///     Err(RewriteError::Immovable) => Ok(Rewriting::Immovable),
+///     Err(RewriteError::Short(_)) => Ok(Rewriting::Long),
 ///     Err(RewriteError::Memory) => Err(AllocError),
 /// }
 /// ```
