@@ -52,12 +52,14 @@ fn a_failed_write_leaves_a_front(rt: HostRuntime) {
 }
 
 #[test]
-fn a_failed_note_is_a_failed_write(rt: HostRuntime) {
+fn a_failed_note_is_reported_after_all_output(rt: HostRuntime) {
     let octets = unwrap(&rt, file(rt.alloc()));
-    let mut errors = narrow(rt.alloc(), 4);
-    let (mut rest, output, notes) = (octets.as_slice(), &mut io::sink(), &mut errors);
-    let answer = engine::<Command, _, _, _>(rt.alloc(), "mrt", &mut rest, output, notes);
-    assert_equal!(&rt, answer, Err(ProgramFault::Write));
+    let (mut errors, mut output) = (narrow(rt.alloc(), 4), Vec::new(rt.alloc()));
+    let (mut rest, notes) = (octets.as_slice(), &mut errors);
+    let answer = engine::<Command, _, _, _>(rt.alloc(), "mrt", &mut rest, &mut output, notes);
+    assert_equal!(&rt, answer, Err(ProgramFault::Note));
     let taken = errors.taken.as_slice();
     assert_equal!(&rt, NOTE.as_bytes().get(..taken.len()), Some(taken));
+    let text = unwrap(&rt, file_text(rt.alloc()));
+    assert_equal!(&rt, output.as_slice(), text.as_bytes());
 }
