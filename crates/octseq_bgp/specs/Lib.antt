@@ -27,7 +27,6 @@ pub mod NotificationOf
 pub mod OctetsText
 pub mod OneEntry
 pub mod OneFrame
-pub mod OneText
 pub mod Open
 pub mod Parsed
 pub mod Path

@@ -15,7 +15,6 @@ use crate::community::{ClusterId, LargeCommunity, StandardCommunity};
 use crate::family::AfiSafiType;
 use crate::path::{Asn, SegmentType};
 use crate::prefix::{PathId, Prefix};
-pub use append::{WriteLines, append_lines};
 pub use lines::{one_text, write_attribute_lines};
 pub use octets::{write_address, write_dotted, write_opaque, write_string};
 use std::fmt;

@@ -64,7 +64,6 @@ pub use Rattle.octseq_dns_message.specs.OptionData
 pub use Rattle.octseq_dns_message.specs.Parsed
 pub use Rattle.octseq_dns_message.specs.RecordData
 pub use Rattle.octseq_dns_message.specs.Said
-pub use Rattle.octseq_dns_message.specs.TextFront
 pub use Rattle.octseq_dns_message.specs.TypedOption
 pub use Rattle.octseq_dns_message.specs.Walk
 pub use Rattle.octseq_dns_name.specs.Name

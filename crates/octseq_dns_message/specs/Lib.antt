@@ -17,6 +17,5 @@ pub mod OptionData
 pub mod Parsed
 pub mod RecordData
 pub mod Said
-pub mod TextFront
 pub mod TypedOption
 pub mod Walk

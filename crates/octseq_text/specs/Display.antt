@@ -1,5 +1,5 @@
 -- Why a value was not formatted at the end of a text.
-use Rattle.std.specs.Prelude.{ℕ, List, codes}
+use Rattle.std.specs.Prelude.{Bool, true, false, ℕ, List, codes}
 use Rattle.octseq_core.specs.Refusal.{Refusal}
 use Rattle.octseq_core.specs.declared.builder.AppendError.{AppendError}
 use Rattle.octseq_text.specs.declared.str.display.DisplayError.{DisplayError}
@@ -14,6 +14,13 @@ display_error DisplayError.Display = Refusal.malformed
 abbrev pub display_error_of : AppendError → DisplayError
 display_error_of (AppendError.Short e) = DisplayError.Short
 display_error_of AppendError.Memory = DisplayError.Memory
+
+-- what is reported of a value whose append was refused for a reason: `Short` only if all of it exceeds the limit
+abbrev pub reason_of : DisplayError → Bool → DisplayError
+reason_of DisplayError.Short false = DisplayError.Display
+reason_of DisplayError.Short true = DisplayError.Short
+reason_of DisplayError.Memory exceeds = DisplayError.Memory
+reason_of DisplayError.Display exceeds = DisplayError.Display
 
 -- what it prints
 abbrev pub display_error_text : DisplayError → List ℕ

@@ -4,7 +4,6 @@ ghost use Rattle.std.specs.Fmt.{WritesOnOk, HasWritten, IsPlainFormatter};
 ghost use Rattle.octseq.specs.Limit.{IsPast};
 ghost use Rattle.octseq.specs.Refusal.{IsShort, IsMemory};
 ghost use Rattle.octseq.specs.Display.{display_error};
-ghost use Rattle.octseq.specs.Parts.{IsFront};
 ghost use Rattle.octseq_dns_data.specs.Data.{ParsedRdata};
 ghost use Rattle.octseq_dns_message.specs.RecordData.{IsDataOf};
 ghost use Rattle.octseq_dns_message.specs.Entry as said;
@@ -13,13 +12,12 @@ ghost use Rattle.octseq_dns_message.specs.MessageText.{record_text, line, header
 ghost use Rattle.octseq_dns_message.specs.MessageText.{IsRecordsText, IsMessageText};
 ghost use Rattle.octseq_dns_message.specs.Parsed.{header_of, questions_of, answers_of, authorities_of, additionals_of};
 ghost use Rattle.octseq_dns_message.specs.Said.{question_of, record_of};
-ghost use Rattle.octseq_dns_message.specs.TextFront.{BeginsAtLine};
 ghost use Rattle.octseq_dns_data.specs.Typed.{rdata_of};
 ghost use Rattle.octseq_dns_message.specs.Walk.{questions_left, records_left};
 
 use crate::header::Header;
 use crate::message::{Message, Question, Questions, Record, Records};
-use octseq::str::{Counter, DisplayError};
+use octseq::str::{DisplayError, WriteLines, append_lines};
 use octseq::{AsOctets, OctetsBuilder, StrBuilder, Truncate};
 use octseq_dns_data::Data;
 use std::fmt;
@@ -160,6 +158,15 @@ fn write_records<W: fmt::Write, R: AsOctets + Copy>(
     Ok(())
 }
 
+impl<R: AsOctets + Copy> WriteLines for Message<R> {
+    ghost is_text = { λ it. IsMessageText (header_of it) (questions_of it) (answers_of it) (authorities_of it)
+        (additionals_of it) };
+
+    fn write_lines<W: fmt::Write>(&self, f: &mut fmt::Formatter<W>) -> fmt::Result {
+        fmt::Display::fmt(self, f)
+    }
+}
+
 impl<R: AsOctets + Copy> Message<R> {
     ghost use Rattle.octseq_dns_message.specs.Parsed.{header_of, questions_of, answers_of, authorities_of};
     ghost use Rattle.octseq_dns_message.specs.Parsed.{additionals_of};
@@ -192,110 +199,6 @@ impl<R: AsOctets + Copy> Message<R> {
         ensures memory { IsMemory display_error result → B.asks ≡ true }
         ensures borrows { B.borrows text.new ≡ B.borrows text.old }
     {
-        let (limit, len) = (text.max_len(), text.len());
-        match append_whole(text, self) {
-            Err(DisplayError::Short) if !passes(limit, len, self) => Err(DisplayError::Display),
-            answer => answer,
-        }
+        append_lines(self, text)
     }
-}
-
-/// Appends the text of a message, or nothing. A part of it may be refused as short though the whole would fit.
-fn append_whole<B: OctetsBuilder + Truncate, R: AsOctets + Copy>(
-    text: &mut StrBuilder<B>,
-    message: &Message<R>,
-) -> Result<(), DisplayError>
-    ensures text { OnOk result ((lines : List ℕ) × IsMessageText (header_of message.now) (questions_of message.now)
-        (answers_of message.now) (authorities_of message.now) (additionals_of message.now) lines
-        × (B.content text.new ≡ B.content text.old ++ lines)) }
-    ensures err { OnErr result (B.content text.new ≡ B.content text.old) }
-    ensures past { (lines : List ℕ) → IsMessageText (header_of message.now) (questions_of message.now)
-        (answers_of message.now) (authorities_of message.now) (additionals_of message.now) lines
-        → IsPast B.limit (length (B.content text.old) + length lines) → IsErr result }
-    ensures limited { IsShort display_error result → B.limit ≢ None }
-    ensures memory { IsMemory display_error result → B.asks ≡ true }
-    ensures borrows { B.borrows text.new ≡ B.borrows text.old }
-{
-    let len = text.len();
-    let answer = append_lines(text, message);
-    // What is lent is well formed, as the cut requires, and within the limit.
-    let _lent = text.as_slice();
-    if answer.is_err() {
-        text.truncate(len);
-    }
-    answer
-}
-
-/// Whether the text of a message, after `len` octets, passes a limit. Returns `false` if it can't be shown.
-fn passes<R: AsOctets + Copy>(limit: Option<usize>, len: usize, message: &Message<R>) -> bool
-    ensures { result ≡ true → (lines : List ℕ) → IsMessageText (header_of message.now) (questions_of message.now)
-        (answers_of message.now) (authorities_of message.now) (additionals_of message.now) lines
-        → IsPast limit (len + length lines) }
-{
-    let mut f = fmt::Formatter::new(Counter { count: len });
-    let shown = fmt::Display::fmt(message, &mut f);
-    let counter = f.into_inner();
-    match (limit, shown) {
-        (Some(limit), Ok(())) if limit < counter.count => true,
-        _ => false,
-    }
-}
-
-/// Appends the text of a message. A refusal leaves a front of it.
-fn append_lines<B: OctetsBuilder + Truncate, R: AsOctets + Copy>(
-    text: &mut StrBuilder<B>,
-    message: &Message<R>,
-) -> Result<(), DisplayError>
-    ensures text { OnOk result ((lines : List ℕ) × IsMessageText (header_of message.now) (questions_of message.now)
-        (answers_of message.now) (authorities_of message.now) (additionals_of message.now) lines
-        × (B.content text.new ≡ B.content text.old ++ lines)) }
-    ensures front { OnErr result (BeginsAtLine (B.content text.old) (B.content text.new)) }
-    ensures short { IsShort display_error result → B.limit ≢ None }
-    ensures memory { IsMemory display_error result → B.asks ≡ true }
-    ensures borrows { B.borrows text.new ≡ B.borrows text.old }
-{
-    let header = message.header();
-    text.try_push_display(HeaderLine { header })?;
-    append_questions(text, message.questions())?;
-    append_records(text, "answer", message.answers())?;
-    append_records(text, "authority", message.authorities())?;
-    append_records(text, "additional", message.additionals())
-}
-
-/// Appends a line for each question. A refusal leaves some of them.
-fn append_questions<B: OctetsBuilder + Truncate, R: AsOctets + Copy>(
-    text: &mut StrBuilder<B>,
-    questions: Questions<R>,
-) -> Result<(), DisplayError>
-    ensures text { OnOk result (B.content text.new
-        ≡ B.content text.old ++ questions_text (questions_left questions)) }
-    ensures front { OnErr result (IsFront (B.content text.old) (B.content text.new)) }
-    ensures short { IsShort display_error result → B.limit ≢ None }
-    ensures memory { IsMemory display_error result → B.asks ≡ true }
-    ensures borrows { B.borrows text.new ≡ B.borrows text.old }
-{
-    for question in questions {
-        text.try_push_display(QuestionLine { question })?;
-    }
-    Ok(())
-}
-
-/// Appends a line for each record, after the word for its section. A refusal leaves some of them.
-fn append_records<B: OctetsBuilder + Truncate, R: AsOctets + Copy>(
-    text: &mut StrBuilder<B>,
-    word: &str,
-    records: Records<R>,
-) -> Result<(), DisplayError>
-    ensures text { OnOk result ((lines : List ℕ) × IsRecordsText word.now (records_left records) lines
-        × (B.content text.new ≡ B.content text.old ++ lines)) }
-    ensures front { OnErr result (IsFront (B.content text.old) (B.content text.new)) }
-    ensures short { IsShort display_error result → B.limit ≢ None }
-    ensures memory { IsMemory display_error result → B.asks ≡ true }
-    ensures borrows { B.borrows text.new ≡ B.borrows text.old }
-{
-    for entry in records {
-        let rdata = entry.data();
-        text.try_push_display(RecordLine { word, entry, rdata })?;
-    }
-    Ok(())
 }

@@ -7,9 +7,8 @@ ghost use Rattle.octseq_mrt.specs.Parsed.{record_of};
 ghost use Rattle.octseq_mrt.specs.RecordText.{IsRecordText};
 
 use crate::record::Record;
-use octseq::str::DisplayError;
+use octseq::str::{DisplayError, WriteLines, append_lines};
 use octseq::{AsOctets, OctetsBuilder, StrBuilder, Truncate};
-use octseq_bgp::text::{WriteLines, append_lines};
 use std::fmt;
 
 impl<R: AsOctets + Copy> WriteLines for Record<R> {

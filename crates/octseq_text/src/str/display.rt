@@ -7,9 +7,10 @@ ghost use Rattle.octseq_core.specs.Refusal.{Refusal, Is, IsShort, IsMemory};
 ghost use Rattle.octseq_text.specs.Display.{display_error};
 ghost use Rattle.octseq_utf8.specs.Text.{begins_within};
 
+use super::appending::{Appended, Appending, Begun, end, reason};
 use super::builder::StrBuilder;
 use super::counter::Counter;
-use octseq_core::builder::{AppendError, AsOctets, OctetsBuilder, Truncate};
+use octseq_core::builder::{AppendError, OctetsBuilder, Truncate};
 use std::error::Error;
 use std::fmt::{self, Display, Write};
 use std::marker::{Brand, PhantomData};
@@ -91,59 +92,6 @@ impl<Octets: OctetsBuilder + Truncate> StrBuilder<Octets> {
     }
 }
 
-/// A text before a value was appended, and who lent it.
-trait Begun {
-    ghost before: { List ℕ };
-
-    ghost lender: { GName };
-
-    ghost borrows: { List GName };
-}
-
-impl Begun for Brand {
-    ghost before = { [] };
-
-    ghost lender = { 0 };
-
-    ghost borrows = { [] };
-}
-
-/// A text that a value writes to. The previous text stays at its front.
-#[derive(Drop)]
-struct Appending<'a, K: Begun, B: AsOctets> {
-    text: &'a mut StrBuilder<B>,
-    refusal: DisplayError,
-    of: PhantomData<K>,
-    ghost front: { take (length K.before) (B.content text.now) ≡ K.before },
-    ghost edge: { begins_within (drop (length K.before) (B.content text.now)) ≡ false },
-    ghost same: { text.ghost_name ≡ K.lender },
-    ghost borrows: { B.borrows text.now ≡ K.borrows },
-    ghost short: { Is Refusal.short (display_error refusal) → B.limit ≢ None },
-    ghost memory: { Is Refusal.memory (display_error refusal) → B.asks ≡ true },
-}
-
-impl<'a, K: Begun, B: OctetsBuilder> fmt::Write for Appending<'a, K, B> {
-    ghost write_str_gives = { λ before octets after.
-        B.content after.text.now ≡ B.content before.text.now ++ octets };
-
-    fn write_str(&mut self, s: &str) -> fmt::Result {
-        match self.text.try_push_str(s) {
-            Ok(()) => Ok(()),
-            Err(e) => {
-                self.refusal = e.into();
-                Err(fmt::Error)
-            }
-        }
-    }
-}
-
-/// A text, and the result of an append to it.
-#[derive(Drop)]
-struct Appended<'a, B: AsOctets> {
-    text: &'a mut StrBuilder<B>,
-    answer: Result<(), DisplayError>,
-}
-
 /// Appends a value, or cuts the text back to where it ended before.
 fn append_from<'a, K: Begun, B: OctetsBuilder + Truncate, D: Display + Drop>(
     text: &'a mut StrBuilder<B>,
@@ -167,52 +115,23 @@ fn append_from<'a, K: Begun, B: OctetsBuilder + Truncate, D: Display + Drop>(
 {
     let len = text.len();
     let limit = text.max_len();
-    let mut writer = Appending {
+    let mut appending = Appending {
         text,
         refusal: DisplayError::Display,
         of: PhantomData::<K>,
     };
-    let written = writer.write(&value);
-    let Appending { text, refusal, .. } = writer;
-    // The borrowed text is well formed, as the cut requires, and within the limit.
-    let _lent = text.as_slice();
+    let written = appending.write(&value);
     match written {
-        Ok(()) => Appended {
-            text,
-            answer: Ok(()),
-        },
+        Ok(()) => end(appending, len, Ok(())),
         Err(_) => {
-            text.truncate(len);
-            let answer = Err(reason::<B, D>(refusal, limit, len, &value));
-            Appended { text, answer }
+            let answer = Err(reason(appending.refusal, exceeds(limit, len, &value)));
+            end(appending, len, answer)
         }
     }
 }
 
-/// Why a value wasn't appended after `len` octets, if an append of a part of it was refused: `Short` is reported only
-/// if all of it exceeds the limit.
-fn reason<B: AsOctets, D: Display>(
-    refusal: DisplayError,
-    limit: Option<usize>,
-    len: usize,
-    value: &D,
-) -> DisplayError
-    requires limit { limit ≡ B.limit }
-    requires limited { Is Refusal.short (display_error refusal) → B.limit ≢ None }
-    requires memory { Is Refusal.memory (display_error refusal) → B.asks ≡ true }
-    ensures short { Is Refusal.short (display_error result) → IfSome (D.output value.now)
-        (λ octets. IsPast B.limit (len + length octets)) }
-    ensures limited { Is Refusal.short (display_error result) → B.limit ≢ None }
-    ensures memory { Is Refusal.memory (display_error result) → B.asks ≡ true }
-{
-    match refusal {
-        DisplayError::Short if !passes(limit, len, value) => DisplayError::Display,
-        refusal => refusal,
-    }
-}
-
 /// Whether a value after `len` octets exceeds the limit. False if the value can't be formatted.
-fn passes<D: Display>(limit: Option<usize>, len: usize, value: &D) -> bool
+fn exceeds<D: Display>(limit: Option<usize>, len: usize, value: &D) -> bool
     ensures { result ≡ true → IfSome (D.output value.now) (λ octets. IsPast limit (len + length octets)) }
 {
     let mut counter = Counter { count: len };

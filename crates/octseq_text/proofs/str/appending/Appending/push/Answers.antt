@@ -1,8 +1,8 @@
 use Rattle.std.proofs.Common.{ap, ◌∙◌, drop, length}
-use Rattle.octseq.specs.Text.{begins_within}
-use Rattle.octseq.proofs.Bridge.{well_formed_from_utf8}
-use Rattle.octseq.proofs.Edges.{edge_stays}
-use Rattle.octseq_bgp.proofs.text.append.AppendingWrite.write_str.Goals as goal
+use Rattle.octseq_utf8.specs.Text.{begins_within}
+use Rattle.octseq_utf8.proofs.Bridge.{well_formed_from_utf8}
+use Rattle.octseq_text.proofs.Edges.{edge_stays}
+use Rattle.octseq_text.proofs.str.appending.Appending.push.Goals as goal
 
 pub invariant_of-self-clause-edge : goal.invariant_of-self-clause-edge
 invariant_of-self-clause-edge g c =

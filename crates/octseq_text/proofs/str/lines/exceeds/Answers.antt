@@ -1,13 +1,12 @@
 use Rattle.std.proofs.Common.{◌+◌, length, ap, subst, sym, arith}
-use Rattle.octseq.proofs.Counts.{count_after_writes}
-use Rattle.octseq.specs.Limit.{IsPast}
-use Rattle.octseq_dns_message.proofs.MessageTexts.{one_message_text}
-use Rattle.octseq_dns_message.proofs.message.text.passes.Goals as goal
+use Rattle.octseq_text.proofs.Counts.{count_after_writes}
+use Rattle.octseq_core.specs.Limit.{IsPast}
+use Rattle.octseq_text.proofs.str.lines.exceeds.Goals as goal
 
 pub returns-in-Some-Ok : goal.returns-in-Some-Ok
 returns-in-Some-Ok g c = λ _ lines are.
-    let shown = rw c.in-Some-Ok.is-1 at c.fmt-shown.ensures.shown in
-    let same = ap length (one_message_text _ _ _ _ _ _ _ shown.1 are) in
+    let shown = rw c.in-Some-Ok.is-1 at c.write_lines-shown.ensures.shown in
+    let same = ap length (c.requires _ _ shown.1 are) in
     let written = shown.2 c.new-f.ensures.plain in
     let counted = count_after_writes _ (λ w. w.count) (λ _ _ _ counts. counts) _ shown.0 _ written.wrote in
     let first = ap (λ w. w.count) c.new-f.ensures.writer in

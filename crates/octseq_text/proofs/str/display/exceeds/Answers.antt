@@ -2,7 +2,7 @@ use Rattle.std.proofs.Common.{◌+◌, length, subst, sym, arith}
 use Rattle.std.proofs.lemmas.Option.{IfSome_then}
 use Rattle.octseq_core.specs.Limit.{IsPast}
 use Rattle.octseq_text.proofs.Counts.{count_after_writes}
-use Rattle.octseq_text.proofs.str.display.passes.Goals as goal
+use Rattle.octseq_text.proofs.str.display.exceeds.Goals as goal
 
 pub returns-in-Some-Ok : goal.returns-in-Some-Ok
 returns-in-Some-Ok g c = λ _.

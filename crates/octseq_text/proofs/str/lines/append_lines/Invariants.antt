@@ -1,4 +1,4 @@
-use Rattle.octseq_bgp.proofs.text.append.append_lines.Given as goal
+use Rattle.octseq_text.proofs.str.lines.append_lines.Given as goal
 
 abbrev pub ghosts-append_from : goal.ghosts-append_from
 ghosts-append_from g a = record {
