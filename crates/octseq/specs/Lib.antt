@@ -22,6 +22,7 @@ pub use Rattle.octseq_text.specs.Encoding
 pub use Rattle.octseq_text.specs.Fault
 pub use Rattle.octseq_text.specs.FaultSearch
 pub use Rattle.octseq_text.specs.Lossy
+pub use Rattle.octseq_text.specs.OctetsText
 pub use Rattle.octseq_text.specs.OneText
 pub use Rattle.octseq_text.specs.Parts
 pub use Rattle.octseq_text.specs.Pieces

@@ -20,5 +20,5 @@ pub use octseq_core::{array, builder, cow, slice_builder};
 pub use octseq_text::octets::{Octets, OctetsFrom, OctetsInto};
 pub use octseq_text::str::{Str, StrBuilder};
 pub use octseq_text::utf8::Turns;
-pub use octseq_text::{octets, str, utf8};
+pub use octseq_text::{octets, octets_text, str, utf8};
 pub use parse::{Parser, ShortInput};

@@ -5,7 +5,8 @@ use Rattle.std.specs.List.{flat_map}
 use Rattle.octseq.specs.Window.{Window, rest}
 use Rattle.octseq_bgp.specs.Capability.{CapabilityValue, Restart, has_restarted, takes_notifications, restart_time}
 use Rattle.octseq_bgp.specs.FamilyTuple.{forwards}
-use Rattle.octseq_bgp.specs.OctetsText.{spaced, opaque_text}
+use Rattle.octseq_bgp.specs.OctetsText.{spaced}
+use Rattle.octseq.specs.OctetsText.{opaque_text}
 
 -- an address family by its numbers
 abbrev pub afi_text : ℕ → List ℕ

@@ -8,7 +8,8 @@ use Rattle.octseq_bgp.specs.CapabilityText.{capability_text, parameter_text, num
 use Rattle.octseq_bgp.specs.Entry.{Entry}
 use Rattle.octseq_bgp.specs.Message.{Message}
 use Rattle.octseq_bgp.specs.Notification.{NotificationData, IsNotificationData}
-use Rattle.octseq_bgp.specs.OctetsText.{spaced, opaque_text, string_text, number_dotted}
+use Rattle.octseq_bgp.specs.OctetsText.{spaced, number_dotted}
+use Rattle.octseq.specs.OctetsText.{opaque_text, string_text}
 use Rattle.octseq_bgp.specs.Open.{Open}
 use Rattle.octseq_bgp.specs.Prefix.{Nlri}
 use Rattle.octseq_bgp.specs.Update.{Update}

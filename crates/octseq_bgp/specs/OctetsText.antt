@@ -1,4 +1,4 @@
--- The text of octets: opaque ones have the form of RFC 3597, 5.
+-- The text of numbers as addresses and in hexadecimal.
 use Rattle.std.specs.Prelude.{ℕ, ◌+◌, ◌/◌, ◌%◌, Bool, ◌||◌, ◌==◌, if◌then◌else◌, List, [], ◌∷◌, ◌++◌, length, codes}
 use Rattle.std.specs.Char.{char_set_contains, digit_char, is_ascii_graphic}
 use Rattle.std.specs.Fmt.{decimal}
@@ -8,36 +8,6 @@ use Rattle.std.specs.Net.Text.{dotted_text}
 -- a text after a space (32)
 abbrev pub spaced : List ℕ → List ℕ
 spaced text = 32 ∷ text
-
--- two lower-case hexadecimal digits
-abbrev pub hex_text : ℕ → List ℕ
-hex_text octet = digit_char (octet / 16) ∷ digit_char (octet % 16) ∷ []
-
--- octets in hexadecimal, after a space if there are any
-abbrev pub octets_after : List ℕ → List ℕ
-octets_after [] = []
-octets_after (octet ∷ octets) = spaced (flat_map hex_text (octet ∷ octets))
-
--- the number of octets, and the octets
-abbrev pub opaque_text : List ℕ → List ℕ
-opaque_text octets = codes "\\# " ++ decimal (length octets) ++ octets_after octets
-
--- three decimal digits: 48 is `0`
-abbrev pub three_digits : ℕ → List ℕ
-three_digits n = (48 + n / 100) ∷ (48 + n / 10 % 10) ∷ (48 + n % 10) ∷ []
-
--- An octet of a string: after a backslash (92), or as it is if it is visible ASCII or a space, or as a backslash and
--- its number.
-abbrev pub is_quoted : ℕ → Bool
-is_quoted = char_set_contains (codes "\"\\")
-
-abbrev pub string_octet_text : ℕ → List ℕ
-string_octet_text octet = if is_quoted octet then 92 ∷ octet ∷ []
-    else (if octet == 32 || is_ascii_graphic octet then octet ∷ [] else 92 ∷ three_digits octet)
-
--- a string: each octet, between quotation marks (34)
-abbrev pub string_text : List ℕ → List ℕ
-string_text octets = 34 ∷ flat_map string_octet_text octets ++ 34 ∷ []
 
 -- the four octets of a number
 abbrev pub first_octet : ℕ → ℕ

@@ -3,8 +3,8 @@
 use Rattle.std.specs.Prelude.{ℕ, ◌/◌, ◌%◌, Bool, ◌&&◌, not, if◌then◌else◌, List, [], ◌∷◌, ◌++◌, take, drop}
 use Rattle.std.specs.Prelude.{replicate, codes, bytes_eq}
 use Rattle.std.specs.Fmt.{decimal}
-use Rattle.std.specs.Net.Addr.{segments_of}
-use Rattle.std.specs.Net.Text.{ipv4_text, ipv6_text}
+use Rattle.std.specs.Net.Text.{ipv4_text}
+use Rattle.octseq.specs.OctetsText.{ipv6_address_text}
 use Rattle.octseq_bgp.specs.declared.attribute_type.AttributeType.{AttributeType}
 use Rattle.octseq_bgp.specs.declared.attribute_type.AttributeType.TheVariants as kind
 use Rattle.octseq_bgp.specs.declared.family.Afi.{Afi}
@@ -55,16 +55,10 @@ type_text kind.As4Path = codes "AS4_PATH"
 type_text kind.As4Aggregator = codes "AS4_AGGREGATOR"
 type_text kind.LargeCommunities = codes "LARGE_COMMUNITIES"
 
--- whether an IPv6 address ends in an IPv4 address: twelve zeros, then not 0.0.0.0 to 0.0.255.255
-abbrev pub ends_in_ipv4 : List ℕ → Bool
-ends_in_ipv4 octets =
-    bytes_eq (take 12 octets) (replicate 12 0) && not (bytes_eq (take 2 (drop 12 octets)) (0 ∷ 0 ∷ []))
-
--- an address: for IPv4 its first four octets; for IPv6 `::` and the IPv4 address at its end, otherwise the text of std
+-- an address: for IPv4 its first four octets
 unfoldable pub address_text : Afi → List ℕ → List ℕ
 address_text addresses.Ipv4 octets = ipv4_text (take 4 octets)
-address_text addresses.Ipv6 octets =
-    if ends_in_ipv4 octets then codes "::" ++ ipv4_text (drop 12 octets) else ipv6_text (segments_of octets)
+address_text addresses.Ipv6 octets = ipv6_address_text octets
 
 -- a prefix: its address and its length
 abbrev pub prefix_text : Afi → ℕ → List ℕ → List ℕ

@@ -8,7 +8,8 @@ use Rattle.octseq.specs.Integer.{be}
 use Rattle.octseq.specs.Window.{rest}
 use Rattle.octseq_bgp.specs.Entry.{Entry}
 use Rattle.octseq_bgp.specs.ExtendedText.{extended_text}
-use Rattle.octseq_bgp.specs.OctetsText.{spaced, opaque_text, number_dotted}
+use Rattle.octseq_bgp.specs.OctetsText.{spaced, number_dotted}
+use Rattle.octseq.specs.OctetsText.{opaque_text}
 use Rattle.octseq_bgp.specs.Path.{asn_size}
 use Rattle.octseq_bgp.specs.Prefix.{Nlri}
 use Rattle.octseq_bgp.specs.PrefixValue.{address_of}

@@ -16,7 +16,7 @@ use crate::family::AfiSafiType;
 use crate::path::{Asn, SegmentType};
 use crate::prefix::{PathId, Prefix};
 pub use lines::{one_text, write_attribute_lines};
-pub use octets::{write_address, write_dotted, write_opaque, write_string};
+pub use octets::{write_address, write_dotted, write_opaque};
 use std::fmt;
 pub use value::write_next_hop;
 

@@ -3,7 +3,7 @@ use Rattle.std.proofs.Common.{◌≡◌, ℕ, ◌<◌, List, [], ◌∷◌, ◌+
 use Rattle.std.proofs.lemmas.Grind.{flat_map-append}
 use Rattle.std.proofs.lemmas.List.Concat.{flat_map-cons}
 use Rattle.std.specs.List.{flat_map}
-use Rattle.octseq_dns_data.specs.DataText.{string_octet_text}
+use Rattle.octseq.specs.OctetsText.{string_octet_text}
 use Rattle.octseq_dns_data.specs.Pieces.{Split, pieces}
 use Rattle.octseq_dns_data.specs.SvcParamsText.{ids_text, listed_octet, value_after, value_text, with_commas}
 use Rattle.octseq_dns_data.proofs.Pieces.{IsMoving, more_pieces}

@@ -7,8 +7,9 @@ use Rattle.std.proofs.lemmas.Bool.Decides.{Decides-eqb}
 use Rattle.std.proofs.lemmas.Slice.Eq.{bytes_eq-Decides}
 use Rattle.std.specs.Net.Addr.{IsIpv4Mapped, segments_of}
 use Rattle.std.specs.Net.Text.{groups_text, hex_groups_text, ipv6_text, longest_zero_run, zero_run}
-use Rattle.octseq_dns_data.specs.DataText.{AreZero, IsFirstLongest, IsGroupsText, aaaa_text}
-use Rattle.octseq_dns_data.specs.DataText.{is_compatible}
+use Rattle.octseq_dns_data.specs.DataText.{AreZero, IsFirstLongest, IsGroupsText}
+use Rattle.octseq.specs.OctetsText.{ipv6_address_text}
+use Rattle.octseq.specs.OctetsText.{is_compatible}
 
 -- ---- the first longest run of zero groups
 
@@ -104,7 +105,7 @@ groups_are_text groups =
 
 -- an IPv6 address that isn't shown with an IPv4 address is shown as the text of its groups
 pub address_is_text : (octets : List ℕ) → (is_compatible octets ≡ true → ⊥) → (IsIpv4Mapped (segments_of octets) → ⊥)
-    → IsGroupsText (segments_of octets) (aaaa_text octets)
+    → IsGroupsText (segments_of octets) (ipv6_address_text octets)
 unfolding ipv6_text
 address_is_text octets compatible mapped =
     let groups = segments_of octets in

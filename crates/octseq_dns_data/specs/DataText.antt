@@ -1,4 +1,4 @@
--- The text of data: RFC 1035, 5.1, RFC 2782 (SRV), RFC 5952 (AAAA) and RFC 3597, 5 (unknown data).
+-- The text of data: RFC 1035, 5.1, and RFC 2782 (SRV).
 use Rattle.std.specs.Prelude.{◌≡◌, ℕ, ◌+◌, ◌/◌, ◌%◌, ◌≤◌, Bool, ◌&&◌, ◌||◌, not, ◌==◌, if◌then◌else◌, List, [], ◌∷◌}
 use Rattle.std.specs.Prelude.{◌++◌, length, take, drop, replicate, codes, bytes_eq}
 use Rattle.std.specs.Char.{char_set_contains, digit_char, is_ascii_graphic}
@@ -6,6 +6,7 @@ use Rattle.std.specs.Fmt.{decimal}
 use Rattle.std.specs.List.{flat_map}
 use Rattle.std.specs.Net.Addr.{segments_of}
 use Rattle.std.specs.Net.Text.{groups_text, ipv4_text, ipv6_text}
+use Rattle.octseq.specs.OctetsText.{hex_text, string_text}
 use Rattle.octseq.specs.Window.{Window, rest}
 use Rattle.octseq_dns_data.specs.BaseText.{base64_text, base32hex_text}
 use Rattle.octseq_dns_data.specs.Data.{Mx, Soa, Srv, Naptr}
@@ -13,18 +14,7 @@ use Rattle.octseq_dns_data.specs.Mnemonic.{rtype_text}
 use Rattle.octseq_dns_data.specs.RtypeBitmap.{types_of}
 use Rattle.octseq_dns_data.specs.RtypeBitmapText.{rtypes_text}
 use Rattle.octseq_dns_name.specs.Name.{Name}
-use Rattle.octseq_dns_name.specs.Text.{three_digits, name_text}
-
--- whether an IPv6 address ends in an IPv4 address: twelve zeros, then not 0.0.0.0 to 0.0.255.255
-abbrev pub is_compatible : List ℕ → Bool
-is_compatible octets = bytes_eq (take 12 octets) (replicate 12 0)
-    && not (bytes_eq (take 2 (drop 12 octets)) (0 ∷ 0 ∷ []))
-
--- An IPv6 address of 16 octets: `::` and the IPv4 address at its end, otherwise std's `ipv6_text`, which also shows the
--- IPv4 address after ten zeros and FF FF.
-abbrev pub aaaa_text : List ℕ → List ℕ
-aaaa_text octets =
-    if is_compatible octets then codes "::" ++ ipv4_text (drop 12 octets) else ipv6_text (segments_of octets)
+use Rattle.octseq_dns_name.specs.Text.{name_text}
 
 -- `len` groups from `start` on are zero
 abbrev pub AreZero : List ℕ → ℕ → ℕ → Type 0
@@ -45,19 +35,6 @@ pub record IsGroupsText (groups text : List ℕ) : Type 0 where
       ++ groups_text (drop (start + len) groups)
   pub plain : len ≤ 1 → text ≡ groups_text groups
 
--- An octet of a string: after a backslash (92), or as it is if it is visible ASCII or a space, or as a backslash and
--- its number.
-abbrev pub is_string_quoted : ℕ → Bool
-is_string_quoted = char_set_contains (codes "\"\\")
-
-abbrev pub string_octet_text : ℕ → List ℕ
-string_octet_text octet = if is_string_quoted octet then 92 ∷ octet ∷ []
-    else (if octet == 32 || is_ascii_graphic octet then octet ∷ [] else 92 ∷ three_digits octet)
-
--- a string: each octet, between quotation marks (34)
-abbrev pub string_text : List ℕ → List ℕ
-string_text octets = 34 ∷ flat_map string_octet_text octets ++ 34 ∷ []
-
 -- strings, each after a space (32)
 abbrev pub strings_after : List (List ℕ) → List ℕ
 strings_after = flat_map (λ string. 32 ∷ string_text string)
@@ -66,19 +43,6 @@ strings_after = flat_map (λ string. 32 ∷ string_text string)
 abbrev pub strings_text : List (List ℕ) → List ℕ
 strings_text [] = []
 strings_text (string ∷ strings) = string_text string ++ strings_after strings
-
--- two lower-case hexadecimal digits
-abbrev pub hex_text : ℕ → List ℕ
-hex_text octet = digit_char (octet / 16) ∷ digit_char (octet % 16) ∷ []
-
--- octets in hexadecimal, after a space if there are any
-abbrev pub octets_after : List ℕ → List ℕ
-octets_after [] = []
-octets_after (octet ∷ octets) = 32 ∷ flat_map hex_text (octet ∷ octets)
-
--- the number of octets, and the octets
-abbrev pub unknown_text : List ℕ → List ℕ
-unknown_text octets = codes "\\# " ++ decimal (length octets) ++ octets_after octets
 
 abbrev pub mx_text : Mx → List ℕ
 mx_text mx = decimal mx.preference ++ 32 ∷ name_text mx.exchange.labels

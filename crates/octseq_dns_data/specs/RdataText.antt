@@ -4,8 +4,10 @@ use Rattle.std.specs.Fmt.{decimal}
 use Rattle.std.specs.Net.Text.{ipv4_text}
 use Rattle.octseq.specs.Window.{Window, rest}
 use Rattle.octseq_dns_data.specs.Data.{ParsedRdata}
-use Rattle.octseq_dns_data.specs.DataText.{aaaa_text, mx_text, soa_text, srv_text, naptr_text, strings_text}
-use Rattle.octseq_dns_data.specs.DataText.{unknown_text, hinfo_text, ds_text, sshfp_text, rrsig_text, nsec_text}
+use Rattle.octseq_dns_data.specs.DataText.{mx_text, soa_text, srv_text, naptr_text, strings_text}
+use Rattle.octseq.specs.OctetsText.{ipv6_address_text}
+use Rattle.octseq_dns_data.specs.DataText.{hinfo_text, ds_text, sshfp_text, rrsig_text, nsec_text}
+use Rattle.octseq.specs.OctetsText.{opaque_text}
 use Rattle.octseq_dns_data.specs.DataText.{dnskey_text, nsec3_text, nsec3param_text, caa_text, uri_text}
 use Rattle.octseq_dns_data.specs.Local.{LocalType, form}
 use Rattle.octseq_dns_data.specs.SvcParamsText.{svc_params_text}
@@ -39,7 +41,7 @@ local_text LocalType.uri uri = uri_text uri
 -- the text of what data says
 abbrev pub rdata_text : ParsedRdata → List ℕ
 rdata_text (ParsedRdata.a octets) = ipv4_text octets
-rdata_text (ParsedRdata.aaaa octets) = aaaa_text octets
+rdata_text (ParsedRdata.aaaa octets) = ipv6_address_text octets
 rdata_text (ParsedRdata.ns name) = name_text name.labels
 rdata_text (ParsedRdata.cname name) = name_text name.labels
 rdata_text (ParsedRdata.ptr name) = name_text name.labels
@@ -49,4 +51,4 @@ rdata_text (ParsedRdata.txt strings) = strings_text strings
 rdata_text (ParsedRdata.srv srv) = srv_text srv
 rdata_text (ParsedRdata.naptr naptr) = naptr_text naptr
 rdata_text (ParsedRdata.local k found) = local_text k found
-rdata_text (ParsedRdata.unknown rtype octets) = unknown_text (rest octets)
+rdata_text (ParsedRdata.unknown rtype octets) = opaque_text (rest octets)

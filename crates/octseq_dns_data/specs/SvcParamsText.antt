@@ -6,7 +6,7 @@ use Rattle.std.specs.List.{flat_map}
 use Rattle.std.specs.Net.Text.{ipv4_text}
 use Rattle.octseq.specs.Integer.{be}
 use Rattle.octseq_dns_data.specs.BaseText.{base64_text}
-use Rattle.octseq_dns_data.specs.DataText.{aaaa_text, string_octet_text}
+use Rattle.octseq.specs.OctetsText.{ipv6_address_text, string_octet_text}
 use Rattle.octseq_dns_data.specs.Mnemonic.{Names, name_or}
 use Rattle.octseq_dns_data.specs.Pieces.{pieces, split_octets}
 use Rattle.octseq_dns_data.specs.SvcParams.{Param, ids_of, keys_of, params_of}
@@ -44,7 +44,7 @@ value_text key value = if key == 0 then with_commas key_text (keys_of value)
     else (if key == 3 then decimal (be value)
     else (if key == 4 then with_commas ipv4_text (pieces (split_octets 4) value)
     else (if key == 5 then base64_text value
-    else (if key == 6 then with_commas aaaa_text (pieces (split_octets 16) value)
+    else (if key == 6 then with_commas ipv6_address_text (pieces (split_octets 16) value)
     else flat_map string_octet_text value)))))
 
 -- `=` (61) and the value in quotation marks (34), if it has an octet

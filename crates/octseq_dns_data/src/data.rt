@@ -9,7 +9,8 @@ ghost use Rattle.octseq_dns_data.specs.Local.{LocalType, IsLocal, IsWhole, form,
 ghost use Rattle.octseq_dns_data.specs.Typed.{svcb_of};
 ghost use Rattle.octseq_format.specs.Turns.{TakesTurns};
 ghost use Rattle.octseq_dns_data.specs.DataTurns.{rdata_turns, service_turns};
-ghost use Rattle.octseq_dns_data.specs.DataText.{IsGroupsText, is_compatible, aaaa_text};
+ghost use Rattle.octseq.specs.OctetsText.{is_compatible, ipv6_address_text};
+ghost use Rattle.octseq_dns_data.specs.DataText.{IsGroupsText};
 
 use crate::iana::{Class, Rtype};
 use octseq::{AsOctets, Parser, Turns};
@@ -51,7 +52,6 @@ pub use crate::data::soa::Soa;
 pub use crate::data::some_octets::{CaaTag, OwnerHash, SomeOctets};
 pub use crate::data::srv::Srv;
 pub use crate::data::svcb::Svcb;
-pub use crate::data::text::{write_hex, write_string};
 pub use crate::data::txt::{CharStr, Strings, Txt};
 pub use crate::data::uri::Uri;
 
@@ -77,7 +77,7 @@ pub fn data_has_the_records_type()
 /// It does nothing. Calling it brings the law into the caller's proof.
 pub fn zero_groups_are_shortened()
     ensures { (octets : List ℕ) → ¬ IsTrue (is_compatible octets) → ¬ IsIpv4Mapped (segments_of octets)
-        → IsGroupsText (segments_of octets) (aaaa_text octets) }
+        → IsGroupsText (segments_of octets) (ipv6_address_text octets) }
 {}
 
 /// The data of a record. Names in it stay in the message, and no octet of them is copied.

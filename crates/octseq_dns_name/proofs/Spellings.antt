@@ -5,7 +5,8 @@ use Rattle.std.proofs.Math.Bool.{true≢false}
 use Rattle.std.specs.Char.{is_ascii_digit, is_ascii_graphic}
 use Rattle.octseq_dns_name.specs.Spelling.{SpellsOctet, SpellsLabel, SpellsLabels, SpellsName}
 use Rattle.octseq_dns_name.specs.Spelling.{AreOctetLabels}
-use Rattle.octseq_dns_name.specs.Text.{is_quoted, three_digits, octet_text, label_text, labels_text, name_text}
+use Rattle.octseq.specs.OctetsText.{three_digits}
+use Rattle.octseq_dns_name.specs.Text.{is_quoted, octet_text, label_text, labels_text, name_text}
 use Rattle.octseq_dns_name.specs.Wire.{AreLabels}
 use Rattle.octseq_format.specs.Canonical.{AreOctets}
 

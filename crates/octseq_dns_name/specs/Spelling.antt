@@ -1,7 +1,8 @@
 -- How a name may be spelled in text: RFC 1035, 5.1. `Text` has the spelling that is printed.
 use Rattle.std.specs.Prelude.{◌≡◌, ℕ, ◌<◌, true, false, List, [], ◌∷◌, ◌++◌}
 use Rattle.std.specs.Char.{is_ascii_digit, is_ascii_graphic}
-use Rattle.octseq_dns_name.specs.Text.{is_quoted, three_digits}
+use Rattle.octseq.specs.OctetsText.{three_digits}
+use Rattle.octseq_dns_name.specs.Text.{is_quoted}
 use Rattle.octseq_format.specs.Canonical.{AreOctets}
 
 -- An octet: as itself, if it is visible ASCII and needs no backslash (92); after a backslash, if it isn't a digit; or

@@ -1,15 +1,12 @@
 -- The text of names: RFC 1035, 5.1.
-use Rattle.std.specs.Prelude.{ℕ, ◌+◌, ◌/◌, ◌%◌, Bool, if◌then◌else◌, List, [], ◌∷◌, ◌++◌, codes}
+use Rattle.std.specs.Prelude.{ℕ, Bool, if◌then◌else◌, List, [], ◌∷◌, ◌++◌, codes}
 use Rattle.std.specs.Char.{char_set_contains, is_ascii_graphic}
 use Rattle.std.specs.List.{flat_map}
+use Rattle.octseq.specs.OctetsText.{three_digits}
 
 -- whether an octet is written after a backslash, as itself
 abbrev pub is_quoted : ℕ → Bool
 is_quoted = char_set_contains (codes "\"().;\\@$")
-
--- three decimal digits: 48 is `0`
-abbrev pub three_digits : ℕ → List ℕ
-three_digits n = (48 + n / 100) ∷ (48 + n / 10 % 10) ∷ (48 + n % 10) ∷ []
 
 -- An octet: after a backslash, if it needs one; as itself, if it is visible ASCII; or as a backslash (92) and its
 -- number.

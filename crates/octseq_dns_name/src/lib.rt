@@ -8,5 +8,4 @@ pub mod error;
 pub mod name;
 
 pub use error::{FromLabelsError, FromTextError, Malformed};
-pub use name::text::write_digits;
 pub use name::{DomainName, NAME_MAX, Name, POINTER_MAX, ParsedName, Suffixes};

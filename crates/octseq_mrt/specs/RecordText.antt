@@ -7,7 +7,8 @@ use Rattle.octseq_bgp.specs.Entry.{Entry}
 use Rattle.octseq_bgp.specs.Family.{afi_of}
 use Rattle.octseq_bgp.specs.Message as bgp
 use Rattle.octseq_bgp.specs.MessageText.{line, attribute_lines, IsMessageText}
-use Rattle.octseq_bgp.specs.OctetsText.{spaced, opaque_text, string_text, number_dotted}
+use Rattle.octseq_bgp.specs.OctetsText.{spaced, number_dotted}
+use Rattle.octseq.specs.OctetsText.{opaque_text, string_text}
 use Rattle.octseq_bgp.specs.Prefix.{Nlri}
 use Rattle.octseq_bgp.specs.Text.{type_text}
 use Rattle.octseq_bgp.specs.ValueText.{flags_text, next_hop_text, nlri_text}

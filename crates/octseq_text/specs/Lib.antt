@@ -1,6 +1,7 @@
 pub mod Display
 pub mod FaultSearch
 pub mod Lossy
+pub mod OctetsText
 pub mod OneText
 pub mod Pieces
 pub mod Progress

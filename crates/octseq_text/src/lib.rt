@@ -6,5 +6,6 @@
 
 pub mod completion;
 pub mod octets;
+pub mod octets_text;
 pub mod str;
 pub mod utf8;

@@ -12,7 +12,8 @@ ghost use Rattle.octseq_bgp.specs.MessageText.{IsUpdateText, AreCapabilityLines,
 ghost use Rattle.octseq_bgp.specs.MessageText.{AreParameterLines, open_text, IsOpenText, data_text, notification_text};
 ghost use Rattle.octseq_bgp.specs.MessageText.{IsNotificationText, orf_text, refresh_text, IsMessageText};
 ghost use Rattle.octseq_bgp.specs.NotificationOf.{notification_data_of};
-ghost use Rattle.octseq_bgp.specs.OctetsText.{spaced, opaque_text, number_dotted};
+ghost use Rattle.octseq_bgp.specs.OctetsText.{spaced, number_dotted};
+ghost use Rattle.octseq.specs.OctetsText.{opaque_text};
 ghost use Rattle.octseq_bgp.specs.Parsed.{message_of, open_of, update_of};
 ghost use Rattle.octseq_bgp.specs.ValueOf.{value_of};
 ghost use Rattle.octseq_bgp.specs.ValueText.{nlri_text};
@@ -26,10 +27,11 @@ use crate::open::OpenMessage;
 use crate::parameter::Parameters;
 use crate::prefix::{Nlri, Prefixes};
 use crate::text::capability::{write_capability, write_family};
-use crate::text::octets::{write_dotted, write_opaque, write_string};
+use crate::text::octets::{write_dotted, write_opaque};
 use crate::text::value::write_attribute;
 use crate::update::UpdateMessage;
 use crate::value::AttributeValue;
+use octseq::octets_text::write_string;
 use octseq::{AsOctets, Parser};
 use std::fmt;
 

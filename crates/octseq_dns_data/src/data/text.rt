@@ -1,10 +1,8 @@
 //! The text of data: RFC 1035, 5.1.
 ghost use Rattle.std.specs.Prelude.{◌≡◌, Some};
 ghost use Rattle.std.specs.Fmt.{WritesOnOk};
-ghost use Rattle.std.specs.List.{flat_map};
-ghost use Rattle.std.specs.Net.Text.{ipv4_text};
-ghost use Rattle.octseq_dns_data.specs.DataText.{is_compatible, aaaa_text, is_string_quoted, string_octet_text};
-ghost use Rattle.octseq_dns_data.specs.DataText.{string_text, strings_text, hex_text, unknown_text, mx_text, soa_text};
+ghost use Rattle.octseq.specs.OctetsText.{string_text};
+ghost use Rattle.octseq_dns_data.specs.DataText.{strings_text, mx_text, soa_text};
 ghost use Rattle.octseq_dns_data.specs.DataText.{srv_text, naptr_text, salt_text, hinfo_text, covered_text, times_text};
 ghost use Rattle.octseq_dns_data.specs.DataText.{signer_text, nsec_text, nsec3_text, hashed_text, caa_text, ds_text};
 ghost use Rattle.octseq_dns_data.specs.DataText.{dnskey_text, rrsig_text, nsec3param_text, sshfp_text, uri_text};
@@ -22,9 +20,8 @@ use crate::data::{
 use crate::iana::Rtype;
 use crate::tag::write_tag;
 use octseq::AsOctets;
-use octseq_dns_name::write_digits;
+use octseq::octets_text::{write_hex, write_ipv4, write_ipv6, write_opaque, write_string};
 use std::fmt;
-use std::net::{Ipv4Addr, Ipv6Addr};
 
 /// Prints the preference and the exchange.
 impl<R: AsOctets + Copy> fmt::Display for Mx<R> {
@@ -321,37 +318,9 @@ impl<R: AsOctets + Copy> fmt::Display for Data<R> {
             Data::Svcb(svcb) => write!(f, "{svcb}"),
             Data::Https(svcb) => write!(f, "{svcb}"),
             Data::Uri(uri) => write!(f, "{uri}"),
-            Data::Unknown(_, parser) => write_unknown(f, parser.peek_all()),
+            Data::Unknown(_, parser) => write_opaque(f, parser.peek_all()),
         }
     }
-}
-
-/// Writes four octets as an IPv4 address.
-pub(crate) fn write_ipv4<W: fmt::Write>(f: &mut fmt::Formatter<W>, octets: [u8; 4]) -> fmt::Result
-    ensures { WritesOnOk W.write_str_gives f.old result (ipv4_text octets) f.new }
-{
-    let address = Ipv4Addr::from_octets(octets);
-    write!(f, "{address}")
-}
-
-/// Writes sixteen octets as an IPv6 address.
-pub(crate) fn write_ipv6<W: fmt::Write>(f: &mut fmt::Formatter<W>, octets: [u8; 16]) -> fmt::Result
-    ensures { WritesOnOk W.write_str_gives f.old result (aaaa_text octets) f.new }
-{
-    if is_compatible(octets) {
-        let [.., a, b, c, d] = octets;
-        let tail = Ipv4Addr::new(a, b, c, d);
-        return write!(f, "::{tail}");
-    }
-    let address = Ipv6Addr::from_octets(octets);
-    write!(f, "{address}")
-}
-
-/// Whether an IPv6 address is shown as `::` and an IPv4 address of its last four octets.
-fn is_compatible(octets: [u8; 16]) -> bool
-    ensures { result ≡ is_compatible octets }
-{
-    octets[..12] == [0; 12] && octets[12..14] != [0; 2]
 }
 
 /// Writes the type covered, the algorithm and the number of labels of a signature.
@@ -388,18 +357,6 @@ fn write_signer<W: fmt::Write, R: AsOctets + Copy>(
     write!(f, "{key_tag} {name} ")
 }
 
-/// Writes octets, of any number, as a string in `"`: `"` and `\` after a backslash, other octets of 20 to 7E
-/// (hexadecimal) as they are, and all others as a backslash and three decimal digits.
-pub fn write_string<W: fmt::Write>(f: &mut fmt::Formatter<W>, octets: &[u8]) -> fmt::Result
-    ensures { WritesOnOk W.write_str_gives f.old result (string_text octets.now) f.new }
-{
-    f.write_char('"')?;
-    for octet in octets {
-        write_string_octet(f, *octet)?;
-    }
-    f.write_char('"')
-}
-
 /// Writes the numbers and the salt of a hash.
 fn write_hashed<W: fmt::Write, R: AsOctets + Copy>(
     f: &mut fmt::Formatter<W>,
@@ -420,56 +377,4 @@ pub(crate) fn write_salt<W: fmt::Write>(f: &mut fmt::Formatter<W>, octets: &[u8]
         return f.write_char('-');
     }
     write_hex(f, octets)
-}
-
-/// Writes an octet of a string.
-pub(crate) fn write_string_octet<W: fmt::Write>(f: &mut fmt::Formatter<W>, octet: u8) -> fmt::Result
-    ensures { WritesOnOk W.write_str_gives f.old result (string_octet_text octet) f.new }
-{
-    if needs_backslash(octet) {
-        f.write_char('\\')?;
-        return f.write_char(char::from(octet));
-    }
-    if octet == b' ' || octet.is_ascii_graphic() {
-        return f.write_char(char::from(octet));
-    }
-    f.write_char('\\')?;
-    write_digits(f, octet)
-}
-
-/// Whether an octet of a string is written after a backslash.
-fn needs_backslash(octet: u8) -> bool
-    ensures { result ≡ is_string_quoted octet }
-{
-    matches!(octet, b'"' | b'\\')
-}
-
-/// Writes the number of octets, and the octets in hexadecimal if there are any.
-fn write_unknown<W: fmt::Write>(f: &mut fmt::Formatter<W>, octets: &[u8]) -> fmt::Result
-    ensures { WritesOnOk W.write_str_gives f.old result (unknown_text octets.now) f.new }
-{
-    let len = octets.len();
-    write!(f, "\\# {len}")?;
-    if octets.is_empty() {
-        return Ok(());
-    }
-    f.write_char(' ')?;
-    write_hex(f, octets)
-}
-
-/// Writes each octet as two lower-case hexadecimal digits.
-pub fn write_hex<W: fmt::Write>(f: &mut fmt::Formatter<W>, octets: &[u8]) -> fmt::Result
-    ensures { WritesOnOk W.write_str_gives f.old result (flat_map hex_text octets.now) f.new }
-{
-    for octet in octets {
-        write_hex_octet(f, *octet)?;
-    }
-    Ok(())
-}
-
-/// Writes an octet as two hexadecimal digits.
-fn write_hex_octet<W: fmt::Write>(f: &mut fmt::Formatter<W>, octet: u8) -> fmt::Result
-    ensures { WritesOnOk W.write_str_gives f.old result (hex_text octet) f.new }
-{
-    write!(f, "{octet:02x}")
 }

@@ -6,7 +6,7 @@ ghost use Rattle.std.specs.Net.Text.{ipv4_text};
 ghost use Rattle.octseq.specs.Integer.{be};
 ghost use Rattle.octseq.specs.Parser.{window};
 ghost use Rattle.octseq.specs.Window.{rest};
-ghost use Rattle.octseq_dns_data.specs.DataText.{aaaa_text, string_octet_text};
+ghost use Rattle.octseq.specs.OctetsText.{ipv6_address_text, string_octet_text};
 ghost use Rattle.octseq_dns_data.specs.Pieces.{pieces, split_octets};
 ghost use Rattle.octseq_dns_data.specs.SvcParams.{IsValueOf, ids_of, keys_of};
 ghost use Rattle.octseq_dns_data.specs.SvcParamsRead.{param_of, params_place};
@@ -14,10 +14,10 @@ ghost use Rattle.octseq_dns_data.specs.SvcParamsText.{ids_text, is_listed_quoted
 ghost use Rattle.octseq_dns_data.specs.SvcParamsText.{param_text, svc_params_text, value_text, with_commas};
 
 use crate::base_text::write_base64;
-use crate::data::text::{write_ipv4, write_ipv6, write_string_octet};
 use crate::svc_params::form::{take_key, take_octets};
 use crate::svc_params::key::{ALPN, ECH, IPV4HINT, IPV6HINT, MANDATORY, PORT, write_key};
 use crate::svc_params::{AlpnIds, SvcParam, SvcParams};
+use octseq::octets_text::{write_ipv4, write_ipv6, write_string_octet};
 use octseq::{AsOctets, Parser};
 use std::fmt;
 
@@ -102,7 +102,7 @@ fn write_ipv4_hints<W: fmt::Write>(f: &mut fmt::Formatter<W>, octets: &[u8]) -> 
 /// Writes IPv6 addresses, separated by commas.
 fn write_ipv6_hints<W: fmt::Write>(f: &mut fmt::Formatter<W>, octets: &[u8]) -> fmt::Result
     ensures { WritesOnOk W.write_str_gives f.old result
-        (with_commas aaaa_text (pieces (split_octets 16) octets.now)) f.new }
+        (with_commas ipv6_address_text (pieces (split_octets 16) octets.now)) f.new }
 {
     let mut ahead = Parser::from_ref(octets);
     let Ok(first) = take_octets::<&[u8], 16>(&mut ahead) else {

@@ -7,7 +7,7 @@ ghost use Rattle.octseq_dns_name.specs.Read.{labels_of};
 ghost use Rattle.octseq_dns_name.specs.Refused.{Reads, SpellsNone, BeginsWith, IsFault, IsRefused};
 ghost use Rattle.octseq_dns_name.specs.Spelling.{SpellsOctet, SpellsName};
 ghost use Rattle.octseq_dns_name.specs.Wire.{wire, AreLabels};
-ghost use Rattle.octseq_dns_name.specs.Text.{three_digits};
+ghost use Rattle.octseq.specs.OctetsText.{three_digits};
 
 use crate::error::FromTextError;
 use crate::name::ParsedName;

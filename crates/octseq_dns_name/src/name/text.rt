@@ -6,10 +6,11 @@ ghost use Rattle.octseq_dns_name.specs.Origin.{SpellsWithOrigin};
 ghost use Rattle.octseq_dns_name.specs.Read.{labels_of, label_octets};
 ghost use Rattle.octseq_dns_name.specs.Spelling.{AreOctetLabels, SpellsName};
 ghost use Rattle.octseq_dns_name.specs.Wire.{AreLabels};
-ghost use Rattle.octseq_dns_name.specs.Text.{is_quoted, three_digits, octet_text, label_text, name_text};
+ghost use Rattle.octseq_dns_name.specs.Text.{is_quoted, octet_text, label_text, name_text};
 
 use crate::name::{Label, ParsedName};
 use octseq::AsOctets;
+use octseq::octets_text::write_digits;
 use octseq_format::are_octets;
 use std::fmt;
 
@@ -99,21 +100,4 @@ pub(crate) fn needs_backslash(octet: u8) -> bool
         octet,
         b'"' | b'(' | b')' | b'.' | b';' | b'\\' | b'@' | b'$'
     )
-}
-
-/// Writes a number as three decimal digits, as they follow the backslash of an escape.
-pub fn write_digits<W: fmt::Write>(f: &mut fmt::Formatter<W>, number: u8) -> fmt::Result
-    ensures { WritesOnOk W.write_str_gives f.old result (three_digits number) f.new }
-{
-    write_digit(f, number / 100)?;
-    write_digit(f, number / 10 % 10)?;
-    write_digit(f, number % 10)
-}
-
-/// Writes one decimal digit.
-fn write_digit<W: fmt::Write>(f: &mut fmt::Formatter<W>, digit: u8) -> fmt::Result
-    requires { digit < 10 }
-    ensures { WritesOnOk W.write_str_gives f.old result ((48 + digit) ∷ []) f.new }
-{
-    f.write_char(char::from(b'0' + digit))
 }

@@ -17,7 +17,8 @@ use crate::peer::{PeerEntry, PeerIndexTable, Peers};
 use crate::record::{Record, RecordValue};
 use crate::text::rib::write_rib;
 use octseq::AsOctets;
-use octseq_bgp::text::{write_dotted, write_opaque, write_string};
+use octseq::octets_text::write_string;
+use octseq_bgp::text::{write_dotted, write_opaque};
 use octseq_bgp::{Message, SessionConfig};
 use std::fmt;
 

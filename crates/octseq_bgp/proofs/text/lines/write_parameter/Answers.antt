@@ -4,7 +4,8 @@ use Rattle.octseq.specs.Parser.{window}
 use Rattle.octseq_bgp.specs.CapabilityOf.{parameter_value_of}
 use Rattle.octseq_bgp.specs.CapabilityText.{parameter_text}
 use Rattle.octseq_bgp.specs.MessageText.{line, AreParameterValueLines}
-use Rattle.octseq_bgp.specs.OctetsText.{spaced, opaque_text}
+use Rattle.octseq_bgp.specs.OctetsText.{spaced}
+use Rattle.octseq.specs.OctetsText.{opaque_text}
 use Rattle.octseq_bgp.proofs.Shown.{shown_of}
 use Rattle.octseq_bgp.proofs.text.lines.write_parameter.Goals as goal
 

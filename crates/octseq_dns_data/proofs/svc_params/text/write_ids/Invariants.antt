@@ -2,7 +2,7 @@
 use Rattle.std.proofs.Common.{◌≡◌, ℕ, List, ◌∷◌, ◌++◌}
 use Rattle.std.specs.Fmt.{HasWritten, IsPlainFormatter}
 use Rattle.std.specs.List.{flat_map}
-use Rattle.octseq_dns_data.specs.DataText.{string_octet_text}
+use Rattle.octseq.specs.OctetsText.{string_octet_text}
 use Rattle.octseq_dns_data.specs.SvcParams.{ids_of}
 use Rattle.octseq_dns_data.specs.SvcParamsRead.{ids_left}
 use Rattle.octseq_dns_data.specs.SvcParamsText.{ids_text, listed_octet}

@@ -2,7 +2,7 @@
 use Rattle.std.proofs.Common.{take}
 use Rattle.std.specs.Fmt.{HasWritten, IsPlainFormatter}
 use Rattle.std.specs.List.{flat_map}
-use Rattle.octseq_dns_data.specs.DataText.{string_octet_text}
+use Rattle.octseq.specs.OctetsText.{string_octet_text}
 use Rattle.octseq_dns_data.proofs.svc_params.text.write_octets.Given as goal
 
 abbrev pub invariant-loop-octet : goal.invariant-loop-octet

@@ -1,7 +1,7 @@
 use Rattle.std.proofs.Common.{[], ◌∷◌, rules}
 use Rattle.std.proofs.lemmas.Option.{IfSome_then}
 use Rattle.octseq_dns_name.specs.Spelling.{SpellsOctet}
-use Rattle.octseq_dns_name.specs.Text.{three_digits}
+use Rattle.octseq.specs.OctetsText.{three_digits}
 use Rattle.octseq_dns_name.proofs.name.spelling.next_escaped.Goals as goal
 
 pub returns-then-not-is_ascii_digit-clause-some : goal.returns-then-not-is_ascii_digit-clause-some

@@ -1,6 +1,7 @@
 use Rattle.std.proofs.Common.{◌∷◌, ◌++◌, ap, sym, ◌∙◌, append_assoc, rules}
 use Rattle.std.proofs.Output.{has_written_append}
-use Rattle.octseq_dns_data.specs.DataText.{string_text, strings_after}
+use Rattle.octseq_dns_data.specs.DataText.{strings_after}
+use Rattle.octseq.specs.OctetsText.{string_text}
 use Rattle.octseq_dns_data.specs.Txt.{strings_left, string_octets}
 use Rattle.octseq_dns_data.proofs.data.text.TxtDisplay.fmt.Goals as goal
 

@@ -2,8 +2,8 @@
 use Rattle.std.proofs.Common.{take}
 use Rattle.std.specs.Fmt.{HasWritten, IsPlainFormatter}
 use Rattle.std.specs.List.{flat_map}
-use Rattle.octseq_bgp.specs.OctetsText.{hex_text}
-use Rattle.octseq_bgp.proofs.text.octets.write_hex.Given as goal
+use Rattle.octseq_text.specs.OctetsText.{hex_text}
+use Rattle.octseq_text.proofs.octets_text.write_hex.Given as goal
 
 abbrev pub invariant-loop-octet : goal.invariant-loop-octet
 invariant-loop-octet g l = IsPlainFormatter l.initial.f → HasWritten g.W.Write.write_str_gives l.initial.f
