@@ -1,9 +1,7 @@
 -- The text of numbers as addresses and in hexadecimal.
-use Rattle.std.specs.Prelude.{ℕ, ◌+◌, ◌/◌, ◌%◌, Bool, ◌||◌, ◌==◌, if◌then◌else◌, List, [], ◌∷◌, ◌++◌, length, codes}
-use Rattle.std.specs.Char.{char_set_contains, digit_char, is_ascii_graphic}
-use Rattle.std.specs.Fmt.{decimal}
-use Rattle.std.specs.List.{flat_map}
+use Rattle.std.specs.Prelude.{ℕ, ◌/◌, ◌%◌, List, ◌∷◌, ◌++◌}
 use Rattle.std.specs.Net.Text.{dotted_text}
+use Rattle.octseq.specs.OctetsText.{hex_text}
 
 -- a text after a space (32)
 abbrev pub spaced : List ℕ → List ℕ

@@ -1,7 +1,6 @@
 -- The text of numbers, communities, families and prefixes: RFC 5396, 2 (AS numbers), RFC 8092, 4 (large communities),
 -- and RFC 5952 (IPv6).
-use Rattle.std.specs.Prelude.{ℕ, ◌/◌, ◌%◌, Bool, ◌&&◌, not, if◌then◌else◌, List, [], ◌∷◌, ◌++◌, take, drop}
-use Rattle.std.specs.Prelude.{replicate, codes, bytes_eq}
+use Rattle.std.specs.Prelude.{ℕ, ◌/◌, ◌%◌, List, ◌++◌, take, codes}
 use Rattle.std.specs.Fmt.{decimal}
 use Rattle.std.specs.Net.Text.{ipv4_text}
 use Rattle.octseq.specs.OctetsText.{ipv6_address_text}

@@ -7,8 +7,8 @@ use Rattle.octseq_bgp.specs.Stream.{IsCut, IsFramed, IsMisframed}
 use Rattle.octseq_bgp.specs.declared.session.SessionConfig.{SessionConfig}
 use Rattle.octseq_bgp_tool.specs.Out.{as_they_are}
 use Rattle.octseq_bgp_tool.specs.Streams.{IsMessagesEnd}
-use Rattle.octseq_program.proofs.Ends.{none_at_plain, one_plain_end}
-use Rattle.octseq_program.specs.Frames.{IsPlainEnd}
+use Rattle.octseq_cli.proofs.Ends.{none_at_plain, one_plain_end}
+use Rattle.octseq_cli.specs.Frames.{IsPlainEnd}
 
 -- no octets aren't misframed
 misframed_some : (s : SessionConfig) → IsMisframed s [] → ⊥

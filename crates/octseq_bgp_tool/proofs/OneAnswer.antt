@@ -15,10 +15,10 @@ use Rattle.octseq_bgp_tool.specs.declared.engine.Command.TheVariants.{Message, S
 use Rattle.octseq_bgp_tool.specs.declared.engine.records.Records.{Records}
 use Rattle.octseq_bgp_tool.specs.declared.engine.records.Records.TheVariants.{Shown, Taken}
 use Rattle.octseq_mrt.specs.Records.{BeginsWithRecord, IsCut, IsRecordOctets}
-use Rattle.octseq_program.proofs.Ends.{none_at_plain, one_plain_end}
-use Rattle.octseq_program.proofs.Taken.{one_stream, one_whole}
-use Rattle.octseq_program.specs.Frames.{IsStreamOut}
-use Rattle.octseq_program.specs.declared.status.Status.{Status}
+use Rattle.octseq_cli.proofs.Ends.{none_at_plain, one_plain_end}
+use Rattle.octseq_cli.proofs.Taken.{one_stream, one_whole}
+use Rattle.octseq_cli.specs.Frames.{IsStreamOut}
+use Rattle.octseq_cli.specs.declared.status.Status.{Status}
 
 -- the rest of a file makes one piece
 pub one_records_end : (c : Records) (number : ℕ) (rest x y e f : List ℕ) (a b : Bool)

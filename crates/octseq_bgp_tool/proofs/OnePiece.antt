@@ -6,7 +6,7 @@ use Rattle.octseq_bgp.specs.Stop.{IsStop}
 use Rattle.octseq_bgp.specs.declared.session.SessionConfig.{SessionConfig}
 use Rattle.octseq_bgp_tool.specs.Shown.{IsMessagePiece, IsNote, IsShown}
 use Rattle.octseq_bgp_tool.specs.Streams.{IsBlock}
-use Rattle.octseq_program.specs.Frames.{stop_line}
+use Rattle.octseq_cli.specs.Frames.{stop_line}
 
 -- by the law of places: octets that aren't a message have one note
 module _ (one_stop : (s : SessionConfig) (octets : List ℕ) (x y : ℕ) → IsStop s octets x → IsStop s octets y → x ≡ y)

@@ -10,8 +10,8 @@ use Rattle.octseq_bgp_tool.specs.declared.engine.Command.TheVariants.{Message, S
 use Rattle.octseq_bgp_tool.specs.declared.engine.records.Records.{Records}
 use Rattle.octseq_bgp_tool.specs.declared.engine.records.Records.TheVariants.{Shown, Taken}
 use Rattle.octseq_mrt.specs.Records.{IsRecordOctets}
-use Rattle.octseq_program.specs.Frames.{IsStreamOut, IsWholeOut}
-use Rattle.octseq_program.specs.declared.status.Status.{Status}
+use Rattle.octseq_cli.specs.Frames.{IsStreamOut, IsWholeOut}
+use Rattle.octseq_cli.specs.declared.status.Status.{Status}
 
 -- the octets of a frame are those of a stream
 abbrev pub as_they_are : List ℕ → List ℕ

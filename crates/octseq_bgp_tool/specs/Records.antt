@@ -9,8 +9,8 @@ use Rattle.octseq_mrt.specs.Record.{AreRecord, IsValue, Value}
 use Rattle.octseq_mrt.specs.RecordText.{IsRecordText}
 use Rattle.octseq_mrt.specs.Records.{IsCut}
 use Rattle.octseq_mrt.specs.declared.header.CommonHeader.{CommonHeader}
-use Rattle.octseq_program.specs.Frames.{IsPlainEnd, IsPlainRest}
-use Rattle.octseq_program.specs.declared.frames.Ending.{Ending}
+use Rattle.octseq_cli.specs.Frames.{IsPlainEnd, IsPlainRest}
+use Rattle.octseq_cli.specs.declared.frames.Ending.{Ending}
 
 -- the message in a record as it is, or nothing if its octets aren't one
 abbrev pub IsTakenEvent : Event → List ℕ → Type 0

@@ -4,7 +4,7 @@ use Rattle.octseq_bgp.specs.Message.{Message, IsMessage}
 use Rattle.octseq_bgp.specs.MessageText.{IsMessageText}
 use Rattle.octseq_bgp.specs.Stop.{IsStop}
 use Rattle.octseq_bgp.specs.declared.session.SessionConfig.{SessionConfig}
-use Rattle.octseq_program.specs.Frames.{stop_line}
+use Rattle.octseq_cli.specs.Frames.{stop_line}
 
 -- Octets are a message of the session, and this is its text.
 pub record HasText (s : SessionConfig) (octets text : List ℕ) : Type 0 where

@@ -3,9 +3,9 @@ use Rattle.std.specs.Prelude.{◌≡◌, ◌⊎◌, ℕ, List, ◌++◌, codes, 
 use Rattle.octseq_bgp.specs.Stream.{IsCut, IsMisframed}
 use Rattle.octseq_bgp.specs.declared.session.SessionConfig.{SessionConfig}
 use Rattle.octseq_bgp_tool.specs.Shown.{IsShown, IsNote}
-use Rattle.octseq_program.specs.Frames.{IsPlainEnd, IsPlainRest, stop_line}
-use Rattle.octseq_program.specs.declared.frames.Ending.{Ending}
-use Rattle.octseq_program.specs.declared.frames.Ending.TheVariants.{Misframed}
+use Rattle.octseq_cli.specs.Frames.{IsPlainEnd, IsPlainRest, stop_line}
+use Rattle.octseq_cli.specs.declared.frames.Ending.{Ending}
+use Rattle.octseq_cli.specs.declared.frames.Ending.TheVariants.{Misframed}
 
 -- the output for a message: what is shown of it, and an empty line
 abbrev pub IsBlock : SessionConfig → ℕ → List ℕ → Bool → List ℕ → List ℕ → Type 0

@@ -3,16 +3,16 @@ ghost use Rattle.std.specs.Prelude.{◌≡◌, ◌≢◌, ◌++◌, ℕ, List, O
 ghost use Rattle.octseq_bgp_tool.specs.Out.{Out};
 ghost use Rattle.octseq_bgp_tool.specs.Words.{name_of};
 ghost use Rattle.octseq_bgp_tool.specs.declared.engine.Command.{Command};
-ghost use Rattle.octseq_program.specs.Run.{IsNamed};
-ghost use Rattle.octseq_program.specs.declared.status.Status.{Status};
+ghost use Rattle.octseq_cli.specs.Run.{IsNamed};
+ghost use Rattle.octseq_cli.specs.declared.status.Status.{Status};
 
 use crate::engine::messages::{Messages, one_stream_piece};
 use crate::engine::records::{Records, one_record_piece};
 use crate::engine::shown::{OneMessage, one_message_piece};
 use crate::options::Options;
 use octseq_bgp::{framed_messages_are_apart, misframed_begins_none};
+use octseq_cli::{Commands, ProgramFault, Status, take_stream, take_whole};
 use octseq_mrt::records_are_apart;
-use octseq_program::{Commands, ProgramFault, Status, take_stream, take_whole};
 use std::alloc::Global;
 use std::io::{Read, Write};
 

@@ -8,7 +8,7 @@
 #![tactic(auto)]
 
 use engine::Command;
-use octseq_program::start;
+use octseq_cli::start;
 use std::process::ExitCode;
 
 mod engine;

@@ -1,7 +1,7 @@
 //! How messages are to be read, by the words of a command.
 ghost use Rattle.std.specs.Prelude.{◌≡◌};
 ghost use Rattle.octseq_bgp_tool.specs.Words.{session_of, words_of};
-ghost use Rattle.octseq_program.specs.Run.{IsNamed};
+ghost use Rattle.octseq_cli.specs.Run.{IsNamed};
 
 use octseq_bgp::{AddPath, SessionConfig};
 

@@ -12,10 +12,10 @@ use Rattle.octseq_dns_tool.specs.declared.engine.Command.{Command}
 use Rattle.octseq_dns_tool.specs.declared.engine.Command.TheVariants.{Message, Rewrite, Stream}
 use Rattle.octseq_dns_tool.specs.declared.engine.stream.Messages.{Messages}
 use Rattle.octseq_dns_tool.specs.declared.engine.stream.Messages.TheVariants.{Shown, Rewritten}
-use Rattle.octseq_program.proofs.Ends.{none_at_plain, one_plain_end}
-use Rattle.octseq_program.proofs.Naming.{other_first, other_length}
-use Rattle.octseq_program.proofs.Taken.{one_stream, one_whole}
-use Rattle.octseq_program.specs.declared.status.Status.{Status}
+use Rattle.octseq_cli.proofs.Ends.{none_at_plain, one_plain_end}
+use Rattle.octseq_cli.proofs.Naming.{other_first, other_length}
+use Rattle.octseq_cli.proofs.Taken.{one_stream, one_whole}
+use Rattle.octseq_cli.specs.declared.status.Status.{Status}
 
 -- no two commands have one name
 pub same_name : (c d : Command) → name_of c ≡ name_of d → c ≡ d

@@ -15,7 +15,7 @@ use Rattle.octseq_dns_tool.specs.Shown.{HasText, IsMalformed, IsMessagePiece, Is
 use Rattle.octseq_dns_tool.specs.Taken.{IsBlock, IsLeftNote, IsMoved, IsPiece}
 use Rattle.octseq_dns_tool.specs.declared.engine.stream.Messages.{Messages}
 use Rattle.octseq_dns_tool.specs.declared.engine.stream.Messages.TheVariants.{Shown, Rewritten}
-use Rattle.octseq_program.specs.Frames.{stop_line}
+use Rattle.octseq_cli.specs.Frames.{stop_line}
 
 -- octets that aren't a message have one note
 pub one_note : (number : ℕ) (octets x y : List ℕ) (b : Bool) → IsNote number octets b x → IsNote number octets b y

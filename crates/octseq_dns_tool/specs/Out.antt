@@ -8,8 +8,8 @@ use Rattle.octseq_dns_tool.specs.declared.engine.Command.{Command}
 use Rattle.octseq_dns_tool.specs.declared.engine.Command.TheVariants.{Message, Rewrite, Stream}
 use Rattle.octseq_dns_tool.specs.declared.engine.stream.Messages.{Messages}
 use Rattle.octseq_dns_tool.specs.declared.engine.stream.Messages.TheVariants.{Shown, Rewritten}
-use Rattle.octseq_program.specs.Frames.{IsStreamOut, IsWholeOut}
-use Rattle.octseq_program.specs.declared.status.Status.{Status}
+use Rattle.octseq_cli.specs.Frames.{IsStreamOut, IsWholeOut}
+use Rattle.octseq_cli.specs.declared.status.Status.{Status}
 
 -- the name of a command
 abbrev pub name_of : Command → List ℕ

@@ -5,7 +5,7 @@ use Rattle.octseq_dns.specs.Message.{IsMessage}
 use Rattle.octseq_dns.specs.MessageText.{IsMessageText}
 use Rattle.octseq_dns.specs.declared.header.Header.{Header}
 use Rattle.octseq_dns_tool.specs.Stop.{IsStop}
-use Rattle.octseq_program.specs.Frames.{stop_line}
+use Rattle.octseq_cli.specs.Frames.{stop_line}
 
 -- Octets are a message, and this is its text.
 pub record HasText (octets text : List ℕ) : Type 0 where

@@ -7,8 +7,8 @@ use Rattle.octseq_dns_tool.specs.Rewritten.{IsAnew, IsSuch, CannotMove, IsTooLon
 use Rattle.octseq_dns_tool.specs.Shown.{IsMalformed, IsNote, IsShown}
 use Rattle.octseq_dns_tool.specs.declared.engine.stream.Messages.{Messages}
 use Rattle.octseq_dns_tool.specs.declared.engine.stream.Messages.TheVariants.{Shown, Rewritten}
-use Rattle.octseq_program.specs.Frames.{IsPlainEnd, IsPlainRest}
-use Rattle.octseq_program.specs.declared.frames.Ending.{Ending}
+use Rattle.octseq_cli.specs.Frames.{IsPlainEnd, IsPlainRest}
+use Rattle.octseq_cli.specs.declared.frames.Ending.{Ending}
 
 -- the output for a message that is shown: what is shown of it, and an empty line
 abbrev pub IsBlock : ℕ → List ℕ → Bool → List ℕ → List ℕ → Type 0

@@ -2,12 +2,12 @@
 ghost use Rattle.std.specs.Prelude.{◌≡◌, ℕ, List, Option, codes, true};
 ghost use Rattle.octseq_dns_tool.specs.Out.{name_of, Out};
 ghost use Rattle.octseq_dns_tool.specs.declared.engine.Command.{Command};
-ghost use Rattle.octseq_program.specs.Run.{IsNamed};
-ghost use Rattle.octseq_program.specs.declared.status.Status.{Status};
+ghost use Rattle.octseq_cli.specs.Run.{IsNamed};
+ghost use Rattle.octseq_cli.specs.declared.status.Status.{Status};
 
 use crate::engine::shown::{OneMessage, one_message_piece};
 use crate::engine::stream::{Messages, one_stream_piece};
-use octseq_program::{Commands, ProgramFault, Status, take_stream, take_whole};
+use octseq_cli::{Commands, ProgramFault, Status, take_stream, take_whole};
 use std::alloc::Global;
 use std::io::{Read, Write};
 

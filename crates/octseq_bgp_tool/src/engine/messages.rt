@@ -12,8 +12,8 @@ use octseq_bgp::{
     ReadMessageError, SessionConfig, framed_messages_are_apart, misframed_begins_none,
     misframed_octets_stay_so, read_message,
 };
-use octseq_program::streams::{drop_rest, failed_read};
-use octseq_program::{Ending, FrameCommand, Next, Piece, ProgramFault, StreamCommand, stop_line};
+use octseq_cli::streams::{drop_rest, failed_read};
+use octseq_cli::{Ending, FrameCommand, Next, Piece, ProgramFault, StreamCommand, stop_line};
 use std::alloc::{AllocError, Global};
 use std::io::Read;
 

@@ -11,12 +11,12 @@ ghost use Rattle.octseq_mrt.specs.Records.{IsRecordOctets};
 
 use crate::engine::shown::{is_message, note_on, one_message_piece};
 use octseq::{AsOctets, StrBuilder};
+use octseq_cli::streams::failed_read;
+use octseq_cli::{Ending, FrameCommand, Next, Piece, ProgramFault, StreamCommand};
 use octseq_mrt::{
     Event, Record, RecordError, RecordValue, one_record, one_record_text, one_record_value,
     read_record, records_are_apart,
 };
-use octseq_program::streams::failed_read;
-use octseq_program::{Ending, FrameCommand, Next, Piece, ProgramFault, StreamCommand};
 use std::alloc::{AllocError, Global};
 use std::io::Read;
 

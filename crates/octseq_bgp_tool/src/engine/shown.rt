@@ -5,7 +5,7 @@ ghost use Rattle.octseq_bgp_tool.specs.Shown.{IsMessagePiece, IsNote, IsRead, Is
 
 use octseq::{AsOctets, StrBuilder};
 use octseq_bgp::{Message, SessionConfig, one_message, one_stop, one_text, place_of_fault};
-use octseq_program::{FrameCommand, Piece, stop_line};
+use octseq_cli::{FrameCommand, Piece, stop_line};
 use std::alloc::{AllocError, Global};
 
 /// Octets make one output and one note.

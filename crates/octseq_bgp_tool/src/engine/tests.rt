@@ -1,7 +1,7 @@
 use super::Command;
-use octseq_program::engine::engine;
-use octseq_program::hostile::Drip;
-use octseq_program::{ProgramFault, Status, command_word};
+use octseq_cli::engine::engine;
+use octseq_cli::hostile::Drip;
+use octseq_cli::{ProgramFault, Status, command_word};
 use std::alloc::{AllocError, Global};
 use std::fmt::Debug;
 use std::process::Abort;

@@ -10,10 +10,10 @@ use crate::engine::rewrite::{Rewriting, Writer};
 use crate::engine::shown::{note_on, one_message_piece, push_shown};
 use octseq::StrBuilder;
 use octseq::compose::append_part_u16_be;
+use octseq_cli::streams::failed_read;
+use octseq_cli::{Ending, FrameCommand, Next, Piece, ProgramFault, StreamCommand};
 use octseq_dns::frames::{FrameError, read_frame};
 use octseq_dns::{Message, laws};
-use octseq_program::streams::failed_read;
-use octseq_program::{Ending, FrameCommand, Next, Piece, ProgramFault, StreamCommand};
 use std::alloc::{AllocError, Global};
 use std::io::Read;
 

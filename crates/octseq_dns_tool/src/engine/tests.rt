@@ -1,6 +1,6 @@
 use super::Command;
-use octseq_program::hostile::Drip;
-use octseq_program::{ProgramFault, Status};
+use octseq_cli::hostile::Drip;
+use octseq_cli::{ProgramFault, Status};
 use std::alloc::{AllocError, Global};
 use std::fmt::Debug;
 use std::io::{self, Read, Write};
@@ -57,7 +57,7 @@ fn engine<R: Read, W: Write>(
     reader: &mut R,
     writer: &mut W,
 ) -> Result<Status, ProgramFault> {
-    octseq_program::engine::engine::<Command, _, _, _>(alloc, word, reader, writer, &mut io::sink())
+    octseq_cli::engine::engine::<Command, _, _, _>(alloc, word, reader, writer, &mut io::sink())
 }
 
 /// Returns what a command returns and writes for octets that come one at a time.
@@ -111,7 +111,7 @@ fn reported(
         reads,
     };
     let (mut written, mut errors) = (Vec::new(alloc), Vec::new(alloc));
-    let answer = octseq_program::engine::engine::<Command, _, _, _>(
+    let answer = octseq_cli::engine::engine::<Command, _, _, _>(
         alloc,
         word,
         &mut reader,

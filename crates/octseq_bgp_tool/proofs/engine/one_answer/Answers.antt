@@ -1,4 +1,4 @@
-use Rattle.octseq_program.proofs.Naming.{one_named}
+use Rattle.octseq_cli.proofs.Naming.{one_named}
 use Rattle.octseq_bgp_tool.proofs.OneAnswer.{one_output}
 use Rattle.octseq_bgp_tool.proofs.Words.{same_name}
 use Rattle.octseq_bgp_tool.specs.Words.{name_of}

@@ -2,9 +2,9 @@
 use super::records::{NOTE, file, file_text};
 use super::{Command, UPDATE, UPDATE_TEXT, messages};
 use crate::engine::tests::unwrap;
-use octseq_program::engine::engine;
-use octseq_program::hostile::Narrow;
-use octseq_program::{ProgramFault, Status};
+use octseq_cli::engine::engine;
+use octseq_cli::hostile::Narrow;
+use octseq_cli::{ProgramFault, Status};
 use std::alloc::Global;
 use std::io;
 use std::process::Abort;

@@ -1,7 +1,7 @@
 //! Files of records.
 use super::{KEEPALIVE, MARKER, joined, reported, shows};
 use crate::engine::tests::unwrap;
-use octseq_program::{ProgramFault, Status};
+use octseq_cli::{ProgramFault, Status};
 use std::alloc::{AllocError, Global};
 use std::process::Abort;
 

@@ -4,7 +4,7 @@ use super::{
 };
 use crate::engine::tests::unwrap;
 use octseq::StrBuilder;
-use octseq_program::{ProgramFault, Status};
+use octseq_cli::{ProgramFault, Status};
 use std::alloc::{AllocError, Global};
 use std::process::Abort;
 

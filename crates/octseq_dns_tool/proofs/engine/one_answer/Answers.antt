@@ -1,4 +1,4 @@
-use Rattle.octseq_program.proofs.Naming.{one_named}
+use Rattle.octseq_cli.proofs.Naming.{one_named}
 use Rattle.octseq_dns_tool.proofs.OneAnswer.{same_name, one_output}
 use Rattle.octseq_dns_tool.specs.Out.{name_of}
 use Rattle.octseq_dns_tool.proofs.engine.one_answer.Goals as goal

@@ -2,8 +2,8 @@
 use super::{REPLY, REPLY_TEXT, engine, joined, ran};
 use crate::engine::Command;
 use crate::engine::tests::unwrap;
-use octseq_program::hostile::{Drip, Faltering, Narrow};
-use octseq_program::{ProgramFault, Status};
+use octseq_cli::hostile::{Drip, Faltering, Narrow};
+use octseq_cli::{ProgramFault, Status};
 use std::alloc::{AllocError, Global};
 use std::io::ErrorKind;
 use std::process::Abort;
@@ -140,7 +140,7 @@ fn a_note_that_cant_be_written_doesnt_end_the_output(rt: HostRuntime) {
                 calls,
             };
             let mut written = Vec::new(alloc);
-            let answer = octseq_program::engine::engine::<Command, _, _, _>(
+            let answer = octseq_cli::engine::engine::<Command, _, _, _>(
                 alloc,
                 command,
                 &mut BROKEN.as_slice(),

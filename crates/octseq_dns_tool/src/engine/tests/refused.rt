@@ -6,9 +6,9 @@ use super::{REPLY, REPLY_TEXT, engine};
 use crate::engine::Command;
 use crate::engine::tests::unwrap;
 use octseq::array::Array;
-use octseq_program::hostile::Fixed;
-use octseq_program::report::{Failure, report};
-use octseq_program::{ProgramFault, Status};
+use octseq_cli::hostile::Fixed;
+use octseq_cli::report::{Failure, report};
+use octseq_cli::{ProgramFault, Status};
 use std::alloc::{AllocError, Global};
 use std::io::{self, Error};
 use std::process::Abort;
@@ -125,7 +125,7 @@ fn another_word_requests_nothing(rt: HostRuntime) {
     let mut errors = Fixed::<2048> {
         taken: Array::new(),
     };
-    let answer = octseq_program::engine::engine::<Command, _, _, _>(
+    let answer = octseq_cli::engine::engine::<Command, _, _, _>(
         rt.alloc(),
         "chek",
         &mut b"a".as_slice(),

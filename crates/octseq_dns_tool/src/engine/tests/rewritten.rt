@@ -1,7 +1,7 @@
 //! Rewriting streams of messages.
 use super::{REPLY, joined, ran, reported};
 use crate::engine::tests::unwrap;
-use octseq_program::Status;
+use octseq_cli::Status;
 use std::alloc::{AllocError, Global};
 use std::process::Abort;
 

@@ -2,8 +2,8 @@ use Rattle.std.proofs.Common.{◌++◌, List, ℕ, refl}
 use Rattle.std.proofs.KnownBytes.{Consumes-trans}
 use Rattle.std.specs.Io.KnownBytes.{Consumes, IsAtEnd}
 use Rattle.octseq_bgp_tool.specs.Streams.{IsMessagesRest}
-use Rattle.octseq_program.proofs.Ends.{ends_so}
-use Rattle.octseq_program.specs.declared.frames.Ending.TheVariants.{Cut, Misframed}
+use Rattle.octseq_cli.proofs.Ends.{ends_so}
+use Rattle.octseq_cli.specs.declared.frames.Ending.TheVariants.{Cut, Misframed}
 use Rattle.octseq_bgp_tool.proofs.engine.messages.MessagesStreamCommand.read_next.Goals as goal
 use Rattle.octseq.proofs.Errors.{on_err}
 

@@ -1,8 +1,8 @@
 use Rattle.std.proofs.Common.{List, ℕ, refl}
 use Rattle.std.specs.Io.KnownBytes.{Consumes, IsAtEnd}
 use Rattle.octseq_dns_tool.specs.Taken.{IsRest}
-use Rattle.octseq_program.proofs.Ends.{ends_so}
-use Rattle.octseq_program.specs.declared.frames.Ending.TheVariants.{Cut}
+use Rattle.octseq_cli.proofs.Ends.{ends_so}
+use Rattle.octseq_cli.specs.declared.frames.Ending.TheVariants.{Cut}
 use Rattle.octseq_dns_tool.proofs.engine.stream.MessagesStreamCommand.read_next.Goals as goal
 
 pub returns-in-Err-Short-clause-end : goal.returns-in-Err-Short-clause-end

@@ -1,0 +1,56 @@
+-- What standard error says of a failure.
+use Rattle.std.specs.Fmt.{debug_str}
+use Rattle.std.specs.Io.KnownBytes.{Appends}
+use Rattle.std.specs.declared.io.Error.{Error}
+use Rattle.std.specs.Prelude.{◌≡◌, ⊤, ℕ, List, ◌++◌, codes, Bool, Option, Some, None, IfSome}
+use Rattle.octseq_cli.specs.Run.{IsPart}
+use Rattle.octseq_cli.specs.declared.report.Failure.{Failure}
+use Rattle.octseq_cli.specs.declared.report.Failure.TheVariants.{Memory, Open, Read, Write, Note}
+use Rattle.octseq_cli.specs.declared.status.ProgramFault.{ProgramFault}
+use Rattle.octseq_cli.specs.declared.status.ProgramFault.TheVariants as faults
+
+-- what the input comes from: a path, as `Debug` writes it, or standard input
+abbrev pub IsSource : Option (List ℕ) → List ℕ → Type 0
+IsSource (Some path) source = IfSome (debug_str path) (λ quoted. source ≡ quoted)
+IsSource None source = source ≡ codes "standard input"
+
+-- the line of an action that failed, with the reason if it is known
+abbrev pub IsReasoned : List ℕ → Option (List ℕ) → Option Error → List ℕ → Type 0
+IsReasoned action path (Some error) line = (source : List ℕ) × (reason : List ℕ) × IsSource path source
+    × (line ≡ codes "cannot " ++ action ++ codes " " ++ source ++ codes ": " ++ reason ++ codes "\n")
+IsReasoned action path None line = (source : List ℕ) × IsSource path source
+    × (line ≡ codes "cannot " ++ action ++ codes " " ++ source ++ codes "\n")
+
+-- the line of a failure, by the path of the input
+abbrev pub IsLine : Failure → Option (List ℕ) → List ℕ → Type 0
+IsLine Memory path line = line ≡ codes "out of memory\n"
+IsLine (Open error) path line = IsReasoned (codes "open") path (Some error) line
+IsLine (Read reason) path line = IsReasoned (codes "read") path reason line
+IsLine Write path line = line ≡ codes "cannot write the output\n"
+IsLine Note path line = line ≡ codes "cannot write to standard error\n"
+
+-- the fault of a failure
+abbrev pub fault_of : Failure → ProgramFault
+fault_of Memory = faults.Memory
+fault_of (Open error) = faults.Read
+fault_of (Read reason) = faults.Read
+fault_of Write = faults.Write
+fault_of Note = faults.Note
+
+-- the failure of a fault, with the error of the last read that failed
+abbrev pub failure_of : ProgramFault → Option Error → Failure
+failure_of faults.Memory error = Memory
+failure_of faults.Read error = Read error
+failure_of faults.Write error = Write
+failure_of faults.Note error = Note
+
+-- the line has the text of a reason, for which memory is requested
+abbrev pub HasReason : Failure → Type 0
+HasReason (Open error) = ⊤
+HasReason (Read reason) = ⊤
+HasReason _ = ⊥
+
+-- the line of a failure was written, or a front of it
+abbrev pub IsTold : Failure → Option (List ℕ) → Bool → Option (List ℕ) → Option (List ℕ) → Type 0
+IsTold failure path is_whole before after = (line : List ℕ) × (part : List ℕ) × IsLine failure path line
+    × IsPart is_whole part line × Appends before after part

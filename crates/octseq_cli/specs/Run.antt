@@ -1,0 +1,94 @@
+-- A run of a program: what a word asks for, what is made of the whole input, and what is written.
+use Rattle.std.specs.Prelude.{◌≡◌, ℕ, List, [], ◌++◌, codes, Bool, true, false, IsTrue, Option, Some, None, IfSome}
+use Rattle.std.specs.Io.KnownBytes.{Appends, Consumes, IsAtEnd}
+use Rattle.octseq.specs.Parts.{IsFront}
+use Rattle.octseq_cli.specs.declared.request.Asked.{Asked}
+use Rattle.octseq_cli.specs.declared.request.Asked.TheVariants.{Command, Help, Unknown}
+use Rattle.octseq_cli.specs.declared.status.Status.{Status}
+use Rattle.octseq_cli.specs.declared.status.Status.TheVariants.{Fine, Usage}
+
+-- the word is the name of a command
+abbrev pub IsCommand : {C : Type 0} → (C → List ℕ) → List ℕ → Type 0
+IsCommand {C} name_of word = (command : C) × (word ≡ name_of command)
+
+-- the command of that name, or none if there is none
+abbrev pub IsNamed : {C : Type 0} → (C → List ℕ) → List ℕ → Option C → Type 0
+IsNamed name_of word (Some command) = word ≡ name_of command
+IsNamed name_of word None = ¬ IsCommand name_of word
+
+-- what the word asks for: a command, or help, or nothing that is known
+abbrev pub IsAsked : {C : Type 0} → (C → List ℕ) → List ℕ → Asked C → Type 0
+IsAsked name_of word (Command command) = word ≡ name_of command
+IsAsked name_of word Help = ¬ IsCommand name_of word × (word ≡ codes "--help")
+IsAsked name_of word Unknown = ¬ IsCommand name_of word × ¬ (word ≡ codes "--help")
+
+-- what is written, on standard output and on standard error, and how the program ends: `out` of a command and its
+-- input, or the help text, on standard error if the word is unknown
+abbrev pub Writes : {C : Type 0} → (C → List ℕ → List ℕ → List ℕ → Status → Type 0) → List ℕ → Asked C
+    → List ℕ → List ℕ → List ℕ → Status → Type 0
+Writes out help (Command command) input output errors status = out command input output errors status
+Writes out help Help input output errors status = (output ≡ help) × (errors ≡ []) × (status ≡ Fine)
+Writes out help Unknown input output errors status = (output ≡ []) × (errors ≡ help) × (status ≡ Usage)
+
+-- A complete run: what the reader had left, and what the two writers held before and after. The known octets of the
+-- reader are the whole input.
+pub record Answers (out : List ℕ → List ℕ → List ℕ → Status → Type 0)
+    (given before after noted_before noted_after : Option (List ℕ)) (status : Status) : Type 0 where
+  pub input : List ℕ
+  pub whole : IfSome given (λ octets. input ≡ octets)
+  pub output : List ℕ
+  pub errors : List ℕ
+  pub answered : out input output errors status
+  pub written : Appends before after output
+  pub noted : Appends noted_before noted_after errors
+
+-- A run that failed: what was read, whether the end was reached, and what was written to both writers. For every input
+-- that begins with what was read, or equals it if the end was reached, fronts of its output were written.
+pub record BreaksOff (out : List ℕ → List ℕ → List ℕ → Status → Type 0)
+    (given left before after noted_before noted_after : Option (List ℕ)) : Type 0 where
+  pub read : List ℕ
+  pub consumed : Consumes given left read
+  pub is_end : Bool
+  pub ended : IsTrue is_end → IsAtEnd left
+  pub output : List ℕ
+  pub errors : List ℕ
+  pub written : Appends before after output
+  pub noted : Appends noted_before noted_after errors
+  pub fronts : (more all notes : List ℕ) (status : Status) → (IsTrue is_end → more ≡ [])
+      → out (read ++ more) all notes status → IsFront output all × IsFront errors notes
+
+-- A part of octets that were to be written: all of them, or a front.
+abbrev pub IsPart : Bool → List ℕ → List ℕ → Type 0
+IsPart true part all = part ≡ all
+IsPart false part all = IsFront part all
+
+-- A run that wrote its whole output, but only a front of its notes.
+pub record Unnoted (out : List ℕ → List ℕ → List ℕ → Status → Type 0)
+    (given left before after noted_before noted_after : Option (List ℕ)) : Type 0 where
+  pub input : List ℕ
+  pub whole : IfSome given (λ octets. input ≡ octets)
+  pub ended : IsAtEnd left
+  pub output : List ℕ
+  pub errors : List ℕ
+  pub status : Status
+  pub answered : out input output errors status
+  pub written : Appends before after output
+  pub part : List ℕ
+  pub is_front : IsFront part errors
+  pub noted : Appends noted_before noted_after part
+
+-- A complete run for a word.
+pub record Ran {C : Type 0} (name_of : C → List ℕ) (help : List ℕ)
+    (out : C → List ℕ → List ℕ → List ℕ → Status → Type 0) (word : List ℕ)
+    (given before after noted_before noted_after : Option (List ℕ)) (status : Status) : Type 0 where
+  pub asked : Asked C
+  pub is_asked : IsAsked name_of word asked
+  pub answers : Answers (Writes out help asked) given before after noted_before noted_after status
+
+-- A run for a word, which failed.
+pub record Broke {C : Type 0} (name_of : C → List ℕ) (help : List ℕ)
+    (out : C → List ℕ → List ℕ → List ℕ → Status → Type 0) (word : List ℕ)
+    (given left before after noted_before noted_after : Option (List ℕ)) : Type 0 where
+  pub asked : Asked C
+  pub is_asked : IsAsked name_of word asked
+  pub breaks_off : BreaksOff (Writes out help asked) given left before after noted_before noted_after
