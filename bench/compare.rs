@@ -29,6 +29,9 @@ unsafe extern "C" {
     fn octseq_sum_u16_be(octets: *const u8, len: usize) -> u64;
     fn octseq_sum_u32_le(octets: *const u8, len: usize) -> u64;
     fn octseq_sum_u64_be(octets: *const u8, len: usize) -> u64;
+    fn octseq_sum_chunks_u16_be(octets: *const u8, len: usize) -> u64;
+    fn octseq_sum_chunks_u32_le(octets: *const u8, len: usize) -> u64;
+    fn octseq_sum_chunks_u64_be(octets: *const u8, len: usize) -> u64;
     fn octseq_dns_checked(octets: *const u8, len: usize) -> u64;
     fn octseq_dns_read(octets: *const u8, len: usize) -> u64;
     fn octseq_dns_written(octets: *const u8, len: usize) -> u64;
@@ -367,19 +370,26 @@ fn pops(bench: &mut Bench) {
 
 fn integers(bench: &mut Bench) {
     let beside = "`chunks_exact` with `from_be_bytes`, `from_le_bytes`";
-    let mut section = Section::new("parsing", "integers of 2, 4 and 8 octets", "4 KiB of no order", beside);
-    let widths: [(&str, Sum, fn(&[u8]) -> u64); 3] = [
-        ("`u16`, big-endian", octseq_sum_u16_be, |octets| sum(octets, |o| u16::from_be_bytes(o).into())),
-        ("`u32`, little-endian", octseq_sum_u32_le, |octets| sum(octets, |o| u32::from_le_bytes(o).into())),
-        ("`u64`, big-endian", octseq_sum_u64_be, |octets| sum(octets, u64::from_be_bytes)),
+    let ways: [(&str, [Sum; 3]); 2] = [
+        ("integers of 2, 4 and 8 octets", [octseq_sum_u16_be, octseq_sum_u32_le, octseq_sum_u64_be]),
+        ("integers of 2, 4 and 8 octets, by `peek_chunks`",
+            [octseq_sum_chunks_u16_be, octseq_sum_chunks_u32_le, octseq_sum_chunks_u64_be]),
     ];
-    for (name, call, rust) in widths {
-        let octets = random(4096);
-        let theirs = octets.clone();
-        section.add(name, octets.len(),
-            move || unsafe { call(octets.as_ptr(), octets.len()) }, move || rust(black_box(&theirs)));
+    for (way, calls) in ways {
+        let mut section = Section::new("parsing", way, "4 KiB of no order", beside);
+        let widths: [(&str, fn(&[u8]) -> u64); 3] = [
+            ("`u16`, big-endian", |octets| sum(octets, |o| u16::from_be_bytes(o).into())),
+            ("`u32`, little-endian", |octets| sum(octets, |o| u32::from_le_bytes(o).into())),
+            ("`u64`, big-endian", |octets| sum(octets, u64::from_be_bytes)),
+        ];
+        for ((name, rust), call) in widths.into_iter().zip(calls) {
+            let octets = random(4096);
+            let theirs = octets.clone();
+            section.add(name, octets.len(),
+                move || unsafe { call(octets.as_ptr(), octets.len()) }, move || rust(black_box(&theirs)));
+        }
+        bench.add(section);
     }
-    bench.add(section);
 }
 
 /// Hands a stream to a call of ours.

@@ -1,6 +1,7 @@
 //! Reading octets from left to right: windows that move over a sequence.
-ghost use Rattle.std.specs.Prelude.{◌≡◌, ◌+◌, ◌<◌, ◌≤◌, ◌↔◌, ⊤, true, length};
+ghost use Rattle.std.specs.Prelude.{◌≡◌, ◌+◌, ◌/◌, ◌<◌, ◌≤◌, ◌↔◌, ⊤, true, length};
 ghost use Rattle.std.specs.Prelude.{IsTrue, IsOk, IfOk, IsSome, IfSome, OnOk, OnErr};
+ghost use Rattle.std.specs.Simd.{first_chunks};
 ghost use Rattle.octseq_text.specs.Range.{RangeExists};
 ghost use Rattle.octseq.specs.Integer.{be, octets_be};
 ghost use Rattle.octseq.specs.Refusal.{IsShort, IsMemory, parse_octets_error};
@@ -206,6 +207,30 @@ impl<R: AsOctets> Parser<R> {
         ensures length { length result.now ≡ left (window self.now) }
     {
         &self.octets.as_ref()[self.pos..self.len]
+    }
+
+    /// The octets that are left, in chunks of `N`. Octets after the last whole chunk aren't in them. The position
+    /// doesn't change.
+    ///
+    /// One test of the window serves all chunks, so a row of integers is read fastest by
+    /// `u32::from_be_bytes(*chunk)` for each.
+    ///
+    /// # Examples
+    ///
+    /// ```
+    /// // crates/octseq_examples/src/parsing.rt
+    /// let parser = Parser::from_static(b"\x00\x01\x01\x00\x07");
+    /// let mut total = 0;
+    /// for chunk in parser.peek_chunks::<2>() {
+    ///     total += u32::from(u16::from_be_bytes(*chunk)); // 1 and 256
+    /// }
+    /// ```
+    pub fn peek_chunks<const N: usize>(&self) -> &[[u8; N]]
+        requires { 0 < N }
+        ensures chunks { result.now ≡ first_chunks N (left (window self.now) / N) (rest (window self.now)) }
+        ensures count { length result.now ≡ left (window self.now) / N }
+    {
+        self.peek_all().as_chunks().0
     }
 
     /// Tests whether `len` octets are left.

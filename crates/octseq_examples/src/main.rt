@@ -57,6 +57,7 @@ fn print_parsing(rt: &impl Print) -> anyhow::Result<()> {
     println!(rt; "{number} {} {balance}", str::from_utf8(name.peek_all())?)?;
     let (key, value) = parsing::entry()?;
     println!(rt; "{} {value}", str::from_utf8(key)?)?;
+    println!(rt; "{}", parsing::total())?;
     println!(rt; "{:?}", parsing::record()?)?;
     Ok(())
 }

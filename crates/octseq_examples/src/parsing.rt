@@ -21,6 +21,16 @@ pub fn entry() -> anyhow::Result<(&'static [u8], u16)> {
     Ok((key, value))
 }
 
+/// Adds the numbers of two octets. The last octet is half of one.
+pub fn total() -> u32 {
+    let parser = Parser::from_static(b"\x00\x01\x01\x00\x07");
+    let mut total = 0;
+    for chunk in parser.peek_chunks::<2>() {
+        total += u32::from(u16::from_be_bytes(*chunk)); // 1 and 256
+    }
+    total
+}
+
 /// Reads the first two numbers of a record, and the octet after the record.
 pub fn record() -> anyhow::Result<(u16, u16, u8)> {
     let mut parser = Parser::from_static(b"\x06\x00\x01\x00\x02zz\x09");
