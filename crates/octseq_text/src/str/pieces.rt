@@ -80,14 +80,7 @@ impl<B: EmptyBuilder> LossyPieces<B> {
     /// let text = pieces.finish()?; // "5 € \u{FFFD}"
     /// ```
     pub fn feed(&mut self, piece: &[u8]) -> Result<(), AppendError>
-        // Octets have exactly one list of settled parts, and one open end.
-        ensures one_settling { (octets end last : List ℕ) (settled others : List Part)
-            → Settles octets settled end → Settles octets others last
-            → (settled ≡ others) × (end ≡ last) }
-        ensures settling { (octets : List ℕ)
-            → (settled : List Part) × (end : List ℕ) × Settles octets settled end }
-
-        // If the reading stood for octets, it now stands for them followed by the piece.
+        // If the reading had read octets, it now has read them followed by the piece.
         ensures has_read { OnOk result ((octets : List ℕ)
             → HasRead self.old octets → HasRead self.new (octets ++ piece.now)) }
 
@@ -116,14 +109,7 @@ impl<B: EmptyBuilder> LossyPieces<B> {
     /// `Short` if the text of what is settled exceeds the limit of the type, `Memory` if a request for memory was
     /// refused. Every later call returns the same error.
     pub fn feed_counted(&mut self, piece: &[u8], turns: &mut Turns) -> Result<(), AppendError>
-        // Octets have exactly one list of settled parts, and one open end.
-        ensures one_settling { (octets end last : List ℕ) (settled others : List Part)
-            → Settles octets settled end → Settles octets others last
-            → (settled ≡ others) × (end ≡ last) }
-        ensures settling { (octets : List ℕ)
-            → (settled : List Part) × (end : List ℕ) × Settles octets settled end }
-
-        // If the reading stood for octets, it now stands for them followed by the piece.
+        // If the reading had read octets, it now has read them followed by the piece.
         ensures has_read { OnOk result ((octets : List ℕ)
             → HasRead self.old octets → HasRead self.new (octets ++ piece.now)) }
 
@@ -186,11 +172,6 @@ impl<B: EmptyBuilder> LossyPieces<B> {
     /// }
     /// ```
     pub fn finish(self) -> Result<StrBuilder<B>, AppendError>
-        // Exactly one list of parts splits octets.
-        ensures one_splitting { (octets : List ℕ) (parts others : List Part)
-            → Splits octets parts → Splits octets others → parts ≡ others }
-        ensures splitting { (octets : List ℕ) → (parts : List Part) × Splits octets parts }
-
         // The result is the text of all parts of the octets that the reading stands for.
         ensures text { IfOk result (λ made. (octets : List ℕ) (parts : List Part)
             → HasRead self octets → Splits octets parts → B.content made ≡ text parts) }

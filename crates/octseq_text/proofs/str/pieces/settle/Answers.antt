@@ -1,6 +1,6 @@
 use Rattle.std.proofs.Common.{rules, ◌≡◌, ◌≤◌, length, refl, arith, ap, sym, ◌∙◌, subst}
 use Rattle.std.proofs.Math.Nat.{le_refl, le_trans}
-use Rattle.std.proofs.lemmas.Result.{err_from_is_err_and, IfOk-from_err}
+use Rattle.std.proofs.lemmas.Result.{err_from_is_err_and}
 use Rattle.octseq_utf8.specs.Encoding.{encoding_of}
 use Rattle.octseq_utf8.proofs.Splitting.{splits}
 use Rattle.octseq_text.proofs.Counting.{turns_left, passed_on, passed_all, passed_none, fewer_left}

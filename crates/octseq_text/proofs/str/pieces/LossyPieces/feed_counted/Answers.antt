@@ -6,7 +6,7 @@ use Rattle.octseq_text.proofs.Completions.{parts_open}
 use Rattle.octseq_text.proofs.Counting.{none_turned, one_turned}
 use Rattle.octseq_text.proofs.Piecewise.{feed_has_read, feed_text, feed_too_long, sound_reading}
 use Rattle.octseq_text.proofs.Piecewise.{not_met, same_refusal, memory_met, sound_met}
-use Rattle.octseq_text.proofs.Settling.{one_settling, settles_end, settling}
+use Rattle.octseq_text.proofs.Settling.{settles_end}
 use Rattle.octseq_core.proofs.Limits.{within_not_past}
 use Rattle.octseq_text.proofs.str.pieces.LossyPieces.feed_counted.Goals as goal
 
@@ -39,26 +39,6 @@ returns-in-Err-clause-short g c =
     (λ h octets end settled s t.
     let long = c.in-Err.ensures.short h in
     feed_too_long _ octets c.args.piece.now s long end settled t)
-
--- the settled parts are unique
-
-pub returns-in-Some-clause-one_settling : goal.returns-in-Some-clause-one_settling
-returns-in-Some-clause-one_settling g c = λ octets end last settled others s t. one_settling s t
-
-pub returns-in-Some-clause-settling : goal.returns-in-Some-clause-settling
-returns-in-Some-clause-settling g c = settling
-
-pub returns-in-Ok-clause-one_settling : goal.returns-in-Ok-clause-one_settling
-returns-in-Ok-clause-one_settling g c = λ octets end last settled others s t. one_settling s t
-
-pub returns-in-Ok-clause-settling : goal.returns-in-Ok-clause-settling
-returns-in-Ok-clause-settling g c = settling
-
-pub returns-in-Err-clause-one_settling : goal.returns-in-Err-clause-one_settling
-returns-in-Err-clause-one_settling g c = λ octets end last settled others s t. one_settling s t
-
-pub returns-in-Err-clause-settling : goal.returns-in-Err-clause-settling
-returns-in-Err-clause-settling g c = settling
 
 -- if a refusal was met before
 

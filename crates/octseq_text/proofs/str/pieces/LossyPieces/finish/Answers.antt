@@ -1,10 +1,8 @@
 use Rattle.std.proofs.Common.{length, refl, ap, sym, ◌∙◌, subst, Err}
-use Rattle.std.proofs.lemmas.Result.{err_from_is_err_and, IfOk-from_err}
+use Rattle.std.proofs.lemmas.Result.{err_from_is_err_and}
 use Rattle.octseq_core.specs.Limit.{IsPast}
-use Rattle.octseq_utf8.proofs.Splitting.{one_splitting}
 use Rattle.octseq_text.proofs.Piecewise.{finish_text, finish_well_formed, finish_too_long}
 use Rattle.octseq_text.proofs.Piecewise.{not_met, same_refusal, memory_met}
-use Rattle.octseq_text.proofs.Settling.{splitting}
 use Rattle.octseq_core.proofs.Limits.{within_not_past}
 use Rattle.octseq_text.proofs.str.pieces.LossyPieces.finish.Goals as goal
 
@@ -31,26 +29,6 @@ returns-clause-past g c = λ octets parts s t p.
     absurd (within_not_past g.B.AsOctets.limit _ c.in_ok-append_end.ensures.within
     (subst (λ y. IsPast g.B.AsOctets.limit (length y)) (sym (returns-clause-text g c octets parts s t)
     ∙ ap g.B.AsOctets.content c.from_utf8_unchecked.ensures) p))
-
--- the parts are unique
-
-pub returns-in-Some-clause-one_splitting : goal.returns-in-Some-clause-one_splitting
-returns-in-Some-clause-one_splitting g c = λ octets parts others s t. one_splitting s t
-
-pub returns-in-Some-clause-splitting : goal.returns-in-Some-clause-splitting
-returns-in-Some-clause-splitting g c = splitting
-
-pub returns-in_err-append_end-clause-one_splitting : goal.returns-in_err-append_end-clause-one_splitting
-returns-in_err-append_end-clause-one_splitting g c = λ octets parts others s t. one_splitting s t
-
-pub returns-in_err-append_end-clause-splitting : goal.returns-in_err-append_end-clause-splitting
-returns-in_err-append_end-clause-splitting g c = splitting
-
-pub returns-clause-one_splitting : goal.returns-clause-one_splitting
-returns-clause-one_splitting g c = λ octets parts others s t. one_splitting s t
-
-pub returns-clause-splitting : goal.returns-clause-splitting
-returns-clause-splitting g c = splitting
 
 -- if a refusal was met before
 
