@@ -4,7 +4,7 @@ use Rattle.std.proofs.Common.{subst, arith, append_assoc, length-append}
 use Rattle.std.proofs.Math.Seq.{take-append_seam, take-length}
 use Rattle.std.proofs.lemmas.List.{length-take-le}
 use Rattle.std.specs.Option.{IfSome}
-use Rattle.std.specs.Result.{OnErr, OnOk}
+use Rattle.std.specs.Result.{IsOk, OnErr, OnOk}
 use Rattle.std.specs.declared.result.Result.{Result}
 use Rattle.std.specs.declared.result.Result.TheVariants.{Ok, Err}
 use Rattle.octseq_utf8.specs.Text.{IsWellFormed}
@@ -55,3 +55,8 @@ pub counted_some : {T E : Type 0} (shown : Result T E) (count : ℕ) (o : Option
     → OnOk shown (o ≡ Some count) → OnErr shown (o ≡ None) → OnOk shown (P count) → IfSome o P
 counted_some (Ok x) count o P some none p = subst (λ o. IfSome o P) (sym some) p
 counted_some (Err y) count o P some none p = subst (λ o. IfSome o P) (sym none) tt
+
+-- what holds of a value that was shown
+pub when_shown : {T E P : Type 0} (shown : Result T E) → IsOk shown → OnOk shown P → P
+when_shown (Ok x) is p = p
+when_shown (Err y) is p = absurd (cc)

@@ -76,14 +76,6 @@ fn show_in<'a, K: Front, D: Display>(value: &D, out: &'a mut [u8]) -> Shown<'a>
     ensures len { length result.octets.now ≡ length out.old }
 {
     let mut writer = Writing::<K>::new(out);
-    match writer.write(value) {
-        Ok(()) => Shown {
-            octets: writer.into_octets(),
-            is_shown: true,
-        },
-        Err(_) => Shown {
-            octets: writer.into_octets(),
-            is_shown: false,
-        },
-    }
+    let shown = writer.write(value);
+    writer.finish(shown)
 }

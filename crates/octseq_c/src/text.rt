@@ -100,15 +100,5 @@ fn put_in<'a, K: Front>(message: &Message<&[u8]>, out: &'a mut [u8]) -> Shown<'a
 {
     let mut f = fmt::Formatter::new(Writing::<K>::new(out));
     let shown = fmt::Display::fmt(message, &mut f);
-    let writer = f.into_inner();
-    match shown {
-        Ok(()) => Shown {
-            octets: writer.into_octets(),
-            is_shown: true,
-        },
-        Err(_) => Shown {
-            octets: writer.into_octets(),
-            is_shown: false,
-        },
-    }
+    f.into_inner().finish(shown)
 }
