@@ -4,6 +4,9 @@ use Rattle.std.proofs.Common.{subst, arith, append_assoc, length-append}
 use Rattle.std.proofs.Math.Seq.{take-append_seam, take-length}
 use Rattle.std.proofs.lemmas.List.{length-take-le}
 use Rattle.std.specs.Option.{IfSome}
+use Rattle.std.specs.Result.{IsOk, OnErr, OnOk}
+use Rattle.std.specs.declared.result.Result.{Result}
+use Rattle.std.specs.declared.result.Result.TheVariants.{Ok, Err}
 use Rattle.octseq_utf8.specs.Text.{IsWellFormed}
 use Rattle.octseq_utf8.proofs.LossyTexts.{replacement_is_character, text_well_formed, text_same}
 use Rattle.octseq_utf8.proofs.Spelling.{spells_nothing}
@@ -46,3 +49,14 @@ put_front x more s n rest same few =
     ap (λ y. take (n + length s) (take n x ++ (y ++ rest))) same
     ∙ ap (take (n + length s)) (sym (append_assoc (take n x) s rest))
     ∙ ap (λ k. take k ((take n x ++ s) ++ rest)) long ∙ take-append_seam (take n x ++ s) rest
+
+-- what a count says if there is one
+pub counted_some : {T E : Type 0} (shown : Result T E) (count : ℕ) (o : Option ℕ) (P : ℕ → Type 0)
+    → OnOk shown (o ≡ Some count) → OnErr shown (o ≡ None) → OnOk shown (P count) → IfSome o P
+counted_some (Ok x) count o P some none p = subst (λ o. IfSome o P) (sym some) p
+counted_some (Err y) count o P some none p = subst (λ o. IfSome o P) (sym none) tt
+
+-- what holds of a value that was shown
+pub when_shown : {T E P : Type 0} (shown : Result T E) → IsOk shown → OnOk shown P → P
+when_shown (Ok x) is p = p
+when_shown (Err y) is p = absurd (cc)

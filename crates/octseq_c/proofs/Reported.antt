@@ -4,10 +4,10 @@ use Rattle.std.proofs.Common.{ap, sym, ◌∙◌, subst, length-append, ◌⊎�
 use Rattle.octseq_utf8.specs.Parts.{IsBeginning, Part, text}
 use Rattle.octseq_text.specs.Pieces.{Settles}
 use Rattle.octseq_text.specs.Progress.{IsOpenEnd}
-use Rattle.octseq_text.proofs.Settling.{one_settling, settles_end, text-append}
+use Rattle.octseq_text.proofs.Settling.{one_settling, settles_end}
 use Rattle.octseq_c.specs.LossyText.{IsLossyText, IsSettledText, IsState, end_text, held}
 use Rattle.octseq_c.specs.Puts.{Fills}
-use Rattle.octseq_c.specs.Settled.{IsMeasured, IsPastSize, IsReading}
+use Rattle.octseq_c.specs.Settled.{IsMeasured, IsPastSize}
 use Rattle.octseq_c.specs.declared.pieces.LossyState.{LossyState}
 use Rattle.octseq_c.proofs.Placed.{placed_more}
 use Rattle.octseq_c.proofs.Wholes.{whole_text}
@@ -52,14 +52,6 @@ lossy_past_end m written e past =
 
 pub one_settled_text : (x made other : List ℕ) → IsSettledText x made → IsSettledText x other → made ≡ other
 one_settled_text x made other (settled, end, s, e) (others, last, t, f) = e ∙ ap text (one_settling s t).0 ∙ sym f
-
-pub settled_made : {x some others end : List ℕ} {len : ℕ} (r : IsReading x some others end len)
-    → IsSettledText x (text r.before ++ text r.more)
-settled_made {end = end} r = (r.before ++ r.more, end, r.all, sym (text-append r.before r.more))
-
-pub settled_len : {x some others end : List ℕ} {len : ℕ} (r : IsReading x some others end len)
-    → len ≡ length (text r.before ++ text r.more)
-settled_len r = r.text_len ∙ sym (length-append (text r.before) (text r.more))
 
 -- the state that a call leaves
 

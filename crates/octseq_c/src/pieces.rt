@@ -4,18 +4,17 @@ ghost use Rattle.std.specs.Prelude.{IsTrue, IsSome, IfSome, IfNone};
 ghost use Rattle.std.specs.List.{concat};
 ghost use Rattle.octseq.specs.Parts.{IsBeginning, Part, Splits, text};
 ghost use Rattle.octseq.specs.Pieces.{Settles};
+ghost use Rattle.octseq_text.specs.Progress.{IsRead};
 ghost use Rattle.octseq_c.specs.LossyText.{IsSettledText, IsState, IsTextOfPieces, end_text, held};
 ghost use Rattle.octseq_c.specs.Puts.{Puts};
-ghost use Rattle.octseq_c.specs.Settled.{IsPastSize, IsReading, joined_len};
+ghost use Rattle.octseq_c.specs.Settled.{IsCompleted};
 ghost use Rattle.octseq_c.specs.Status.{status_ok, status_no_room, status_too_long, status_bad_state};
 
 use crate::room::put;
-use crate::settled::{fill, measure, replacement};
+use crate::settled::{REPLACEMENT, fill, measure, put_at, replacement};
 use crate::status::{BAD_STATE, NO_ROOM, OK, TOO_LONG};
-use octseq::array::Array;
-use octseq::builder::{OctetsBuilder, infallible};
-use octseq::utf8::find_fault;
-use std::cmp::min;
+use octseq::utf8::Turns;
+use octseq_text::completion::{Completed, complete};
 
 /// The state between two pieces: the octets of an incomplete character.
 #[repr(C)]
@@ -51,17 +50,18 @@ pub extern "C" fn octseq_lossy_piece(
     let Some(held) = octets_held(state) else {
         return BAD_STATE;
     };
-    let joined = join(held, piece);
-    let Some(reading) = plan(held, joined.as_slice(), piece) else {
+    let completed = completed(held, piece);
+    let (text, left) = split(&completed, piece);
+    let Some(extent) = measure(left, text.len()) else {
         return TOO_LONG;
     };
-    *written = reading.text_len;
-    if reading.text_len > out.len() {
+    *written = extent.text_len;
+    if extent.text_len > out.len() {
         return NO_ROOM;
     }
-    let at = fill(out, 0, reading.front);
-    fill(out, at, reading.rest);
-    *state = holding(reading.end);
+    let at = put_at(out, 0, text);
+    fill(out, at, left);
+    *state = holding(extent.end);
     OK
 }
 
@@ -124,9 +124,9 @@ fn octets_held(state: &LossyState) -> Option<&[u8]>
 fn is_open_end(octets: &[u8]) -> bool
     ensures { IsTrue result ↔ ((octets.now ≡ []) ⊎ IsBeginning octets.now) }
 {
-    match find_fault(octets) {
-        None => octets.is_empty(),
-        Some(fault) => fault.valid_up_to() == 0 && fault.error_len().is_none(),
+    match measure(octets, 0) {
+        Some(extent) => extent.end == octets,
+        None => false,
     }
 }
 
@@ -144,55 +144,28 @@ fn holding(end: &[u8]) -> LossyState
     }
 }
 
-/// The number of octets of a piece that are joined to those that are held.
-const JOINED: usize = 13;
-
-/// Joins the octets that are held and the beginning of the piece. If nothing is held, nothing is joined.
-fn join(held: &[u8], piece: &[u8]) -> Array<16>
-    requires { length held.now ≤ 3 }
-    ensures { result.content ≡ held.now ++ take (joined_len held.now piece.now) piece.now }
+/// Returns what the octets that are held are with those of the piece after them, if any are held.
+fn completed(held: &[u8], piece: &[u8]) -> Option<Completed>
+    requires { (held.now ≡ []) ⊎ IsBeginning held.now }
+    ensures { IsCompleted held.now piece.now result }
 {
-    let mut joined = Array::new();
     if held.is_empty() {
-        return joined;
+        None
+    } else {
+        Some(complete(held, piece, &mut Turns::new()))
     }
-    infallible(joined.append_slice(held));
-    infallible(joined.append_slice(&piece[..min(JOINED, piece.len())]));
-    joined
 }
 
-/// How a piece is read: the front first, and then the rest.
-#[derive(Drop)]
-struct Reading<'a> {
-    front: &'a [u8],
-    rest: &'a [u8],
-    text_len: usize,
-    end: &'a [u8],
-}
-
-/// Plans how a piece is read. Returns `None` if its text is longer than a `usize` can say.
-fn plan<'a>(held: &[u8], joined: &'a [u8], piece: &'a [u8]) -> Option<Reading<'a>>
-    requires { joined.now ≡ held.now ++ take (joined_len held.now piece.now) piece.now }
-    ensures some { IfSome result (λ reading.
-        IsReading (held.now ++ piece.now) reading.front.now reading.rest.now reading.end.now reading.text_len) }
-    ensures none { IfNone result (IsPastSize (held.now ++ piece.now) 0) }
+/// Returns the text of the first part if it is settled, and the octets that are left.
+fn split<'a>(completed: &'a Option<Completed>, piece: &'a [u8]) -> (&'a [u8], &'a [u8])
+    requires { (held : List ℕ) × IsCompleted held piece.now completed.now }
+    ensures { (held : List ℕ) → IsCompleted held piece.now completed.now
+        → IsRead (held ++ piece.now) result.1.now [] result.0.now }
 {
-    let front = measure(joined, 0)?;
-    let taken = joined.len() - held.len();
-    if taken == piece.len() {
-        return Some(Reading {
-            front: &joined[..0],
-            rest: joined,
-            text_len: front.text_len,
-            end: front.end,
-        });
+    match completed {
+        None => (b"", piece),
+        Some(Completed::Incomplete(end)) => (b"", end.as_slice()),
+        Some(Completed::Character(text, taken)) => (text.as_slice(), &piece[*taken..]),
+        Some(Completed::Invalid(taken)) => (REPLACEMENT, &piece[*taken..]),
     }
-    let rest = &piece[taken - front.end.len()..];
-    let all = measure(rest, front.text_len)?;
-    Some(Reading {
-        front: joined,
-        rest,
-        text_len: all.text_len,
-        end: all.end,
-    })
 }

@@ -8,7 +8,7 @@ ghost use Rattle.octseq_c.specs.Settled.{HasRoom, IsMeasured, IsPastSize};
 use octseq::utf8::chunks;
 
 /// U+FFFD, the text of each maximal ill-formed part.
-const REPLACEMENT: &[u8] = b"\xEF\xBF\xBD";
+pub const REPLACEMENT: &[u8] = b"\xEF\xBF\xBD";
 
 /// The length of the text of what is settled, and the open end.
 #[derive(Clone, Copy)]
@@ -32,9 +32,7 @@ pub fn measure(octets: &[u8], before: usize) -> Option<Extent<'_>>
             let end = chunk.invalid();
             return Some(Extent { text_len, end });
         }
-        if !chunk.invalid().is_empty() {
-            text_len = text_len.checked_add(REPLACEMENT.len())?;
-        }
+        text_len = text_len.checked_add(replacement(chunk.invalid()).len())?;
     }
     Some(Extent {
         text_len,
@@ -45,10 +43,9 @@ pub fn measure(octets: &[u8], before: usize) -> Option<Extent<'_>>
 /// Writes the text of what is settled, from index `before` on. Returns the index after it.
 pub fn fill(out: &mut [u8], before: usize, octets: &[u8]) -> usize
     requires { HasRoom octets.now before (length out.old) }
-    ensures end { (settled : List Part) (end : List ℕ) → Settles octets.now settled end
-        → result ≡ before + length (text settled) }
-    ensures text { (settled : List Part) (end : List ℕ) → Settles octets.now settled end
-        → out.new ≡ (take before out.old ++ text settled) ++ drop result out.old }
+    ensures { (settled : List Part) (end : List ℕ) → Settles octets.now settled end
+        → (result ≡ before + length (text settled))
+        × (out.new ≡ (take before out.old ++ text settled) ++ drop result out.old) }
 {
     let mut at = before;
     for chunk in chunks(octets) {
@@ -56,9 +53,7 @@ pub fn fill(out: &mut [u8], before: usize, octets: &[u8]) -> usize
         if chunk.is_incomplete() {
             return at;
         }
-        if !chunk.invalid().is_empty() {
-            at = put_at(out, at, REPLACEMENT);
-        }
+        at = put_at(out, at, replacement(chunk.invalid()));
     }
     at
 }

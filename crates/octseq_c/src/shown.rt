@@ -1,5 +1,5 @@
 //! Values shown in a caller's buffer. Their length is counted first, so that nothing is written if they don't fit.
-ghost use Rattle.std.specs.Prelude.{◌≡◌, ◌≢◌, ◌⊎◌, List, ℕ, length, IfSome, IsTrue};
+ghost use Rattle.std.specs.Prelude.{◌≡◌, ◌≢◌, ◌⊎◌, List, ℕ, Some, None, length, IfSome, IsTrue, OnOk, OnErr};
 ghost use Rattle.octseq.specs.Text.{IsWellFormed};
 ghost use Rattle.octseq_c.specs.Puts.{Puts};
 ghost use Rattle.octseq_c.specs.Status.{status_ok, status_no_room, status_unshown};
@@ -7,7 +7,7 @@ ghost use Rattle.octseq_c.specs.Status.{status_ok, status_no_room, status_unshow
 use crate::status::{NO_ROOM, OK, UNSHOWN};
 use crate::writing::{Front, Shown, Writing};
 use octseq::str::Counter;
-use std::fmt::{Display, Write};
+use std::fmt::{self, Display, Write};
 use std::marker::Brand;
 
 /// Writes a value to the front of a buffer.
@@ -40,7 +40,16 @@ fn shown_len<D: Display>(value: &D) -> Option<usize>
     ensures { IfSome result (λ len. IfSome (D.output value.now) (λ text. len ≡ length text)) }
 {
     let mut counter = Counter { count: 0 };
-    match counter.write(value) {
+    let shown = counter.write(value);
+    counted(shown, counter)
+}
+
+/// Returns the number of octets that were counted, or `None` if the value wasn't shown.
+pub fn counted(shown: fmt::Result, counter: Counter) -> Option<usize>
+    ensures ok { OnOk shown (result ≡ Some counter.count) }
+    ensures err { OnErr shown (result ≡ None) }
+{
+    match shown {
         Ok(()) => Some(counter.count),
         Err(_) => None,
     }
@@ -67,14 +76,6 @@ fn show_in<'a, K: Front, D: Display>(value: &D, out: &'a mut [u8]) -> Shown<'a>
     ensures len { length result.octets.now ≡ length out.old }
 {
     let mut writer = Writing::<K>::new(out);
-    match writer.write(value) {
-        Ok(()) => Shown {
-            octets: writer.into_octets(),
-            is_shown: true,
-        },
-        Err(_) => Shown {
-            octets: writer.into_octets(),
-            is_shown: false,
-        },
-    }
+    let shown = writer.write(value);
+    writer.finish(shown)
 }

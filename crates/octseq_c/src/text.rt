@@ -8,6 +8,7 @@ ghost use Rattle.octseq_c.specs.Rows.{IsSomeMessage};
 ghost use Rattle.octseq_c.specs.Status.{status_ok, status_no_room, status_malformed, status_unshown};
 ghost use Rattle.octseq_c.specs.Texts.{IsTextOf};
 
+use crate::shown::counted;
 use crate::status::{MALFORMED, NO_ROOM, OK, UNSHOWN};
 use crate::writing::{Front, Shown, Writing};
 use octseq::str::Counter;
@@ -69,11 +70,7 @@ fn text_len(message: &Message<&[u8]>) -> Option<usize>
 {
     let mut f = fmt::Formatter::new(Counter { count: 0 });
     let shown = fmt::Display::fmt(message, &mut f);
-    let counter = f.into_inner();
-    match shown {
-        Ok(()) => Some(counter.count),
-        Err(_) => None,
-    }
+    counted(shown, f.into_inner())
 }
 
 /// Writes the text of a message to a buffer of exactly its size.
@@ -103,15 +100,5 @@ fn put_in<'a, K: Front>(message: &Message<&[u8]>, out: &'a mut [u8]) -> Shown<'a
 {
     let mut f = fmt::Formatter::new(Writing::<K>::new(out));
     let shown = fmt::Display::fmt(message, &mut f);
-    let writer = f.into_inner();
-    match shown {
-        Ok(()) => Shown {
-            octets: writer.into_octets(),
-            is_shown: true,
-        },
-        Err(_) => Shown {
-            octets: writer.into_octets(),
-            is_shown: false,
-        },
-    }
+    f.into_inner().finish(shown)
 }

@@ -1,5 +1,5 @@
 //! A writer to a slice that a caller lends.
-ghost use Rattle.std.specs.Prelude.{◌≡◌, ◌≤◌, ◌++◌, ℕ, length, take};
+ghost use Rattle.std.specs.Prelude.{◌≡◌, ◌↔◌, ◌≤◌, ◌++◌, ℕ, length, take, IsTrue, IsOk};
 ghost use Rattle.std.specs.Borrow.{GName};
 ghost use Rattle.octseq_c.specs.OwnText.{IsText};
 
@@ -55,12 +55,16 @@ impl<'a, K: Front> Writing<'a, K> {
         }
     }
 
-    /// Returns the slice.
-    pub fn into_octets(self) -> &'a mut [u8]
-        ensures same { result.ghost_name ≡ K.lender }
-        ensures octets { result.now ≡ self.entry.octets.now }
+    /// Returns the slice, and whether the value was shown in it.
+    pub fn finish(self, shown: fmt::Result) -> Shown<'a>
+        ensures same { result.octets.ghost_name ≡ K.lender }
+        ensures octets { result.octets.now ≡ self.entry.octets.now }
+        ensures is_shown { IsTrue result.is_shown ↔ IsOk shown }
     {
-        self.octets
+        Shown {
+            octets: self.octets,
+            is_shown: shown.is_ok(),
+        }
     }
 }
 

@@ -50,10 +50,11 @@ returns-clause-puts c =
     let m = c.in-Some.ensures.measured in
     let end = c.replacement-end.result.now in
     let len = c.in-Some-checked_add.ensures.1 ∙ lossy_len m end in
+    let filled = c.fill-at.ensures _ _ m.settles in
     puts_ok (IsLossyText c.args.octets.now) (one_lossy_text _) (text m.settled ++ end)
     (lossy_made m end c.replacement-end.ensures) (omega (arith, len)) len
     (fills_both _ _ _ (text m.settled) end c.fill-at.result
-    (c.fill-at.ensures.end _ _ m.settles ∙ omega arith) (c.fill-at.ensures.text _ _ m.settles) c.put_at.ensures.octets)
+    (filled.0 ∙ omega arith) filled.1 c.put_at.ensures.octets)
 
 pub returns-clause-too_long : goal.returns-clause-too_long
 returns-clause-too_long c =

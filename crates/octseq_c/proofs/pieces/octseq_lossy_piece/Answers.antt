@@ -1,57 +1,58 @@
-use Rattle.std.proofs.Common.{arith, ap, ◌∙◌, ◌++◌, take, drop}
+use Rattle.std.proofs.Common.{arith, ap, refl, sym, ◌∙◌, ◌++◌, drop}
 use Rattle.octseq_utf8.specs.Parts.{text}
-use Rattle.octseq_c.specs.LossyText.{IsSettledText, held}
-use Rattle.octseq_c.proofs.Readings.{end_few}
-use Rattle.octseq_c.proofs.Puts.{puts_ok, puts_no_room, puts_none, not_reported}
-use Rattle.octseq_c.proofs.Reported.{fills_both, fits, state_left}
-use Rattle.octseq_c.proofs.Reported.{one_settled_text, settled_made, settled_len}
+use Rattle.octseq_c.proofs.Readings.{both_text, both_past, both_fit, both_settle, end_few}
+use Rattle.octseq_c.proofs.Puts.{puts_ok, puts_no_room, puts_none, reported, not_reported}
+use Rattle.octseq_c.proofs.Reported.{fills_both, one_settled_text, state_left}
 use Rattle.octseq_c.proofs.pieces.octseq_lossy_piece.Goals as goal
 
 -- the text is too long
 
-pub returns-in_default-plan-clause-puts : goal.returns-in_default-plan-clause-puts
-returns-in_default-plan-clause-puts c = λ is. puts_none _ 5 (λ e. omega arith) (λ e. omega arith) (one_settled_text _)
+pub returns-in_default-measure-clause-puts : goal.returns-in_default-measure-clause-puts
+returns-in_default-measure-clause-puts c = λ is. puts_none _ 5 (λ e. omega arith) (λ e. omega arith) (one_settled_text _)
+
+pub returns-in_default-measure-clause-too_long : goal.returns-in_default-measure-clause-too_long
+returns-in_default-measure-clause-too_long c =
+    let read = rw c.in-Some.ensures.some at (c.split.ensures _ c.completed-completed.ensures) in
+    reported 5 (c.in-Some.ensures.variant.0 refl, both_past read c.in_default-measure.ensures.past)
 
 -- there is no room
 
-pub returns-then-reading-out-clause-puts : goal.returns-then-reading-out-clause-puts
-returns-then-reading-out-clause-puts c =
-    let r = rw c.in-Some.ensures.some at c.in-Some-plan.ensures.some in
-    λ is. puts_no_room (IsSettledText (held c.args.state.now ++ c.args.piece.now)) (one_settled_text _)
-    (text r.before ++ text r.more) (settled_made r) (omega (arith, settled_len r)) (settled_len r)
+pub returns-then-extent-out-clause-puts : goal.returns-then-extent-out-clause-puts
+returns-then-extent-out-clause-puts c =
+    let read = rw c.in-Some.ensures.some at (c.split.ensures _ c.completed-completed.ensures) in
+    let both = both_text read c.in-Some-measure.ensures.measured in
+    λ is. puts_no_room _ (one_settled_text _) _ both.0 (omega (arith, both.1)) both.1
 
-pub returns-then-reading-out-clause-too_long : goal.returns-then-reading-out-clause-too_long
-returns-then-reading-out-clause-too_long c =
-    let r = rw c.in-Some.ensures.some at c.in-Some-plan.ensures.some in
-    not_reported 1 5 (λ e. omega arith)
-    (λ p. fits {Is = IsSettledText (held c.args.state.now ++ c.args.piece.now)} (one_settled_text _)
-    (text r.before ++ text r.more) (settled_made r) (omega (arith, settled_len r, r.fits)) p.1)
+pub returns-then-extent-out-clause-too_long : goal.returns-then-extent-out-clause-too_long
+returns-then-extent-out-clause-too_long c =
+    let read = rw c.in-Some.ensures.some at (c.split.ensures _ c.completed-completed.ensures) in
+    not_reported 1 5 (λ e. omega arith) (λ p. both_fit read c.in-Some-measure.ensures.measured p.1)
 
 -- it was written
 
 pub holding-requires : goal.holding-requires
-holding-requires c = end_few c.in-Some-plan.ensures.some.all
+holding-requires c = end_few c.in-Some-measure.ensures.measured.settles
 
 pub returns-clause-puts : goal.returns-clause-puts
 returns-clause-puts c =
-    let r = rw c.in-Some.ensures.some at c.in-Some-plan.ensures.some in
-    let at = c.fill-at.result in
-    let mid = c.fill-at.new.out in
-    λ is. puts_ok (IsSettledText (held c.args.state.now ++ c.args.piece.now)) (one_settled_text _)
-    (text r.before ++ text r.more) (settled_made r) (omega (arith, settled_len r)) (settled_len r)
-    (fills_both _ mid _ (text r.before) (text r.more) at (c.fill-at.ensures.end _ _ r.front ∙ omega arith)
-    (c.fill-at.ensures.text _ _ r.front)
-    (c.fill.ensures.text _ _ r.rest ∙ ap (λ k. (take at mid ++ text r.more) ++ drop k mid)
-    (c.fill.ensures.end _ _ r.rest)))
+    let read = rw c.in-Some.ensures.some at (c.split.ensures _ c.completed-completed.ensures) in
+    let m = c.in-Some-measure.ensures.measured in
+    let both = both_text read m in
+    let first = c.split.result.0.now in
+    let filled = c.fill.ensures _ _ m.settles in
+    λ is. puts_ok _ (one_settled_text _) _ both.0 (omega (arith, both.1)) both.1
+    (fills_both _ c.put_at-at.new.out _ first (text m.settled) c.put_at-at.result
+    (c.put_at-at.ensures.end ∙ omega arith)
+    (c.put_at-at.ensures.octets ∙ ap (λ k. first ++ drop k c.args.out.now) (sym c.put_at-at.ensures.end))
+    (rw (sym filled.0) filled.1))
 
 pub returns-clause-state : goal.returns-clause-state
 returns-clause-state c =
-    let r = rw c.in-Some.ensures.some at c.in-Some-plan.ensures.some in
-    λ ok. state_left c.holding.result r.all c.holding.ensures.len c.holding.ensures.held
+    let read = rw c.in-Some.ensures.some at (c.split.ensures _ c.completed-completed.ensures) in
+    λ ok. state_left c.holding.result (both_settle read c.in-Some-measure.ensures.measured.settles) c.holding.ensures.len
+    c.holding.ensures.held
 
 pub returns-clause-too_long : goal.returns-clause-too_long
 returns-clause-too_long c =
-    let r = rw c.in-Some.ensures.some at c.in-Some-plan.ensures.some in
-    not_reported 0 5 (λ e. omega arith)
-    (λ p. fits {Is = IsSettledText (held c.args.state.now ++ c.args.piece.now)} (one_settled_text _)
-    (text r.before ++ text r.more) (settled_made r) (omega (arith, settled_len r)) p.1)
+    let read = rw c.in-Some.ensures.some at (c.split.ensures _ c.completed-completed.ensures) in
+    not_reported 0 5 (λ e. omega arith) (λ p. both_fit read c.in-Some-measure.ensures.measured p.1)

@@ -1,5 +1,6 @@
-use Rattle.std.proofs.Common.{rules, ◌≡◌, ◌+◌, [], ◌∷◌, length, refl, arith, ap, sym, ◌∙◌, subst}
-use Rattle.octseq_text.proofs.Piecewise.{read_valid, read_chunk, read_to_end}
+use Rattle.std.proofs.Common.{[], ◌+◌, length, refl, arith, ap, sym, ◌∙◌, subst}
+use Rattle.octseq_text.proofs.Piecewise.{read_valid, read_to_end}
+use Rattle.octseq_c.specs.LossyText.{end_text}
 use Rattle.octseq_c.proofs.SettledTexts.{ReadsTo, to_start, to_more, read_mark, past_size, measured}
 use Rattle.octseq_c.proofs.settled.measure.Goals as goal
 
@@ -9,7 +10,7 @@ loop-chunk-init c = rw (c.into_iter-chunk-iterator.ensures.into_iter_gives, c.ch
 
 pub returns-in_err-text_len-clause-past : goal.returns-in_err-text_len-clause-past
 returns-in_err-text_len-clause-past c =
-    let valid = to_more c.in-Some.chunk.valid c.loop-chunk.invariant.read (read_valid _ _ _ c.in-Some.ensures.steps) refl in
+    let valid = to_more c.loop-chunk.invariant.read (read_valid _ _ _ c.in-Some.ensures.steps []) refl in
     rw c.from_residual.ensures (past_size valid (omega (arith, ap length c.valid.ensures, c.in_err-text_len.ensures)))
 
 pub returns-then-is_incomplete-clause-measured : goal.returns-then-is_incomplete-clause-measured
@@ -17,37 +18,28 @@ returns-then-is_incomplete-clause-measured c =
     let gives = c.in-Some.ensures.steps in
     let cut = sym c.is_incomplete.ensures ∙ c.if-is_incomplete.true in
     let long = c.in_ok-text_len.ensures.1 ∙ ap (λ y. c.loop-chunk.text_len + length y) c.valid.ensures in
-    let all = to_more c.in-Some.chunk.valid c.loop-chunk.invariant.read (read_to_end _ _ _ gives cut) long in
+    let all = to_more c.loop-chunk.invariant.read (read_to_end _ _ _ gives cut []) long in
     rw c.invalid-end.ensures (measured all (λ some. (gives.cut.0 cut).0) (omega (arith, c.in_ok-text_len.ensures)))
 
 pub returns-in_err-text_len-2-clause-past : goal.returns-in_err-text_len-2-clause-past
 returns-in_err-text_len-2-clause-past c =
     let gives = c.in-Some.ensures.steps in
     let long = c.in_ok-text_len.ensures.1 ∙ ap (λ y. c.loop-chunk.text_len + length y) c.valid.ensures in
-    let valid = to_more c.in-Some.chunk.valid c.loop-chunk.invariant.read (read_valid _ _ _ gives) long in
-    let all = to_more (0xEF ∷ 0xBF ∷ 0xBD ∷ []) valid (read_mark _ _ _ gives _ c.is_incomplete.ensures
-    c.if-is_incomplete.false _ _ c.invalid.ensures c.is_empty.ensures c.if-not-is_empty.true) refl in
-    rw c.from_residual-in_err-text_len-2.ensures (past_size all (omega (arith, c.in_err-text_len-2.ensures)))
-
-pub loop-chunk-preserved-then-not-is_empty : goal.loop-chunk-preserved-then-not-is_empty
-loop-chunk-preserved-then-not-is_empty c =
-    let gives = c.in-Some.ensures.steps in
-    let long = c.in_ok-text_len.ensures.1 ∙ ap (λ y. c.loop-chunk.text_len + length y) c.valid.ensures in
-    let valid = to_more c.in-Some.chunk.valid c.loop-chunk.invariant.read (read_valid _ _ _ gives) long in
-    record {
-      read = to_more (0xEF ∷ 0xBF ∷ 0xBD ∷ []) valid (read_mark _ _ _ gives _ c.is_incomplete.ensures
-          c.if-is_incomplete.false _ _ c.invalid.ensures c.is_empty.ensures c.if-not-is_empty.true) c.in_ok-text_len-2.ensures.1;
-      fits = omega (arith, c.in_ok-text_len-2.ensures);
-    }
+    let valid = to_more c.loop-chunk.invariant.read (read_valid _ _ _ gives []) long in
+    let all = to_more valid (read_mark _ _ _ gives _ c.is_incomplete.ensures c.if-is_incomplete.false) refl in
+    let mark = c.replacement.ensures ∙ ap end_text c.invalid.ensures in
+    rw c.from_residual-in_err-text_len-2.ensures (past_size all (omega (arith, ap length mark, c.in_err-text_len-2.ensures)))
 
 pub loop-chunk-preserved : goal.loop-chunk-preserved
 loop-chunk-preserved c =
-    let none : length c.in-Some.chunk.invalid ≡ 0 = search rules in
+    let gives = c.in-Some.ensures.steps in
     let long = c.in_ok-text_len.ensures.1 ∙ ap (λ y. c.loop-chunk.text_len + length y) c.valid.ensures in
+    let valid = to_more c.loop-chunk.invariant.read (read_valid _ _ _ gives []) long in
+    let mark = c.replacement.ensures ∙ ap end_text c.invalid.ensures in
     record {
-      read = to_more c.in-Some.chunk.valid c.loop-chunk.invariant.read (read_chunk _ _ _ c.in-Some.ensures.steps none)
-          long;
-      fits = omega (arith, c.in_ok-text_len.ensures);
+      read = to_more valid (read_mark _ _ _ gives _ c.is_incomplete.ensures c.if-is_incomplete.false)
+          (c.in_ok-text_len-2.ensures.1 ∙ ap (λ y. c.in_ok-text_len.text_len + length y) mark);
+      fits = omega (arith, c.in_ok-text_len-2.ensures);
     }
 
 pub returns-clause-measured : goal.returns-clause-measured
