@@ -120,6 +120,7 @@ fn append_name_at<B: OctetsBuilder + Truncate, T: Compressor, R: AsOctets + Copy
     ensures size { length (B.content octets.new) ≤ 65535 }
     ensures memory { IsMemory append_error result → (B.asks ≡ true) ⊎ (T.asks ≡ true) }
     ensures borrows { B.borrows octets.new ≡ B.borrows octets.old }
+    ensures on { turns.old ≤ turns.new }
     ensures turns { turns.new ≤ turns.old + 17 * length (labels_of name.now) }
     ensures least { OnOk result (turns.old + length (labels_of name.now) + length (B.content octets.old)
         ≤ turns.new + length (B.content octets.new)) }
@@ -163,6 +164,7 @@ fn append_long_name<B: OctetsBuilder + Truncate, T: Compressor, R: AsOctets + Co
     ensures size { length (B.content octets.new) ≤ 65535 }
     ensures memory { IsMemory append_error result → (B.asks ≡ true) ⊎ (T.asks ≡ true) }
     ensures borrows { B.borrows octets.new ≡ B.borrows octets.old }
+    ensures on { turns.old ≤ turns.new }
     ensures turns { turns.new ≤ turns.old + 17 * length (labels_of name.now) }
     ensures least { OnOk result (turns.old + length (labels_of name.now) + length (B.content octets.old)
         ≤ turns.new + length (B.content octets.new)) }
@@ -196,6 +198,7 @@ pub(crate) fn append_name<B: OctetsBuilder + Truncate, T: Compressor, R: AsOctet
     ensures size { length (B.content octets.new) ≤ 65535 }
     ensures memory { IsMemory append_error result → (B.asks ≡ true) ⊎ (T.asks ≡ true) }
     ensures borrows { B.borrows octets.new ≡ B.borrows octets.old }
+    ensures on { turns.old ≤ turns.new }
     ensures turns { turns.new ≤ turns.old + 17 * length (labels_of name.now) }
     ensures least { OnOk result (turns.old + length (labels_of name.now) + length (B.content octets.old)
         ≤ turns.new + length (B.content octets.new)) }

@@ -168,6 +168,7 @@ impl<B: OctetsBuilder + Truncate, T: Compressor> Composer<B, T> {
             (length (with_name T.most self.old.state (labels_of name.now)).octets) → IsShort append_error result }
         ensures fits { NameFits (labels_of name.now) }
         ensures borrows { B.borrows self.new.octets ≡ B.borrows self.old.octets }
+        ensures on { turns.old ≤ turns.new }
         ensures turns { turns.new ≤ turns.old + 17 * length (labels_of name.now) }
         ensures least { OnOk result (turns.old + length (labels_of name.now) + length self.old.state.octets
             ≤ turns.new + length self.new.state.octets) }

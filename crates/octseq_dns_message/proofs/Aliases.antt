@@ -8,10 +8,12 @@ use Rattle.octseq_dns_data.specs.Data.{ParsedRdata}
 use Rattle.octseq_dns_data.specs.Typed.{rdata_of}
 use Rattle.octseq_dns_data.specs.declared.data.Data.{Data}
 use Rattle.octseq_dns_data.specs.declared.data.Data.TheVariants as kind
+use Rattle.octseq_dns_message.specs.AliasTurns.{alias_turns, chain_turns, canonical_turns}
 use Rattle.octseq_dns_message.specs.Canonical.{IsAlias, LeadsTo, Chain, IsCanonical}
 use Rattle.octseq_dns_message.specs.Entry.{Question, Record}
 use Rattle.octseq_dns_message.proofs.RecordData.{one_said}
 use Rattle.octseq_dns_name.specs.Name.{Name}
+use Rattle.octseq_dns_name.specs.NameFormat.{least_turns}
 use Rattle.octseq_dns_name.specs.declared.name.ParsedName.{ParsedName}
 
 cname_in : Name → ParsedRdata → Name
@@ -87,3 +89,68 @@ pub more_turns : (followed each start before after : ℕ) → before ≤ start +
 more_turns followed each start before after most more =
     let one : (followed + 1) * each ≡ followed * each + each = grind arith in
     omega (arith, one, most, more)
+
+-- ---- turns
+
+-- an alias takes the same turns however it is shown that a record makes it one
+pub same_alias_turns : (class : ℕ) (records : List Record) (name a b : Name) (x : LeadsTo class records name a)
+    (y : LeadsTo class records name b) → alias_turns class records name a x ≡ alias_turns class records name b y
+same_alias_turns class [] name a b x y = absurd x
+same_alias_turns class (r ∷ records) name a b (inl x) (inl y) =
+    ap (λ target. 1 + least_turns target) (one_alias class name r a b x y)
+same_alias_turns class (r ∷ records) name a b (inl x) (inr y) = absurd (y.0 a x)
+same_alias_turns class (r ∷ records) name a b (inr x) (inl y) = absurd (x.0 b y)
+same_alias_turns class (r ∷ records) name a b (inr x) (inr y) =
+    ap (λ n. 1 + n) (same_alias_turns class records name a b x.1 y.1)
+
+-- and so does a chain
+pub same_chain_turns : (class : ℕ) (records : List Record) (n m : ℕ) (name a b : Name)
+    (x : Chain class records n name a) (y : Chain class records m name b)
+    → chain_turns class records n name a x ≡ chain_turns class records m name b y
+same_chain_turns class records zero zero name a b x y = refl
+same_chain_turns class records zero (suc m) name a b x y = absurd (x.1 y.0 y.1)
+same_chain_turns class records (suc n) zero name a b x y = absurd (y.1 x.0 x.1)
+same_chain_turns class records (suc n) (suc m) name a b x y =
+    let first = same_alias_turns class records name x.0 y.0 x.1 y.1 in
+    let others = subst (λ t. (z : Chain class records m t b)
+    → chain_turns class records n x.0 a x.2 ≡ chain_turns class records m t b z)
+    (one_target class records name x.0 y.0 x.1 y.1) (same_chain_turns class records n m x.0 a b x.2) y.2 in
+    omega (arith, first, others)
+
+-- an alias takes a turn for a record, and one for the root of its target
+pub alias_takes : (class : ℕ) (records : List Record) (name target : Name) (is : LeadsTo class records name target)
+    → 2 ≤ alias_turns class records name target is
+alias_takes class [] name target is = absurd is
+alias_takes class (r ∷ records) name target (inl is) = omega arith
+alias_takes class (r ∷ records) name target (inr is) =
+    let others = alias_takes class records name target is.1 in omega (arith, others)
+
+-- the first of some records makes the name an alias
+pub found_first : (class : ℕ) (r : Record) (all records : List Record) (name target : Name) → all ≡ r ∷ records
+    → IsAlias class name r target
+    → (is : LeadsTo class all name target) × (alias_turns class all name target is ≡ 1 + least_turns target)
+found_first class r all records name target same alias =
+    subst (λ l. (is : LeadsTo class l name target) × (alias_turns class l name target is ≡ 1 + least_turns target))
+    (sym same) (inl alias, refl)
+
+-- or doesn't, and is passed over
+pub found_later : (class : ℕ) (r : Record) (all records : List Record) (name target : Name) → all ≡ r ∷ records
+    → ((other : Name) → IsAlias class name r other → ⊥) → (later : LeadsTo class records name target)
+    → (is : LeadsTo class all name target)
+    × (alias_turns class all name target is ≡ 1 + alias_turns class records name target later)
+found_later class r all records name target same none later =
+    subst (λ l. (is : LeadsTo class l name target)
+    × (alias_turns class l name target is ≡ 1 + alias_turns class records name target later))
+    (sym same) (inr (none, later), refl)
+
+-- a message with a first question took the turns that the chain from its qname takes
+pub canonical_takes : (questions : List Question) (answers : List Record) (q : Question) (last : Name) (old now : ℕ)
+    → Some q ≡ slice_get questions 0
+    → ((n : ℕ) (is : Chain q.qclass answers n q.qname last)
+    → old + chain_turns q.qclass answers n q.qname last is ≤ now)
+    → (is : IsCanonical questions answers last) → old + canonical_turns questions answers last is ≤ now
+canonical_takes [] answers q last old now first took is = absurd is
+canonical_takes (x ∷ questions) answers q last old now first took is =
+    subst (λ q. (n : ℕ) (is : Chain q.qclass answers n q.qname last)
+    → old + chain_turns q.qclass answers n q.qname last is ≤ now)
+    (same_Some q x first) took is.0 is.2

@@ -1,3 +1,4 @@
+pub mod AliasTurns
 pub mod Canonical
 pub mod Edns
 pub mod Entry

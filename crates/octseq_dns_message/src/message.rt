@@ -118,6 +118,7 @@ impl<R: AsOctets + Copy> Message<R> {
             (answers authorities additionals : List said.Record)
             → ¬ IsMessage (R.content octets) header questions answers authorities additionals }
         ensures turns { turns.new ≤ turns.old + 51 * length (R.content octets) + 255 }
+        ensures some { turns.old ≤ turns.new }
         ensures entries { IfOk result (λ message. turns.new ≤ turns.old + 255 * ((counts_of message).qdcount
             + (counts_of message).ancount + (counts_of message).nscount + (counts_of message).arcount)) }
         ensures least { IfOk result (λ message. turns.old + message_turns message ≤ turns.new) }

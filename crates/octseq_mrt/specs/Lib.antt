@@ -8,6 +8,7 @@ pub mod OneFrame
 pub mod OneListed
 pub mod Parsed
 pub mod Peer
+pub mod ReadTurns
 pub mod Record
 pub mod RecordReader
 pub mod RecordText

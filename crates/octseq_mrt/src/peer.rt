@@ -125,6 +125,8 @@ fn pass_peers<R: AsOctets + Copy>(
     ensures peers { OnOk result ((row : List said.Peer)
         × Many count IsPeer (window parser.old) row (window parser.new)) }
     ensures malformed { IsErr result → NoneAt (Many count IsPeer) (window parser.old) }
+    ensures some { turns.old ≤ turns.new }
+    ensures least { OnOk result (turns.old + count ≤ turns.new) }
     ensures turns { turns.new ≤ turns.old + left (window parser.old) }
 {
     for taken in 0..count {
@@ -158,7 +160,8 @@ impl<R: AsOctets + Copy> Clone for PeerIndexTable<R> {
 }
 
 impl<R: AsOctets + Copy> PeerIndexTable<R> {
-    ghost use Rattle.octseq_mrt.specs.Parsed.{table_of};
+    ghost use Rattle.std.specs.Prelude.{length};
+    ghost use Rattle.octseq_mrt.specs.Parsed.{table_of, peers_left};
 
     /// Reads all that a parser has left as a peer index table, and counts a turn for each peer.
     pub(crate) fn parse_counted(
@@ -167,6 +170,8 @@ impl<R: AsOctets + Copy> PeerIndexTable<R> {
     ) -> Result<PeerIndexTable<R>, Malformed>
         ensures table { IfOk result (λ table. IsPeerIndexTable (window parser) (table_of table)) }
         ensures malformed { IsErr result → (table : said.PeerIndexTable) → ¬ IsPeerIndexTable (window parser) table }
+        ensures some { turns.old ≤ turns.new }
+        ensures least { IfOk result (λ table. turns.old + length (peers_left table.peers) ≤ turns.new) }
         ensures turns { turns.new ≤ turns.old + left (window parser) }
     {
         let mut ahead = parser;

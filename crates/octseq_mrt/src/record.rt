@@ -4,6 +4,7 @@ ghost use Rattle.octseq.specs.Parser.{window, sequence};
 ghost use Rattle.octseq.specs.Window.{Window, left};
 ghost use Rattle.octseq_format.specs.Laws.{NoneAt};
 ghost use Rattle.octseq_mrt.specs.Header.{IsRecord};
+ghost use Rattle.octseq_mrt.specs.ReadTurns.{record_turns};
 ghost use Rattle.octseq_mrt.specs.Record as said;
 ghost use Rattle.octseq_mrt.specs.Record.{AreRecord, HasForm, IsTyped, IsValue};
 ghost use Rattle.octseq_mrt.specs.declared.header.CommonHeader.{CommonHeader as Header};
@@ -87,6 +88,8 @@ impl<R: AsOctets + Copy> RecordValue<R> {
     ) -> Result<RecordValue<R>, Malformed>
         ensures value { IfOk result (λ value. HasForm kind (window parser) (value_of value)) }
         ensures malformed { IsErr result → (value : said.Value) → ¬ HasForm kind (window parser) value }
+        ensures some { turns.old ≤ turns.new }
+        ensures least { IfOk result (λ value. turns.old + record_turns (value_of value) ≤ turns.new) }
         ensures turns { turns.new ≤ turns.old + left (window parser) }
     {
         Ok(match kind {
@@ -142,6 +145,8 @@ impl<R: AsOctets + Copy> Record<R> {
             IsTyped self.now.header (window self.now.octets) (value_of value)) }
         ensures malformed { IsErr result → (value : said.Value)
             → ¬ IsTyped self.now.header (window self.now.octets) value }
+        ensures some { turns.old ≤ turns.new }
+        ensures least { IfOk result (λ value. turns.old + record_turns (value_of value) ≤ turns.new) }
         ensures turns { turns.new ≤ turns.old + left (window self.now.octets) }
     {
         let Some(kind) = RecordKind::from_numbers(self.header.type_code, self.header.subtype) else {
@@ -162,6 +167,8 @@ impl<R: AsOctets + Copy> Record<R> {
     /// after the header.
     pub fn value_counted(&self, turns: &mut Turns) -> RecordValue<R>
         ensures value { IsValue self.now.header (window self.now.octets) (value_of result) }
+        ensures some { turns.old ≤ turns.new }
+        ensures least { turns.old + record_turns (value_of result) ≤ turns.new }
         ensures turns { turns.new ≤ turns.old + left (window self.now.octets) }
     {
         match self.typed(turns) {

@@ -1,5 +1,5 @@
 //! RIBs: RFC 6396, 4.3.2 and 4.3.4, and RFC 8050, 4.
-ghost use Rattle.std.specs.Prelude.{◌≡◌, ◌+◌, ◌<◌, ◌≤◌, ℕ, Option, None, List, IsErr, IfOk, OnOk, ⊤};
+ghost use Rattle.std.specs.Prelude.{◌≡◌, ◌+◌, ◌<◌, ◌≤◌, ℕ, Option, None, List, length, IsErr, IfOk, OnOk, ⊤};
 ghost use Rattle.octseq.specs.Parser.{window};
 ghost use Rattle.octseq.specs.Window.{Window, left};
 ghost use Rattle.octseq_format.specs.Laws.{NoneAt};
@@ -8,6 +8,7 @@ ghost use Rattle.octseq_bgp.specs.Entry.{IsPrefix};
 ghost use Rattle.octseq_bgp.specs.Family.{afi_of};
 ghost use Rattle.octseq_mrt.specs.Address.{address_bits};
 ghost use Rattle.octseq_mrt.specs.Listed.{EntriesAhead, entries_once};
+ghost use Rattle.octseq_mrt.specs.ReadTurns.{entries_turns};
 ghost use Rattle.octseq_mrt.specs.Rib as said;
 ghost use Rattle.octseq_mrt.specs.Rib.{path_of, HasEntryParts, IsRibEntry, IsRib};
 
@@ -81,6 +82,9 @@ fn pass_entry<R: AsOctets + Copy>(
     ensures entry { OnOk result ((entry : said.RibEntry)
         × IsRibEntry paths (window parser.old) entry (window parser.new)) }
     ensures malformed { IsErr result → NoneAt (IsRibEntry paths) (window parser.old) }
+    ensures some { turns.old ≤ turns.new }
+    ensures least { OnOk result ((entry : said.RibEntry) (end : Window)
+        → IsRibEntry paths (window parser.old) entry end → turns.old + length entry.attributes ≤ turns.new) }
     ensures turns { turns.new ≤ turns.old + left (window parser.old) }
     ensures took { OnOk result (turns.new + left (window parser.new) < turns.old + left (window parser.old)) }
 {
@@ -162,6 +166,9 @@ fn pass_entries<R: AsOctets + Copy>(
     ensures entries { OnOk result ((row : List said.RibEntry)
         × Many count (IsRibEntry paths) (window parser.old) row (window parser.new)) }
     ensures malformed { IsErr result → NoneAt (Many count (IsRibEntry paths)) (window parser.old) }
+    ensures some { turns.old ≤ turns.new }
+    ensures least { OnOk result ((row : List said.RibEntry) (end : Window)
+        → Many count (IsRibEntry paths) (window parser.old) row end → turns.old + entries_turns row ≤ turns.new) }
     ensures turns { turns.new ≤ turns.old + left (window parser.old) }
 {
     for taken in 0..count {
@@ -237,6 +244,8 @@ impl<R: AsOctets + Copy> Rib<R> {
     ) -> Result<Rib<R>, Malformed>
         ensures rib { IfOk result (λ rib. IsRib family paths (window parser) (rib_of rib)) }
         ensures malformed { IsErr result → (rib : said.Rib) → ¬ IsRib family paths (window parser) rib }
+        ensures some { turns.old ≤ turns.new }
+        ensures least { IfOk result (λ rib. turns.old + entries_turns (rib_of rib).entries ≤ turns.new) }
         ensures turns { turns.new ≤ turns.old + left (window parser) }
     {
         let mut ahead = parser;

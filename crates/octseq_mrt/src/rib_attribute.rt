@@ -1,5 +1,5 @@
 //! The path attributes of a RIB entry: RFC 6396, 4.3.4.
-ghost use Rattle.std.specs.Prelude.{◌≡◌, ◌+◌, ◌≤◌, ◌↔◌, List, IsTrue, IsErr, IfOk, IfSome, IsNone, OnOk, ⊤};
+ghost use Rattle.std.specs.Prelude.{◌≡◌, ◌+◌, ◌≤◌, ◌↔◌, List, length, IsTrue, IsErr, IfOk, IfSome, IsNone, OnOk, ⊤};
 ghost use Rattle.octseq.specs.Parser.{window};
 ghost use Rattle.octseq.specs.Window.{Window, left};
 ghost use Rattle.octseq_format.specs.Laws.{NoneAt};
@@ -7,6 +7,7 @@ ghost use Rattle.octseq_bgp.specs.Entry.{Entry, IsEntry};
 ghost use Rattle.octseq_bgp.specs.Fills.{Fills};
 ghost use Rattle.octseq_bgp.specs.declared.entry.Form.TheVariants as form;
 ghost use Rattle.octseq_mrt.specs.Listed.{AttributesAhead, attributes_once};
+ghost use Rattle.octseq_mrt.specs.ReadTurns.{rib_value_turns};
 ghost use Rattle.octseq_mrt.specs.Rib.{rib_session, is_next_hop_size, IsNextHopAlone, IsRibValue};
 
 use octseq::{AsOctets, Malformed, Parser, Turns};
@@ -128,6 +129,9 @@ pub(crate) fn pass_attributes<R: AsOctets + Copy>(
 ) -> Result<(), Malformed>
     ensures attributes { OnOk result ((row : List Entry) × Fills (IsEntry form.Attribute) (window parser.old) row) }
     ensures malformed { IsErr result → (row : List Entry) → ¬ Fills (IsEntry form.Attribute) (window parser.old) row }
+    ensures some { turns.old ≤ turns.new }
+    ensures least { OnOk result ((row : List Entry) → Fills (IsEntry form.Attribute) (window parser.old) row
+        → turns.old + length row ≤ turns.new) }
     ensures turns { turns.new ≤ turns.old + left (window parser.old) }
 {
     let mut left = parser.remaining();
@@ -229,6 +233,8 @@ impl<R: AsOctets + Copy> RibAttribute<R> {
     /// Does the same, and counts the loop turns: one for each segment and prefix, at most one for each octet.
     pub fn value_counted(&self, turns: &mut Turns) -> RibValue<R>
         ensures value { IsRibValue self.now.type_code (window self.now.value) (rib_value_of result) }
+        ensures some { turns.old ≤ turns.new }
+        ensures least { turns.old + rib_value_turns (rib_value_of result) ≤ turns.new }
         ensures turns { turns.new ≤ turns.old + left (window self.now.value) }
     {
         match self.next_hop_alone() {

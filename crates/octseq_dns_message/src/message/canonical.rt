@@ -1,10 +1,12 @@
 //! The canonical name for the qname of a message: RFC 1034, 3.6.2.
-ghost use Rattle.std.specs.Prelude.{◌≡◌, ◌+◌, ◌*◌, ◌≤◌, List, length, IsSome, IsNone, IfSome};
+ghost use Rattle.std.specs.Prelude.{◌≡◌, ◌+◌, ◌*◌, ◌<◌, ◌≤◌, List, length, IsSome, IsNone, IfSome};
+ghost use Rattle.octseq_dns_message.specs.AliasTurns.{alias_turns, canonical_turns};
 ghost use Rattle.octseq_dns_message.specs.Canonical.{IsAlias, LeadsTo, IsCanonical};
 ghost use Rattle.octseq_dns_message.specs.Entry as said;
 ghost use Rattle.octseq_dns_message.specs.Said.{record_of};
 ghost use Rattle.octseq_dns_message.specs.Walk.{records_left};
 ghost use Rattle.octseq_dns_name.specs.Name as named;
+ghost use Rattle.octseq_dns_name.specs.NameFormat.{least_turns};
 ghost use Rattle.octseq_dns_name.specs.Read.{name_of};
 
 use crate::message::{Message, Record, Records};
@@ -41,12 +43,18 @@ impl<R: AsOctets + Copy> Message<R> {
     }
 
     /// Returns the same as [`canonical_name`](Self::canonical_name), and counts a turn for each answer that it looks
-    /// at, and the turns that the names in data take.
+    /// at, and the turns that the names in data take. So an alias takes at least two: one for the answer, and one for
+    /// the root of its target.
     pub fn canonical_name_counted(&self, turns: &mut Turns) -> Option<ParsedName<R>>
         ensures canonical { IfSome result (λ name.
             IsCanonical (questions_of self.now) (answers_of self.now) (name_of name)) }
         ensures none { IsNone result → (name : named.Name)
             → ¬ IsCanonical (questions_of self.now) (answers_of self.now) name }
+        ensures some { turns.old ≤ turns.new }
+        ensures least { IfSome result (λ name.
+            (is : IsCanonical (questions_of self.now) (answers_of self.now) (name_of name))
+            → turns.old + canonical_turns (questions_of self.now) (answers_of self.now) (name_of name) is ≤ turns.new) }
+        ensures aliases { IsNone result → 0 < length (questions_of self.now) → turns.old + 16 * 2 ≤ turns.new }
         ensures turns { turns.new ≤ turns.old + 16 * (511 * length (answers_of self.now)) }
     {
         let question = self.first_question()?;
@@ -73,6 +81,11 @@ fn alias_target<R: AsOctets + Copy>(
         LeadsTo class (records_left records) (name_of name.now) (name_of target)) }
     ensures none { IsNone result → (target : named.Name)
         → ¬ LeadsTo class (records_left records) (name_of name.now) target }
+    ensures some { turns.old ≤ turns.new }
+    ensures least { IfSome result (λ target.
+        (is : LeadsTo class (records_left records) (name_of name.now) (name_of target))
+        → turns.old + alias_turns class (records_left records) (name_of name.now) (name_of target) is ≤ turns.new) }
+    ensures all { IsNone result → turns.old + length (records_left records) ≤ turns.new }
     ensures turns { turns.new ≤ turns.old + 511 * length (records_left records) }
 {
     for entry in records {
@@ -95,6 +108,8 @@ fn target_in<R: AsOctets + Copy>(
         IsAlias class (name_of name.now) (record_of entry.now) (name_of target)) }
     ensures none { IsNone result → (target : named.Name)
         → ¬ IsAlias class (name_of name.now) (record_of entry.now) target }
+    ensures some { turns.old ≤ turns.new }
+    ensures least { IfSome result (λ target. turns.old + least_turns (name_of target) ≤ turns.new) }
     ensures turns { turns.new ≤ turns.old + 510 }
 {
     if entry.rtype() != Rtype::CNAME || entry.class() != class || !entry.owner().name_eq(name) {

@@ -41,6 +41,7 @@ impl<R: AsOctets + Copy> Record<R> {
     ghost use Rattle.std.specs.Prelude.{◌≢◌, true};
     ghost use Rattle.octseq.specs.Window.{at, left};
     ghost use Rattle.octseq_dns_data.specs.Data.{is_in_message};
+    ghost use Rattle.octseq_dns_data.specs.DataTurns.{rdata_turns};
     ghost use Rattle.octseq_dns_message.specs.Entry as said;
     ghost use Rattle.octseq_dns_message.specs.Entry.{IsRecord};
     ghost use Rattle.octseq_dns_message.specs.RecordData.{IsDataOf};
@@ -166,6 +167,8 @@ impl<R: AsOctets + Copy> Record<R> {
     pub fn data_counted(&self, turns: &mut Turns) -> Data<R>
         ensures rdata { IsDataOf (record_of self.now) (rdata_of result) }
         ensures place { IsAt (at (record_of self.now).rdata.position (record_of self.now).owner.place) result }
+        ensures some { turns.old ≤ turns.new }
+        ensures least { turns.old + rdata_turns (rdata_of result) ≤ turns.new }
         ensures turns { turns.new ≤ turns.old + 510 + left (record_of self.now).rdata }
         ensures names { is_in_message (record_of self.now).rtype ≡ true → (record_of self.now).rtype ≢ 16
             → turns.new ≤ turns.old + 510 }

@@ -24,6 +24,7 @@ pub(crate) fn pass_questions<R: AsOctets + Copy>(
     ensures malformed { IsErr result → (row : List said.Question) (v : Window)
         → ¬ Many count IsQuestion (window parser.old) row v }
     ensures turns { turns.new ≤ turns.old + 51 * left (window parser.old) + 255 }
+    ensures some { turns.old ≤ turns.new }
     ensures whole { OnOk result (turns.new + 51 * left (window parser.new)
         ≤ turns.old + 51 * left (window parser.old)) }
     ensures least { OnOk result ((row : List said.Question) (end : Window)
@@ -49,6 +50,7 @@ pub(crate) fn pass_records<R: AsOctets + Copy>(
     ensures malformed { IsErr result → (row : List said.Record) (v : Window)
         → ¬ Many count IsRecord (window parser.old) row v }
     ensures turns { turns.new ≤ turns.old + 51 * left (window parser.old) + 255 }
+    ensures some { turns.old ≤ turns.new }
     ensures whole { OnOk result (turns.new + 51 * left (window parser.new)
         ≤ turns.old + 51 * left (window parser.old)) }
     ensures least { OnOk result ((row : List said.Record) (end : Window)

@@ -26,5 +26,6 @@ loop-taken-preserved g c =
         so_far.all.0 ++ one ∷ [],
         many_more IsPeer (window c.args.parser.now) u v c.loop-taken.taken so_far.all.0 one so_far.all.1 is,
       );
+      least = let before = so_far.least in omega (arith, before, tick);
       turns = let before = so_far.turns in omega (arith, before, tick, less);
     }

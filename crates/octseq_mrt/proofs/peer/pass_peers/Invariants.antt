@@ -9,5 +9,6 @@ use Rattle.octseq_mrt.proofs.peer.pass_peers.Given as goal
 abbrev pub invariant-loop-taken : goal.invariant-loop-taken
 invariant-loop-taken g l = record {
   all : (row : List Peer) × Many l.taken IsPeer (window l.fn.parser) row (window l.parser);
+  least : l.fn.turns + l.taken ≤ l.turns;
   turns : l.turns + left (window l.parser) ≤ l.fn.turns + left (window l.fn.parser);
 }

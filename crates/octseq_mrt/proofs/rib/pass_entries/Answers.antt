@@ -1,7 +1,10 @@
-use Rattle.std.proofs.Common.{◌++◌, [], ◌∷◌, refl, arith}
+use Rattle.std.proofs.Common.{◌++◌, [], ◌∷◌, refl, ap, arith}
+use Rattle.std.proofs.lemmas.List.Sums.{sum_by_push}
 use Rattle.octseq.specs.Parser.{window}
+use Rattle.octseq_format.specs.Row.{one_row}
 use Rattle.octseq_format.proofs.RowSteps.{many_ends, many_more}
 use Rattle.octseq_mrt.specs.OneListed.{one_rib_entry}
+use Rattle.octseq_mrt.specs.ReadTurns.{entry_turns, entries_turns}
 use Rattle.octseq_mrt.specs.Rib.{IsRibEntry}
 use Rattle.octseq_mrt.proofs.rib.pass_entries.Goals as goal
 
@@ -11,6 +14,9 @@ returns-in_err-pass_entry-clause-malformed g c = λ _.
     let paths = c.args.paths in
     many_ends (IsRibEntry paths) (one_rib_entry paths) (window c.args.parser.now) (window c.loop-taken.parser)
     c.loop-taken.taken c.args.count all.0 (c.in_err-pass_entry.ensures.malformed refl) (omega arith) all.1
+
+pub loop-taken-init : goal.loop-taken-init
+loop-taken-init g c = record { all = ([], (refl, refl)); least = omega arith; turns = omega arith }
 
 pub loop-taken-preserved : goal.loop-taken-preserved
 loop-taken-preserved g c =
@@ -26,5 +32,19 @@ loop-taken-preserved g c =
         many_more (IsRibEntry c.args.paths) (window c.args.parser.now) u v c.loop-taken.taken so_far.all.0 one.0
             so_far.all.1 one.1,
       );
+      least = let before = so_far.least in
+          let counted = c.in_ok-pass_entry.ensures.least one.0 v one.1 in
+          omega (arith, sum_by_push entry_turns so_far.all.0 one.0, before, counted, tick);
       turns = let before = so_far.turns in omega (arith, before, tick, took);
     }
+
+pub returns-clause-least : goal.returns-clause-least
+returns-clause-least g c = λ row end is.
+    let so_far = c.loop-taken.invariant in
+    let paths = c.args.paths in
+    let taken = so_far.all.1.0 in
+    let counted = is.0 in
+    let same = one_row (IsRibEntry paths) (one_rib_entry paths) (window c.args.parser.now) _ end so_far.all.0 row
+    (omega (arith, taken, counted)) so_far.all.1.1 is.1 in
+    let least = so_far.least in
+    omega (arith, ap entries_turns same.0, least)

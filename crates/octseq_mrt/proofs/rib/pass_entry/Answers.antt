@@ -51,3 +51,10 @@ returns-clause-took g c =
     let few = parts_left c.args.paths (window c.args.parser.now) _ (window c.parse.new.parser) parts in
     let turns = c.in_ok-pass_attributes.ensures.turns in
     omega (arith, few, turns)
+
+pub returns-clause-least : goal.returns-clause-least
+returns-clause-least g c = λ e v is.
+    let same = (one_entry_parts c.args.paths).same (window c.args.parser.now) (entry_parts e is.octets) _ v
+    (window c.parse.new.parser) is.parts c.in_ok-parts.ensures.parts in
+    c.in_ok-pass_attributes.ensures.least e.attributes
+    (subst (λ p. Fills (IsEntry form.Attribute) p.1.1.1 e.attributes) same.0 is.attributes)

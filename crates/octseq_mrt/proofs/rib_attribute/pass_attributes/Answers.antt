@@ -1,12 +1,21 @@
-use Rattle.std.proofs.Common.{◌<◌, ◌++◌, [], ◌∷◌, refl, arith}
+use Rattle.std.proofs.Common.{◌≡◌, ◌<◌, ◌++◌, [], ◌∷◌, length, length-append, refl, ap, arith}
 use Rattle.octseq.specs.Parser.{window}
 use Rattle.octseq.specs.Window.{left}
 use Rattle.octseq_format.proofs.RowSteps.{to_ends, row_more}
 use Rattle.octseq_bgp.specs.Entry.{IsEntry}
 use Rattle.octseq_bgp.specs.OneEntry.{one_entry, entry_moves}
 use Rattle.octseq_bgp.specs.declared.entry.Form.TheVariants as form
+use Rattle.octseq_mrt.specs.Ahead.{one_filling}
 use Rattle.octseq_mrt.specs.Parsed.{attribute_of}
 use Rattle.octseq_mrt.proofs.rib_attribute.pass_attributes.Goals as goal
+
+pub attributes-init : goal.attributes-init
+attributes-init g c = record {
+  all = ([], refl);
+  least = omega arith;
+  ahead = c.remaining-left.ensures.left;
+  turns = omega arith;
+}
 
 pub attributes-preserved : goal.attributes-preserved
 attributes-preserved g c =
@@ -24,6 +33,9 @@ attributes-preserved g c =
         so_far.all.0 ++ one ∷ [],
         row_more (IsEntry form.Attribute) (window c.args.parser.now) u v so_far.all.0 one so_far.all.1 is,
       );
+      least = let before = so_far.least in
+          let longer = length-append so_far.all.0 (one ∷ []) in
+          omega (arith, before, longer, tick);
       ahead = here;
       turns = let before = so_far.turns in omega (arith, before, tick, less);
     }
@@ -39,3 +51,13 @@ returns-in_err-_attribute-clause-malformed g c = λ _ row fills.
     to_ends (IsEntry form.Attribute) (one_entry form.Attribute) (entry_moves form.Attribute) (window c.args.parser.now)
     (window c.attributes.parser) fills.0 all.0 row (c.in_err-_attribute.ensures.malformed refl) some all.1 fills.1.0
     fills.1.1
+
+pub returns-clause-least : goal.returns-clause-least
+returns-clause-least g c = λ row fills.
+    let so_far = c.attributes.invariant in
+    let v = window c.attributes.parser in
+    let none : left v ≡ 0 = omega (arith, so_far.ahead, c.attributes-test.false) in
+    let same = one_filling (IsEntry form.Attribute) (one_entry form.Attribute) (entry_moves form.Attribute)
+    (window c.args.parser.now) row so_far.all.0 fills (v, (so_far.all.1, none)) in
+    let least = so_far.least in
+    omega (arith, ap length same, least)

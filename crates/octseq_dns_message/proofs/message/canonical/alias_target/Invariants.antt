@@ -1,5 +1,6 @@
 -- What was passed doesn't make the name an alias.
 use Rattle.std.proofs.Common.{◌+◌, ◌*◌, ◌≤◌, length}
+use Rattle.octseq_dns_message.specs.AliasTurns.{alias_turns}
 use Rattle.octseq_dns_message.specs.Canonical.{LeadsTo}
 use Rattle.octseq_dns_message.specs.Walk.{records_left}
 use Rattle.octseq_dns_name.specs.Name.{Name}
@@ -14,6 +15,12 @@ invariant-loop-entry g l = record {
       → LeadsTo l.class (records_left l.fn.records) (name_of l.name) target;
   back : (target : Name) → LeadsTo l.class (records_left l.fn.records) (name_of l.name) target
       → LeadsTo l.class (records_left l.entry-iterator) (name_of l.name) target;
+  some : l.fn.turns ≤ l.turns;
+  least : (target : Name) (left : LeadsTo l.class (records_left l.entry-iterator) (name_of l.name) target)
+      (whole : LeadsTo l.class (records_left l.fn.records) (name_of l.name) target)
+      → l.fn.turns + alias_turns l.class (records_left l.fn.records) (name_of l.name) target whole
+      ≤ l.turns + alias_turns l.class (records_left l.entry-iterator) (name_of l.name) target left;
+  all : l.fn.turns + length (records_left l.fn.records) ≤ l.turns + length (records_left l.entry-iterator);
   turns : l.turns + 511 * length (records_left l.entry-iterator)
       ≤ l.fn.turns + 511 * length (records_left l.fn.records);
 }

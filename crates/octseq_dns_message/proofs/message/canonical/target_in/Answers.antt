@@ -14,6 +14,8 @@ returns-in_default g c = record {
       (inl is.data_is) c.data_counted.ensures.rdata in
       let named = cname_named c.data_counted.result target (sym same) in
       c.in_default.not-Cname named.0 named.1;
+  some = c.data_counted.ensures.some;
+  least = tt;
   turns =
       let cname : (record_of c.args.entry.now).rtype ≡ 5 = search rules in
       c.data_counted.ensures.names (ap is_in_message cname) (λ txt. omega (arith, cname, txt));

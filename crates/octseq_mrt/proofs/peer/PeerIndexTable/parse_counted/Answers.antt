@@ -1,4 +1,4 @@
-use Rattle.std.proofs.Common.{◌≡◌, ◌<◌, List, subst, arith}
+use Rattle.std.proofs.Common.{◌≡◌, ◌<◌, List, length, ap, subst, arith}
 use Rattle.octseq.specs.Parser.{window}
 use Rattle.octseq.specs.Window.{left}
 use Rattle.octseq_bgp.specs.Fills.{Whole}
@@ -55,3 +55,16 @@ returns-clause-table g c =
       ),
       ends,
     )
+
+pub returns-clause-least : goal.returns-clause-least
+returns-clause-least g c =
+    let v = window c.pass_peers.new.parser in
+    let here = c.remaining.ensures.left in
+    let none = c.if-remaining-gt0.false in
+    let ends : left v ≡ 0 = omega (arith, here, none) in
+    let all = c.in_ok-pass_peers.ensures.peers in
+    let same = ahead_as peer_code IsPeer one_peer peer_moves (window c.parse-3.new.parser) all.0 c.result-1.given.0
+    (v, (all.1.1, ends)) in
+    let least = c.in_ok-pass_peers.ensures.least in
+    let counted = all.1.0 in
+    omega (arith, ap length same, counted, least)

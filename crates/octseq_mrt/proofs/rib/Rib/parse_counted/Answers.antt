@@ -6,6 +6,7 @@ use Rattle.octseq_bgp.specs.Fills.{Whole}
 use Rattle.octseq_bgp.specs.OneEntry.{one_number}
 use Rattle.octseq_mrt.specs.Address.{address_bits}
 use Rattle.octseq_mrt.specs.OneListed.{rib_entry_code, one_rib_entry, rib_entry_moves}
+use Rattle.octseq_mrt.specs.ReadTurns.{entries_turns}
 use Rattle.octseq_mrt.specs.Rib.{RibEntry, IsRibEntry}
 use Rattle.octseq_mrt.proofs.Filled.{ahead_as, times_of, not_whole}
 use Rattle.octseq_mrt.proofs.OneRecord.{IsRoutes, one_routes}
@@ -89,3 +90,16 @@ returns-clause-rib g c =
         ends,
       ),
     )
+
+pub returns-clause-least : goal.returns-clause-least
+returns-clause-least g c =
+    let paths = c.args.paths in
+    let v = window c.pass_entries.new.parser in
+    let here = c.remaining.ensures.left in
+    let none = c.if-remaining-gt0.false in
+    let ends : left v ≡ 0 = omega (arith, here, none) in
+    let all = c.in_ok-pass_entries.ensures.entries in
+    let same = ahead_as rib_entry_code (IsRibEntry paths) (one_rib_entry paths) (rib_entry_moves paths)
+    (window c.parse-2.new.parser) all.0 c.result-1.given.0 (v, (all.1.1, ends)) in
+    let least = c.in_ok-pass_entries.ensures.least all.0 v all.1 in
+    omega (arith, ap entries_turns same, least)
