@@ -52,7 +52,11 @@ fn a_nested_parser_has_a_window_of_its_own(rt: HostRuntime) {
 fn chunks_are_of_what_is_left(rt: HostRuntime) {
     let mut parser = Parser::from_static(b"0123456789");
     unwrap(&rt, parser.advance(1));
-    assert_equal!(&rt, parser.peek_chunks::<4>(), [*b"1234", *b"5678"].as_slice());
+    assert_equal!(
+        &rt,
+        parser.peek_chunks::<4>(),
+        [*b"1234", *b"5678"].as_slice()
+    );
     assert_equal!(&rt, parser.pos(), 1);
     parser.advance_to_end();
     assert_true!(&rt, parser.peek_chunks::<4>().is_empty());
