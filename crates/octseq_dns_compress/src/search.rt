@@ -54,17 +54,17 @@ pub(crate) fn search(
         pointers: 0,
         position: 0,
     };
-    let mut hint = 0;
+    let mut near = 0;
     'labels: while ending.written > 0 {
         let label = name.label(ending.written - 1);
-        match find(octets, targets, hint, ending.next, label, turns) {
+        match find(octets, targets, near, ending.next, label, turns) {
             Ok(index) => {
                 let target = targets[index];
                 ending.written -= 1;
                 ending.len -= label.len();
                 ending.next = target.at;
                 ending.pointers = target.pointers + 1;
-                hint = index.saturating_sub(1);
+                near = index;
             }
             Err(position) => {
                 ending.position = position;
@@ -133,11 +133,13 @@ fn find_by_halves(
     Err(from)
 }
 
-/// Does the same, but first tries the target at `hint`, which is often the one.
+/// Does the same, but first tries the targets beside the one at `near`, that of the labels that follow. The target
+/// before it is often the one if they were written together, and the one after it if each was, before a pointer. Both
+/// tries are one turn.
 fn find(
     octets: &[u8],
     targets: &[Target],
-    hint: usize,
+    near: usize,
     next: u16,
     label: &[u8],
     turns: &mut Turns,
@@ -151,8 +153,12 @@ fn find(
     ensures least { turns.old + 1 ≤ turns.new }
 {
     turns.tick();
-    if is_at(octets, targets, hint, next, label) {
-        return Ok(hint);
+    let (before, after) = (near.saturating_sub(1), near.saturating_add(1));
+    if is_at(octets, targets, before, next, label) {
+        return Ok(before);
+    }
+    if is_at(octets, targets, after, next, label) {
+        return Ok(after);
     }
     find_by_halves(octets, targets, next, label, turns)
 }
