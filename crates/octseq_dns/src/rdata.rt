@@ -52,6 +52,7 @@ pub trait ComposeRecordData {
             (with_fields T.most message.old.state (fields self.now)) message.old message.new }
         ensures fits { OnOk result (AllByRecursion FitsField (fields self.now)) }
         ensures borrows { B.borrows message.new.octets ≡ B.borrows message.old.octets }
+        ensures on { turns.old ≤ turns.new }
         ensures turns { turns.new ≤ turns.old + 17 * label_count (fields self.now) }
         ensures least { OnOk result (turns.old + label_count (fields self.now) + length message.old.state.octets
             ≤ turns.new + length message.new.state.octets) };
@@ -151,6 +152,7 @@ fn compose_mx<B: OctetsBuilder + Truncate + AsOctetsMut, T: Compressor, R: AsOct
         message.old message.new }
     ensures fits { OnOk result (AllByRecursion FitsField (rdata_fields (bare_rdata (ParsedRdata.mx (mx_of mx.now))))) }
     ensures borrows { B.borrows message.new.octets ≡ B.borrows message.old.octets }
+    ensures on { turns.old ≤ turns.new }
     ensures turns { turns.new ≤ turns.old
         + 17 * label_count (rdata_fields (bare_rdata (ParsedRdata.mx (mx_of mx.now)))) }
     ensures least { OnOk result (turns.old + label_count (rdata_fields (bare_rdata (ParsedRdata.mx (mx_of mx.now))))
@@ -192,6 +194,7 @@ fn compose_soa<B: OctetsBuilder + Truncate + AsOctetsMut, T: Compressor, R: AsOc
     ensures fits { OnOk result (AllByRecursion FitsField (rdata_fields (bare_rdata (ParsedRdata.soa (soa_of
         soa.now))))) }
     ensures borrows { B.borrows message.new.octets ≡ B.borrows message.old.octets }
+    ensures on { turns.old ≤ turns.new }
     ensures turns { turns.new ≤ turns.old
         + 17 * label_count (rdata_fields (bare_rdata (ParsedRdata.soa (soa_of soa.now)))) }
     ensures least { OnOk result (turns.old + label_count (rdata_fields (bare_rdata (ParsedRdata.soa (soa_of soa.now))))

@@ -128,6 +128,7 @@ pub fn rewrite_counted<
     ensures has_opt { IfOk result (λ b. b.has_opt
         ≡ any_opt_in (answers_of message.now) (authorities_of message.now) (additionals_of message.now)) }
     ensures borrows { IfOk result (λ b. B.borrows b.octets ≡ B.borrows octets) }
+    ensures on { turns.old ≤ turns.new }
     ensures turns { (m : Contents) → IsContentsOf message.now m → turns.new ≤ turns.old + 17 * labels_in m }
     ensures least { IfOk result (λ b. (m : Contents) → IsContentsOf message.now m
         → turns.old + labels_in m ≤ turns.new + length b.state.octets) }

@@ -80,6 +80,7 @@ fn append_questions<B: OctetsBuilder + Truncate + AsOctetsMut, T: Compressor, R:
         (length (with_entries T.most message.old.state (map question_entry written)).octets) }
     ensures memory { IsMemory append_error result → (B.asks ≡ true) ⊎ (T.asks ≡ true) }
     ensures borrows { B.borrows message.new.octets ≡ B.borrows message.old.octets }
+    ensures on { turns.old ≤ turns.new }
     ensures turns { (written : List Asked) → AllZip IsQuestionOf (questions_left questions) written
         → turns.new ≤ turns.old + 17 * sum_by question_labels written }
     ensures least { OnOk result ((written : List Asked) → AllZip IsQuestionOf (questions_left questions) written
@@ -118,6 +119,7 @@ fn append_records<B: OctetsBuilder + Truncate + AsOctetsMut, T: Compressor, R: A
         (length (with_entries T.most message.old.state (map record_entry written)).octets) }
     ensures memory { IsMemory rewrite_error result → (B.asks ≡ true) ⊎ (T.asks ≡ true) }
     ensures borrows { B.borrows message.new.octets ≡ B.borrows message.old.octets }
+    ensures on { turns.old ≤ turns.new }
     ensures turns { (written : List Written) → AllZip IsRecordOf (records_left records) written
         → turns.new ≤ turns.old + 17 * sum_by record_labels written }
     ensures least { OnOk result ((written : List Written) → AllZip IsRecordOf (records_left records) written
@@ -161,6 +163,7 @@ fn append_all<B: OctetsBuilder + Truncate + AsOctetsMut, T: Compressor, R: AsOct
         → IsPast (message_limit B.limit) (length (with_entries T.most message.old.state (entries_of m)).octets) }
     ensures memory { IsMemory rewrite_error result → (B.asks ≡ true) ⊎ (T.asks ≡ true) }
     ensures borrows { B.borrows message.new.octets ≡ B.borrows message.old.octets }
+    ensures on { turns.old ≤ turns.new }
     ensures turns { (m : Contents) → IsContentsOf source.now m → turns.new ≤ turns.old + 17 * labels_in m }
     ensures least { OnOk result ((m : Contents) → IsContentsOf source.now m
         → turns.old + labels_in m + length message.old.state.octets ≤ turns.new + length message.new.state.octets) }
@@ -206,6 +209,7 @@ pub(crate) fn compose_anew<
     ensures has_opt { IfOk result (λ b. b.has_opt
         ≡ any_opt_in (answers_of source.now) (authorities_of source.now) (additionals_of source.now)) }
     ensures borrows { IfOk result (λ b. B.borrows b.octets ≡ B.borrows octets) }
+    ensures on { turns.old ≤ turns.new }
     ensures turns { (m : Contents) → IsContentsOf source.now m → turns.new ≤ turns.old + 17 * labels_in m }
     ensures least { IfOk result (λ b. (m : Contents) → IsContentsOf source.now m
         → turns.old + labels_in m ≤ turns.new + length b.state.octets) }

@@ -111,6 +111,7 @@ fn push_questions<B: OctetsBuilder + Truncate + AsOctetsMut, T: Compressor, R: A
     ensures push_limit { IfOk result (λ b. b.push_limit ≡ builder.push_limit) }
     ensures has_opt { IfOk result (λ b. b.has_opt ≡ builder.has_opt) }
     ensures borrows { IfOk result (λ b. B.borrows b.octets ≡ B.borrows builder.octets) }
+    ensures on { turns.old ≤ turns.new }
     ensures turns { (m : Contents) (written : List Asked)
         → Writes T.most m builder.state builder.header builder.counts
         → AllZip IsQuestionOf (questions_left questions) written

@@ -65,6 +65,7 @@ pub(super) fn compose_question<
         message.old message.new }
     ensures fits { OnOk result (FitsQuestion (pushed_question qname.now qtype qclass)) }
     ensures borrows { B.borrows message.new.octets ≡ B.borrows message.old.octets }
+    ensures on { turns.old ≤ turns.new }
     ensures turns { turns.new ≤ turns.old + 17 * length (labels_of qname.now) }
     ensures least { OnOk result (turns.old + length (labels_of qname.now) + length message.old.state.octets
         ≤ turns.new + length message.new.state.octets) }
@@ -91,6 +92,7 @@ fn append_data<B: OctetsBuilder + Truncate + AsOctetsMut, T: Compressor, D: Comp
     ensures begun { message.new.begun ≡ message.old.begun }
     ensures fits { OnOk result (AllByRecursion FitsField (D.fields rdata.now)) }
     ensures borrows { B.borrows message.new.octets ≡ B.borrows message.old.octets }
+    ensures on { turns.old ≤ turns.new }
     ensures turns { turns.new ≤ turns.old + 17 * label_count (D.fields rdata.now) }
     ensures least { OnOk result (turns.old + label_count (D.fields rdata.now) + length message.old.state.octets
         ≤ turns.new + length message.new.state.octets) }
@@ -130,6 +132,7 @@ pub(super) fn compose_record<
     ensures fits { OnOk result
         (FitsRecord (pushed_record owner.now (D.rtype_of rdata.now) class ttl (D.fields rdata.now))) }
     ensures borrows { B.borrows message.new.octets ≡ B.borrows message.old.octets }
+    ensures on { turns.old ≤ turns.new }
     ensures turns { turns.new ≤ turns.old + 17 * (length (labels_of owner.now) + label_count (D.fields rdata.now)) }
     ensures least { OnOk result (turns.old + (length (labels_of owner.now) + label_count (D.fields rdata.now))
         + length message.old.state.octets ≤ turns.new + length message.new.state.octets) }
@@ -175,6 +178,7 @@ pub(super) fn append_question<
         message.old.state message.new.state }
     ensures fits { OnOk result (FitsQuestion (pushed_question qname.now qtype qclass)) }
     ensures borrows { B.borrows message.new.octets ≡ B.borrows message.old.octets }
+    ensures on { turns.old ≤ turns.new }
     ensures turns { turns.new ≤ turns.old + 17 * length (labels_of qname.now) }
     ensures least { OnOk result (turns.old + length (labels_of qname.now) + length message.old.state.octets
         ≤ turns.new + length message.new.state.octets) }
@@ -214,6 +218,7 @@ pub(super) fn append_record<
     ensures fits { OnOk result
         (FitsRecord (pushed_record owner.now (D.rtype_of rdata.now) class ttl (D.fields rdata.now))) }
     ensures borrows { B.borrows message.new.octets ≡ B.borrows message.old.octets }
+    ensures on { turns.old ≤ turns.new }
     ensures turns { turns.new ≤ turns.old + 17 * (length (labels_of owner.now) + label_count (D.fields rdata.now)) }
     ensures least { OnOk result (turns.old + (length (labels_of owner.now) + label_count (D.fields rdata.now))
         + length message.old.state.octets ≤ turns.new + length message.new.state.octets) }

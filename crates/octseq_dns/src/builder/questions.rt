@@ -93,6 +93,7 @@ impl<B: OctetsBuilder + Truncate + AsOctetsMut, T: Compressor> QuestionBuilder<B
         ensures has_opt { self.new.has_opt ≡ self.old.has_opt }
         ensures reaches { UpToQuestions self.old.counts }
         ensures borrows { B.borrows self.new.octets ≡ B.borrows self.old.octets }
+        ensures on { turns.old ≤ turns.new }
         ensures turns { turns.new ≤ turns.old + 17 * length (labels_of qname.now) }
         ensures least { OnOk result (turns.old + length (labels_of qname.now) + length self.old.state.octets
             ≤ turns.new + length self.new.state.octets) }

@@ -110,6 +110,7 @@ impl<B: OctetsBuilder + Truncate + AsOctetsMut, T: Compressor, S: RecordSection>
         ensures kept_opt { OnErr result (self.new.has_opt ≡ self.old.has_opt) }
         ensures reaches { S.reaches self.old.counts }
         ensures borrows { B.borrows self.new.octets ≡ B.borrows self.old.octets }
+        ensures on { turns.old ≤ turns.new }
         ensures turns { turns.new ≤ turns.old
             + 17 * (length (labels_of owner.now) + label_count (D.fields rdata.now)) }
         ensures least { OnOk result (turns.old + (length (labels_of owner.now) + label_count (D.fields rdata.now))

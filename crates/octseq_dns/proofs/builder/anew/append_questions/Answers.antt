@@ -1,4 +1,4 @@
-use Rattle.std.proofs.Common.{◌∙◌, length, refl, sym, subst}
+use Rattle.std.proofs.Common.{◌∙◌, length, refl, sym, subst, arith}
 use Rattle.std.specs.List.{AllZip}
 use Rattle.octseq.specs.Limit.{IsWithin}
 use Rattle.octseq_dns_compress.specs.Composed.{message_limit}
@@ -18,6 +18,7 @@ loop-question-init g c = record {
       (subst (λ walk. AllZip IsQuestionOf (questions_left walk) written)
       (sym c.into_iter-question-iterator.ensures.into_iter_gives) are);
   within = c.requires.within;
+  counted = omega arith;
   borrows = refl;
 }
 
@@ -38,6 +39,7 @@ loop-question-preserved g c =
           went.least;
       within = subst (λ s. IsWithin (message_limit g.B.AsOctets.limit) (length s.octets)) (sym went.composed.ok)
           went.composed.within;
+      counted = let before = so_far.counted in let more = went.on in omega (arith, before, more);
       borrows = went.borrows ∙ so_far.borrows;
     }
 

@@ -1,5 +1,5 @@
 -- Whatever is written for the questions, the message so far becomes it with what is written for those that are left.
-use Rattle.std.proofs.Common.{◌≡◌, List, length}
+use Rattle.std.proofs.Common.{◌≡◌, ◌≤◌, List, length}
 use Rattle.std.specs.List.{AllZip}
 use Rattle.octseq.specs.Limit.{IsWithin}
 use Rattle.octseq_dns_compress.specs.Composed.{message_limit}
@@ -16,5 +16,6 @@ invariant-loop-question g l = record {
       → Onward IsQuestionOf question_entry question_labels FitsQuestion g.T.Compressor.most written
       (questions_left l.question-iterator) l.fn.message.state l.message.state l.fn.turns l.turns;
   within : IsWithin (message_limit g.B.AsOctets.limit) (length l.message.state.octets);
+  counted : l.fn.turns ≤ l.turns;
   borrows : g.B.AsOctets.borrows l.message.octets ≡ g.B.AsOctets.borrows l.fn.message.octets;
 }

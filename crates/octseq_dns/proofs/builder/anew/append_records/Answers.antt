@@ -1,4 +1,4 @@
-use Rattle.std.proofs.Common.{◌≡◌, ◌∙◌, ◌||◌, [], ◌∷◌, ap, length, refl, rules, sym, subst}
+use Rattle.std.proofs.Common.{◌≡◌, ◌∙◌, ◌||◌, [], ◌∷◌, ap, length, refl, rules, sym, subst, arith}
 use Rattle.std.proofs.Math.Bool.{or_assoc, or-false}
 use Rattle.std.specs.List.{AllByRecursion, AllZip}
 use Rattle.std.specs.Prelude.{◌↔◌, nat_eq}
@@ -36,6 +36,7 @@ loop-entry-init g c = record {
       ≡ (c.args.has_opt.now || any_opt (records_left walk))) (sym c.into_iter-entry-iterator.ensures.into_iter_gives)
       refl;
   within = c.requires.within;
+  counted = omega arith;
   borrows = refl;
 }
 
@@ -77,6 +78,7 @@ loop-entry-preserved g c =
           (sym (c.eq.ensures ∙ ap (λ n. nat_eq n types.opt) c.rtype.ensures));
       movable = (λ more. all.0 (moves, more), λ every. (all.1 every).1);
       within = subst (λ s. IsWithin (message_limit g.B.AsOctets.limit) (length s.octets)) (sym went.ok) went.within;
+      counted = let before = so_far.counted in let more = went.on in omega (arith, before, more);
       borrows = went.borrows ∙ so_far.borrows;
     }
 

@@ -1,5 +1,5 @@
 -- Whatever is written for the records, the message so far becomes it with what is written for those that are left.
-use Rattle.std.proofs.Common.{◌≡◌, ◌||◌, List, length}
+use Rattle.std.proofs.Common.{◌≡◌, ◌≤◌, ◌||◌, List, length}
 use Rattle.std.specs.List.{AllByRecursion, AllZip}
 use Rattle.std.specs.Prelude.{◌↔◌}
 use Rattle.octseq.specs.Limit.{IsWithin}
@@ -23,5 +23,6 @@ invariant-loop-entry g l = record {
       ↔ AllByRecursion CanMoveRecord (records_left l.fn.records);
   opt : (l.fn.has_opt || any_opt (records_left l.fn.records)) ≡ (l.has_opt || any_opt (records_left l.entry-iterator));
   within : IsWithin (message_limit g.B.AsOctets.limit) (length l.message.state.octets);
+  counted : l.fn.turns ≤ l.turns;
   borrows : g.B.AsOctets.borrows l.message.octets ≡ g.B.AsOctets.borrows l.fn.message.octets;
 }

@@ -26,6 +26,7 @@ loop-question-init g c = record {
   has_opt = refl;
   room = subst (λ walk. c.args.builder.counts.qdcount + length (questions_left walk) ≤ 65535)
       (sym c.into_iter-question-iterator.ensures.into_iter_gives) c.requires;
+  counted = omega arith;
   borrows = refl;
 }
 
@@ -55,6 +56,7 @@ loop-question-preserved g c =
       push_limit = went.push_limit ∙ so_far.push_limit;
       has_opt = went.has_opt ∙ so_far.has_opt;
       room = omega (arith, room, long, counted);
+      counted = let before = so_far.counted in let more = went.on in omega (arith, before, more);
       borrows = went.borrows ∙ so_far.borrows;
     }
 

@@ -26,5 +26,6 @@ invariant-loop-question g l = record {
   push_limit : l.message.push_limit ≡ l.fn.builder.push_limit;
   has_opt : l.message.has_opt ≡ l.fn.builder.has_opt;
   room : l.message.counts.qdcount + length (questions_left l.question-iterator) ≤ 65535;
+  counted : l.fn.turns ≤ l.turns;
   borrows : g.B.AsOctets.borrows l.message.octets ≡ g.B.AsOctets.borrows l.fn.builder.octets;
 }
