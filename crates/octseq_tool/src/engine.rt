@@ -152,6 +152,7 @@ fn lossy<R: Read>(alloc: Global, reader: &mut R) -> Result<Answer, ToolFault>
     ensures err { IfErr result (λ fault. fault ≢ ToolFault.Write) }
     ensures lost { OnErr result ((read : List ℕ) × Consumes (R.remaining reader.old) (R.remaining reader.new) read) }
 {
+    utf8::one_splitting();
     let mut pieces = LossyPieces::new(alloc)?;
     feed_all(alloc, reader, &mut pieces)?;
     // (a vector has no limit, so it refuses only for lack of memory)

@@ -4,7 +4,7 @@ use Rattle.octseq_tool.proofs.engine.lossy.Goals as goal
 pub returns-clause-ok : goal.returns-clause-ok
 returns-clause-ok g c =
     let fed = c.in_ok-feed_all.ensures.ok in
-    let parts = c.finish.ensures.splitting fed.0 in
+    let parts = c.one_splitting.ensures.exists fed.0 in
     record {
       input = fed.0;
       consumed = fed.2;
