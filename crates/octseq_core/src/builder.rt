@@ -117,6 +117,21 @@ pub trait OctetsBuilder: AsOctets {
         ensures appended { Appends Self.limit Self.asks result slice.now
             (Self.content self.old) (Self.content self.new) }
         ensures borrows { Self.borrows self.new ≡ Self.borrows self.old };
+
+    /// The same as [`append_slice`](Self::append_slice), for slices that are short in most cases and whose length isn't
+    /// known when the program is compiled, as words. A vector appends them faster.
+    ///
+    /// # Errors
+    ///
+    /// `Short` if the content would exceed the type's limit, otherwise `Memory` if a request for memory was refused.
+    /// The content is then unchanged.
+    fn append_few(&mut self, slice: &[u8]) -> Result<(), AppendError>
+        ensures appended { Appends Self.limit Self.asks result slice.now
+            (Self.content self.old) (Self.content self.new) }
+        ensures borrows { Self.borrows self.new ≡ Self.borrows self.old }
+    {
+        self.append_slice(slice)
+    }
 }
 
 /// A sequence of octets that can be shortened.

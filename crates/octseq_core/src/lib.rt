@@ -8,4 +8,5 @@
 pub mod array;
 pub mod builder;
 pub mod cow;
+mod lanes;
 pub mod slice_builder;

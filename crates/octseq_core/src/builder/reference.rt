@@ -57,6 +57,10 @@ impl<T: OctetsBuilder> OctetsBuilder for &mut T {
     fn append_slice(&mut self, slice: &[u8]) -> Result<(), AppendError> {
         (**self).append_slice(slice)
     }
+
+    fn append_few(&mut self, slice: &[u8]) -> Result<(), AppendError> {
+        (**self).append_few(slice)
+    }
 }
 
 impl<T: Truncate> Truncate for &mut T {

@@ -5,6 +5,7 @@ use super::{
     AppendError, AsOctets, CloneOctets, EmptyBuilder, FreezeBuilder, FromBuilder, IntoBuilder,
     OctetsBuilder, OctetsLimit, Truncate,
 };
+use crate::lanes::{LANE, append_lane, append_two_lanes};
 use std::alloc::{AllocError, Global};
 
 impl AsOctets for Vec<u8> {
@@ -37,6 +38,20 @@ impl OctetsBuilder for Vec<u8> {
     fn append_slice(&mut self, slice: &[u8]) -> Result<(), AppendError> {
         self.extend_from_slice(slice)?;
         Ok(())
+    }
+
+    #[inline(always)]
+    fn append_few(&mut self, slice: &[u8]) -> Result<(), AppendError> {
+        let room = self.capacity() - self.len();
+        if slice.len() <= LANE && room >= LANE {
+            append_lane(self, slice);
+            return Ok(());
+        }
+        if slice.len() > LANE && slice.len() <= 2 * LANE && room >= 2 * LANE {
+            append_two_lanes(self, slice);
+            return Ok(());
+        }
+        self.append_slice(slice)
     }
 }
 
