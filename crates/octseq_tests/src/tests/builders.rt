@@ -71,7 +71,7 @@ fn fill<B: EmptyBuilder + Truncate>(rt: &impl Abort, alloc: Global) {
     unwrap(rt, builder.append_slice(b"abcd"));
     assert_equal!(rt, builder.as_ref(), b"abcd".as_slice());
     builder.truncate(1);
-    unwrap(rt, builder.append_slice(b"e"));
+    unwrap(rt, (&mut builder).append_few(b"e"));
     assert_equal!(rt, builder.as_ref(), b"ae".as_slice());
     assert_equal!(rt, (&mut builder).max_len(), B::limit());
     let reserved = unwrap(rt, B::with_capacity(alloc, 4));
@@ -86,6 +86,26 @@ fn each_builder_is_filled(rt: HostRuntime) {
     fill::<BytesMut>(&rt, alloc);
     fill::<SmallVec<u8, 2>>(&rt, alloc);
     fill::<ArrayVec<u8, 4>>(&rt, alloc);
+}
+
+/// Appends the first octets, first with room for a few more, then without.
+fn grow(rt: &impl Abort, alloc: Global, octets: &[u8], len: usize) {
+    let mut roomy = unwrap(rt, Vec::with_capacity(alloc, 64));
+    unwrap(rt, roomy.append_few(b"|"));
+    unwrap(rt, roomy.append_few(&octets[..len]));
+    let mut tight = unwrap(rt, Vec::with_capacity(alloc, 1));
+    unwrap(rt, tight.append_few(b"|"));
+    unwrap(rt, tight.append_few(&octets[..len]));
+    assert_equal!(rt, &roomy[1..], &octets[..len]);
+    assert_equal!(rt, roomy.as_slice(), tight.as_slice());
+}
+
+#[test]
+fn a_vector_appends_few_octets_of_each_length(rt: HostRuntime) {
+    let octets = b"0123456789abcdefghijklmnopqrstuvwxyzABCD";
+    for len in 0..=octets.len() {
+        grow(&rt, rt.alloc(), octets, len);
+    }
 }
 
 /// Checks a type's limit and whether it requests memory.

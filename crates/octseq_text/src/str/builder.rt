@@ -223,7 +223,7 @@ impl<Octets: AsOctets> StrBuilder<Octets> {
         ensures step { AppendsCharacters Octets.limit Octets.asks (chars (Octets.content self.old)) (chars s.now)
             (append_reply result) (chars (Octets.content self.new)) }
     {
-        self.octets.append_slice(s.as_bytes())
+        self.octets.append_few(s.as_bytes())
     }
 
     /// Appends `ch`, or nothing.
