@@ -16,8 +16,8 @@ use Rattle.octseq_utf8.specs.Search.{IsAt, IsFaultAt}
 use Rattle.octseq_utf8.specs.Text.{Spells, IsWellFormed, chars, octets_of}
 use Rattle.octseq_utf8.specs.declared.finder.FirstPart.{FirstPart}
 use Rattle.octseq_utf8.specs.declared.finder.FirstPart.TheVariants.{Encoding, Bad}
-use Rattle.octseq_utf8.proofs.Beginnings.{nil_or_some, beginning_short}
-use Rattle.octseq_utf8.proofs.Rows.{length_of, width_le}
+use Rattle.octseq_utf8.proofs.Fits.{nil_or_some, beginning_short}
+use Rattle.octseq_utf8.proofs.Fits.{length_of, width_le}
 use Rattle.octseq_utf8.proofs.Joins.{parts_fault, parts_spelled}
 use Rattle.octseq_utf8.proofs.Spelling.{chars_of, octets_of_spelled, spells_nothing, spells_one, spells-append}
 use Rattle.octseq_utf8.proofs.Texts.{well_formed-append, chars-append}

@@ -2,10 +2,7 @@ pub mod Numbers
 pub mod Spelling
 pub mod Bridge
 pub mod Texts
-pub mod Rows
 pub mod Fits
-pub mod Beginnings
-pub mod Fitting
 pub mod Splitting
 pub mod Joins
 pub mod Fronts

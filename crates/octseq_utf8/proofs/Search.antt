@@ -19,7 +19,7 @@ use Rattle.octseq_utf8.specs.Search.{high_count, IsSearching, FewTurns, IsFound}
 use Rattle.octseq_utf8.specs.Text.{Spells, IsWellFormed, chars}
 use Rattle.octseq_utf8.specs.declared.finder.FirstPart.TheVariants.{Encoding, Bad}
 use Rattle.octseq_utf8.proofs.Faults.{take-add, at_start, at_low, at_more, fault_at, word_front}
-use Rattle.octseq_utf8.proofs.Rows.{length_of}
+use Rattle.octseq_utf8.proofs.Fits.{length_of}
 use Rattle.octseq_utf8.proofs.Spelling.{chars_of}
 use Rattle.octseq_utf8.proofs.Splitting.{bad_some}
 
