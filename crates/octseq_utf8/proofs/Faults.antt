@@ -1,11 +1,12 @@
 -- Faults, and the places that the finder reaches.
-use Rattle.std.proofs.Common.{◌≡◌, ℕ, ◌+◌, ◌-◌, ◌*◌, ◌<◌, ◌≤◌, List, [], ◌∷◌, ◌++◌, map}
-use Rattle.std.proofs.Common.{length, take, drop, get_or, refl, arith, inl, inr, ⊎_elim, ap, sym, ◌∙◌}
-use Rattle.std.proofs.Common.{subst, append_assoc, length-append, length-take, length-drop, Option, Some}
+use Rattle.std.proofs.Common.{◌≡◌, ℕ, ◌+◌, ◌-◌, ◌*◌, ◌<◌, ◌≤◌, List, [], ◌∷◌, ◌++◌, map, length, take, drop, get_or}
+use Rattle.std.proofs.Common.{refl, arith, inl, inr, ap, sym, ◌∙◌, subst, append_assoc, length-append, length-take}
+use Rattle.std.proofs.Common.{length-drop, Option, Some}
 use Rattle.std.specs.Prelude.{unwrap_or}
-use Rattle.std.proofs.lemmas.List.{take-append-drop, take_all, take-take, length-map}
+use Rattle.std.proofs.lemmas.List.{take-append-drop, take_all, take-take, length-map, append_cancel_left}
 use Rattle.std.proofs.lemmas.List.Elements.{All-head, All-tail}
-use Rattle.std.proofs.Math.Seq.{take-append-add, take-append_seam, drop-append_seam, drop-cons}
+use Rattle.std.proofs.lemmas.Simd.{length-chunk}
+use Rattle.std.proofs.Math.Seq.{take-add, drop-cons}
 use Rattle.std.specs.List.{All}
 use Rattle.octseq_utf8.specs.Encoding.{IsEncoding, row_00_7F, number_of}
 use Rattle.octseq_utf8.specs.Fault.{Fault, IsFaultSize, IsFault, fault_end}
@@ -16,10 +17,11 @@ use Rattle.octseq_utf8.specs.Search.{IsAt, IsFaultAt}
 use Rattle.octseq_utf8.specs.Text.{Spells, IsWellFormed, chars, octets_of}
 use Rattle.octseq_utf8.specs.declared.finder.FirstPart.{FirstPart}
 use Rattle.octseq_utf8.specs.declared.finder.FirstPart.TheVariants.{Encoding, Bad}
-use Rattle.octseq_utf8.proofs.Fits.{nil_or_some, beginning_short}
-use Rattle.octseq_utf8.proofs.Fits.{length_of, width_le}
+use Rattle.octseq_utf8.proofs.AtFault.{front_is}
+use Rattle.octseq_utf8.proofs.Fits.{length_of}
 use Rattle.octseq_utf8.proofs.Joins.{parts_fault, parts_spelled}
 use Rattle.octseq_utf8.proofs.Spelling.{chars_of, octets_of_spelled, spells_nothing, spells_one, spells-append}
+use Rattle.octseq_utf8.proofs.Splitting.{bad_some, bad_length}
 use Rattle.octseq_utf8.proofs.Texts.{well_formed-append, chars-append}
 
 -- the finder is at the front before its first turn
@@ -32,14 +34,6 @@ at_start x t = record {
   few = omega arith;
   passed = omega arith;
 }
-
--- the first i + n octets are the first i followed by the next n
-pub take-add : (x : List ℕ) (i n : ℕ) → i ≤ length x → take (i + n) x ≡ take i x ++ take n (drop i x)
-take-add x i n h =
-    let cut : take i x ++ drop i x ≡ x = take-append-drop i x in
-    let long : length (take i x) ≡ i = length-take i x ∙ omega arith in
-    ap (λ y. take (i + n) y) (sym cut) ∙ ap (λ k. take (k + n) (take i x ++ drop i x)) (sym long)
-    ∙ take-append-add (take i x) (drop i x) n
 
 -- a slice from a place to the end is all octets from that place on
 pub rest_of : (x : List ℕ) (place : ℕ) → take (length x - place) (drop place x) ≡ drop place x
@@ -63,21 +57,17 @@ front_some x place len h =
 pub at_more : (x : List ℕ) (place old now len : ℕ) → IsAt x place old now → IsAtFront (drop place x) (Encoding len)
     → IsAt x (place + len) old (now + 1)
 at_more x place old now len at (within, e) =
-    let in_x = at.within in
-    let turns = at.turns in
-    let before = at.few in
-    let passed = at.passed in
-    let long : length (take len (drop place x)) ≡ len = length-take len (drop place x) ∙ omega arith in
-    let some : (1 ≤ len) × (len ≤ 4) = let l = length_of e in (omega arith, omega arith) in
     let next : List ℕ = number_of (take len (drop place x)) ∷ [] in
+    let long = length_of e in
+    let short = length-take len (drop place x) in
     record {
       characters = at.characters ++ next;
       within = omega (arith, length-drop place x);
-      spelled = subst (λ z. Spells z (at.characters ++ next)) (sym (take-add x place len in_x))
+      spelled = subst (λ z. Spells z (at.characters ++ next)) (sym (take-add place len x))
           (spells-append at.spelled (spells_one e));
-      turns = omega (arith, length-append at.characters next);
-      few = let least = some.0 in omega arith;
-      passed = let most = some.1 in omega arith;
+      turns = omega (arith, at.turns, length-append at.characters next);
+      few = omega (arith, at.few);
+      passed = omega (arith, at.passed);
     }
 
 -- an encoding at the front of a word of four octets
@@ -109,50 +99,32 @@ spells_low (a ∷ x) low =
 pub at_low : (x : List ℕ) (place old now n more : ℕ) → IsAt x place old now → place + n ≤ length x
     → All (λ o. o < 0x80) (take n (drop place x)) → more ≤ n → n ≤ 16 * more → IsAt x (place + n) old (now + more)
 at_low x place old now n more at room low few passed =
-    let in_x = at.within in
-    let turns = at.turns in
-    let before = at.few in
-    let so_far = at.passed in
-    let octets : List ℕ = take n (drop place x) in
-    let next : List ℕ = map (λ o. number_of (o ∷ [])) octets in
+    let next : List ℕ = map (λ o. number_of (o ∷ [])) (take n (drop place x)) in
+    let long : length next ≡ n = length-map (take n (drop place x)) _ ∙ length-chunk place n x room in
     record {
       characters = at.characters ++ next;
-      within = omega arith;
-      spelled = subst (λ z. Spells z (at.characters ++ next)) (sym (take-add x place n in_x))
-          (spells-append at.spelled (spells_low octets low));
-      turns = omega (
-        arith,
-        length-append at.characters next,
-        length-map octets (λ o. number_of (o ∷ [])),
-        length-take n (drop place x),
-        length-drop place x,
-      );
-      few = omega arith;
-      passed = omega arith;
+      within = room;
+      spelled = subst (λ z. Spells z (at.characters ++ next)) (sym (take-add place n x))
+          (spells-append at.spelled (spells_low (take n (drop place x)) low));
+      turns = omega (arith, at.turns, length-append at.characters next);
+      few = omega (arith, at.few);
+      passed = omega (arith, at.passed);
     }
 
 -- the end
 pub at_end : (x : List ℕ) (place old now : ℕ) → IsAt x place old now → length x ≤ place
     → IsWellFormed x × (now ≤ old + length (chars x))
 at_end x place old now at past =
-    let in_x = at.within in
-    let turns = at.turns in
     let s : Spells x at.characters = subst (λ z. Spells z at.characters) (take_all place x past) at.spelled in
-    ((at.characters, s), rw (chars_of s) (omega arith))
+    ((at.characters, s), rw (chars_of s) at.turns)
 
 -- a bad part at the finder's place is the fault there, found in one more turn
 pub fault_at : (x : List ℕ) (place old now : ℕ) (size : Option ℕ) → IsAt x place old now
     → IsAtFront (drop place x) (Bad size)
     → IsFaultAt x old (now + 1) (record { place = place; size = size })
 fault_at x place old now size at front =
-    let in_x = at.within in
-    let turns = at.turns in
-    let passed = at.passed in
-    let few = front.few in
     let y : List ℕ = drop place x in
     let n : ℕ = unwrap_or size (length y) in
-    let left : unwrap_or size (length y) ≡ unwrap_or size (length x - place) =
-    ap (unwrap_or size) (length-drop place x) in
     let cut : take n y ++ drop n y ≡ y = take-append-drop n y in
     record {
       is_fault = record {
@@ -162,11 +134,11 @@ fault_at x place old now size at front =
         whole = sym (ap (λ z. take place x ++ z) cut ∙ take-append-drop place x);
         good = (at.characters, at.spelled);
         first = subst (λ z. IsBadPart z (take n y)) (sym cut) front.bad;
-        place = sym (length-take place x ∙ omega arith);
+        place = omega (arith, at.within, length-take place x);
         size = front.size;
       };
-      turns = rw (chars_of at.spelled) (omega arith);
-      passed = omega arith;
+      turns = rw (chars_of at.spelled) (omega (arith, at.turns));
+      passed = omega (arith, at.passed, front.few, ap (unwrap_or size) (length-drop place x));
     }
 
 -- what is found after a place is found in the whole
@@ -183,10 +155,13 @@ well_formed_after x place old now at w =
 pub turns_after : (x : List ℕ) (place old mid now : ℕ) → IsAt x place old mid → IsWellFormed (drop place x)
     → now ≤ mid + length (chars (drop place x)) → now ≤ old + length (chars x)
 turns_after x place old mid now at w turns =
-    let first = at.turns in
-    let spelled : chars x ≡ at.characters ++ chars (drop place x) =
-    (well_formed_after x place old mid at w).1 ∙ ap (λ cs. cs ++ chars (drop place x)) (chars_of at.spelled) in
-    rw spelled (omega (arith, length-append at.characters (chars (drop place x))))
+    omega (
+      arith,
+      at.turns,
+      ap length ((well_formed_after x place old mid at w).1),
+      ap length (chars_of at.spelled),
+      length-append (chars (take place x)) (chars (drop place x)),
+    )
 
 -- the fault of the octets from the finder's place on is the fault of the whole, within the turns that the whole allows
 pub fault_after : (x : List ℕ) (place old mid now : ℕ) (fault : Fault) → IsAt x place old mid
@@ -196,24 +171,13 @@ pub fault_after : (x : List ℕ) (place old mid now : ℕ) (fault : Fault) → I
     → IsFaultAt x old now (record { place = place + fault.place; size = fault.size })
 fault_after x place old mid now fault at f turns passed =
     let before : IsWellFormed (take place x) = (at.characters, at.spelled) in
-    let in_x = at.within in
-    let first = at.turns in
-    let reached = at.passed in
-    let here = f.place in
-    let long : length (take place x) ≡ place = length-take place x ∙ omega arith in
-    let front : take fault.place (drop place x) ≡ f.before =
-    ap (λ k. take k (drop place x)) here ∙ ap (take (length f.before)) f.whole
-    ∙ take-append_seam f.before (f.bad ++ f.after) in
-    let both : take (place + fault.place) x ≡ take place x ++ take fault.place (drop place x) =
-    take-add x place fault.place in_x in
-    let good : IsWellFormed (take fault.place (drop place x)) = subst IsWellFormed (sym front) f.good in
+    let good : IsWellFormed (take fault.place (drop place x)) =
+    subst IsWellFormed (sym (front_is (drop place x) fault f)) f.good in
     let spelled : chars (take (place + fault.place) x) ≡ at.characters ++ chars (take fault.place (drop place x)) =
-    ap chars both ∙ chars-append _ _ before good ∙ ap (λ cs. cs ++ chars (take fault.place (drop place x)))
-    (chars_of at.spelled) in
-    let left : length x - (place + fault.place) ≡ length (drop place x) - fault.place =
+    ap chars (take-add place fault.place x) ∙ chars-append _ _ before good
+    ∙ ap (λ cs. cs ++ chars (take fault.place (drop place x))) (chars_of at.spelled) in
+    let left : length (drop place x) - fault.place ≡ length x - (place + fault.place) =
     omega (arith, length-drop place x) in
-    let end : unwrap_or fault.size (length x - (place + fault.place))
-    ≡ unwrap_or fault.size (length (drop place x) - fault.place) = ap (unwrap_or fault.size) left in
     record {
       is_fault = record {
         before = take place x ++ f.before;
@@ -223,11 +187,11 @@ fault_after x place old mid now fault at f turns passed =
             ∙ sym (append_assoc (take place x) f.before (f.bad ++ f.after));
         good = well_formed-append _ _ before f.good;
         first = f.first;
-        place = omega (arith, length-append (take place x) f.before);
+        place = omega (arith, f.place, at.within, length-take place x, length-append (take place x) f.before);
         size = f.size;
       };
-      turns = rw spelled (omega (arith, length-append at.characters (chars (take fault.place (drop place x)))));
-      passed = omega arith;
+      turns = rw spelled (omega (arith, at.turns, length-append at.characters (chars (take fault.place (drop place x)))));
+      passed = omega (arith, at.passed, ap (unwrap_or fault.size) left);
     }
 
 -- there is only one fault, and it rules out that the octets are well formed
@@ -268,39 +232,21 @@ one_fault {x} {fault} {other} f g =
     (sym (fault_parts f) ∙ fault_parts g) in
     let front : f.before ≡ g.before = sym (octets_of_spelled f.good.1) ∙ ap octets_of same.0
     ∙ octets_of_spelled g.good.1 in
-    let place : fault.place ≡ other.place = f.place ∙ ap length front ∙ sym g.place in
-    let ends : f.after ≡ g.after =
-    sym (drop-append_seam f.bad f.after)
-    ∙ ap (λ y. drop (length f.bad) y) (sym (drop-append_seam f.before (f.bad ++ f.after))
-    ∙ ap (λ y. drop (length f.before) y) (sym f.whole ∙ g.whole)
-    ∙ ap (λ y. drop (length y) (g.before ++ (g.bad ++ g.after))) front ∙ drop-append_seam g.before (g.bad ++ g.after))
-    ∙ ap (λ y. drop (length y) (g.bad ++ g.after)) same.1 ∙ drop-append_seam g.bad g.after in
+    let bad : f.bad ≡ g.bad = same.1 in
+    let whole : g.before ++ (g.bad ++ f.after) ≡ g.before ++ (g.bad ++ g.after) = cc (f.whole, g.whole) in
+    let ends : f.after ≡ g.after = append_cancel_left g.bad _ _ (append_cancel_left g.before _ _ whole) in
+    let place : fault.place ≡ other.place = cc (f.place, g.place) in
     let long : IsFaultSize g.bad g.after fault.size =
-    subst (λ y. IsFaultSize g.bad y fault.size) ends
-    (subst (λ y. IsFaultSize y f.after fault.size) same.1 f.size) in
+    subst (λ y. IsFaultSize g.bad y fault.size) ends (subst (λ y. IsFaultSize y f.after fault.size) bad f.size) in
     let size : fault.size ≡ other.size = same_size g.bad g.after fault.size other.size long g.size in
     λ i. record { place = place i; size = size i }
 
--- a bad part has one to three octets
-
-bad_small : {octets bad : List ℕ} → IsBadPart octets bad → (1 ≤ length bad) × (length bad ≤ 3)
-bad_small {bad = bad} b =
-    ⊎_elim
-    (λ l. let short = beginning_short l.0 in let width = width_le (get_or bad 0 0) in
-    (nil_or_some bad l.0.some, omega arith))
-    (λ one. let n = one.0 in (omega arith, omega arith))
-    b.longest
-
 sized : (bad after : List ℕ) (n : ℕ) → IsFaultSize bad after (Some n) → n ≡ length bad
-sized bad after n (inl h) = absurd (let e = h.0 in cc)
-sized bad after n (inr h) = let e = h.0 in cc
+sized bad after n (inl h) = absurd (cc)
+sized bad after n (inr h) = cc
 
 -- a fault that has a size has one to three octets
 pub fault_small : {octets : List ℕ} {place n : ℕ} → IsFault octets (record { place = place; size = Some n })
     → (1 ≤ n) × (n ≤ 3)
 fault_small {n = n} f =
-    let few = bad_small f.first in
-    let long = sized f.bad f.after n f.size in
-    let least = few.0 in
-    let most = few.1 in
-    (omega arith, omega arith)
+    let long = sized f.bad f.after n f.size in (omega (arith, bad_some f.first), omega (arith, bad_length f.first))

@@ -4,11 +4,11 @@ use Rattle.std.proofs.Common.{Bool, true, false, cond, leb, ltb, List, [], ◌�
 use Rattle.std.proofs.Common.{refl, arith, ap, sym, ◌∙◌, subst, length-append, length-take, length-drop, Option}
 use Rattle.std.proofs.lemmas.Bool.{le-leb, lt-leb}
 use Rattle.std.proofs.lemmas.Bool.Decides.{nat_tests}
-use Rattle.std.proofs.lemmas.List.{take-append-drop, take-take, drop-take, drop-drop, length-map, get_or-take, get_or-drop}
+use Rattle.std.proofs.lemmas.List.{append-nil, take-append-drop, take-take, drop-take, drop-drop, length-map, get_or-take, get_or-drop}
 use Rattle.std.proofs.lemmas.List.Elements.{All-nil, All-cons, All-get_or, All-take, All-drop, All-head, All-tail}
 use Rattle.std.proofs.lemmas.List.Sums.{sum_by-append, sum_by-cons}
 use Rattle.std.proofs.lemmas.Simd.{get_or-chunk, length-chunk}
-use Rattle.std.proofs.Math.Seq.{drop-cons, take-append_seam}
+use Rattle.std.proofs.Math.Seq.{take-add, drop-cons}
 use Rattle.std.specs.Int.{w32, to_le_bytes}
 use Rattle.std.specs.List.{All, concat, AllByRecursion}
 use Rattle.octseq_utf8.specs.Encoding.{IsEncoding, row_00_7F, row_C2_DF, row_E0, row_E1_EC}
@@ -18,106 +18,65 @@ use Rattle.octseq_utf8.specs.FirstPart.{IsAtFront}
 use Rattle.octseq_utf8.specs.Search.{high_count, IsSearching, FewTurns, IsFound}
 use Rattle.octseq_utf8.specs.Text.{Spells, IsWellFormed, chars}
 use Rattle.octseq_utf8.specs.declared.finder.FirstPart.TheVariants.{Encoding, Bad}
-use Rattle.octseq_utf8.proofs.Faults.{take-add, at_start, at_low, at_more, fault_at, word_front}
+use Rattle.octseq_utf8.proofs.Faults.{at_start, at_low, at_more, fault_at, word_front}
 use Rattle.octseq_utf8.proofs.Fits.{length_of}
+use Rattle.octseq_utf8.proofs.AtFault.{front_is}
 use Rattle.octseq_utf8.proofs.Spelling.{chars_of}
 use Rattle.octseq_utf8.proofs.Splitting.{bad_some}
 
 high-append : (x y : List ℕ) → high_count (x ++ y) ≡ high_count x + high_count y
 high-append x y = sum_by-append (λ o. cond (leb 0x80 o) 1 0) x y
 
-high-cons_high : (a : ℕ) (y : List ℕ) → 0x80 ≤ a → high_count (a ∷ y) ≡ 1 + high_count y
-high-cons_high a y h = sum_by-cons (λ o. cond (leb 0x80 o) 1 0) a y ∙ ap (λ b. cond b 1 0 + high_count y)
-    (le-leb 0x80 a h)
-
-high-cons_low : (a : ℕ) (y : List ℕ) → a < 0x80 → high_count (a ∷ y) ≡ high_count y
-high-cons_low a y h = sum_by-cons (λ o. cond (leb 0x80 o) 1 0) a y ∙ ap (λ b. cond b 1 0 + high_count y)
-    (lt-leb 0x80 a h) ∙ omega arith
-
-two_high : (a b : ℕ) (y : List ℕ) → 0x80 ≤ a → 0x80 ≤ b → 2 ≤ high_count (a ∷ b ∷ y)
-two_high a b y h k = omega (arith, high-cons_high a (b ∷ y) h, high-cons_high b y k)
+high-cons : (a : ℕ) (y : List ℕ) → high_count (a ∷ y) ≡ cond (leb 0x80 a) 1 0 + high_count y
+high-cons a y = sum_by-cons (λ o. cond (leb 0x80 o) 1 0) a y
 
 -- an encoding is one octet below 80, or at least two octets of which the first two and the last are 80 or more
+abbrev IsNarrow : List ℕ → Type 0
+IsNarrow e = (length e ≡ 1) × (get_or e 0 0 < 0x80) × (high_count e ≡ 0)
 
-record IsNarrow (e : List ℕ) : Type 0 where
-  one : length e ≡ 1
-  low : get_or e 0 0 < 0x80
-  none : high_count e ≡ 0
-
-pub record IsWide (e : List ℕ) : Type 0 where
-  pub some : 2 ≤ length e
-  pub two : 2 ≤ high_count e
-  pub last : 0x80 ≤ get_or e (length e - 1) 0
-
-wide_2 : (a b : ℕ) → 0x80 ≤ a → 0x80 ≤ b → IsWide (a ∷ b ∷ [])
-wide_2 a b h k = record { some = omega arith; two = two_high a b [] h k; last = k }
-
-wide_3 : (a b c : ℕ) → 0x80 ≤ a → 0x80 ≤ b → 0x80 ≤ c → IsWide (a ∷ b ∷ c ∷ [])
-wide_3 a b c h k l = record { some = omega arith; two = two_high a b (c ∷ []) h k; last = l }
-
-wide_4 : (a b c d : ℕ) → 0x80 ≤ a → 0x80 ≤ b → 0x80 ≤ d → IsWide (a ∷ b ∷ c ∷ d ∷ [])
-wide_4 a b c d h k l = record { some = omega arith; two = two_high a b (c ∷ d ∷ []) h k; last = l }
+abbrev pub IsWide : List ℕ → Type 0
+IsWide e = (2 ≤ length e) × (2 ≤ high_count e) × (0x80 ≤ get_or e (length e - 1) 0)
 
 narrow_or_wide : {e : List ℕ} → IsEncoding e → IsNarrow e ⊎ IsWide e
-narrow_or_wide (row_00_7F {a} p) =
-    inl (record { one = refl; low = omega arith; none = high-cons_low a [] (omega arith) })
-narrow_or_wide (row_C2_DF {a} {b} p q) = inr (wide_2 a b (omega arith) (omega arith))
-narrow_or_wide (row_E0 {a} {b} {c} p q r) = inr (wide_3 a b c (omega arith) (omega arith) (omega arith))
-narrow_or_wide (row_E1_EC {a} {b} {c} p q r) = inr (wide_3 a b c (omega arith) (omega arith) (omega arith))
-narrow_or_wide (row_ED {a} {b} {c} p q r) = inr (wide_3 a b c (omega arith) (omega arith) (omega arith))
-narrow_or_wide (row_EE_EF {a} {b} {c} p q r) = inr (wide_3 a b c (omega arith) (omega arith) (omega arith))
-narrow_or_wide (row_F0 {a} {b} {c} {d} p q r s) = inr (wide_4 a b c d (omega arith) (omega arith) (omega arith))
-narrow_or_wide (row_F1_F3 {a} {b} {c} {d} p q r s) = inr (wide_4 a b c d (omega arith) (omega arith) (omega arith))
-narrow_or_wide (row_F4 {a} {b} {c} {d} p q r s) = inr (wide_4 a b c d (omega arith) (omega arith) (omega arith))
+narrow_or_wide (row_00_7F {a} p) = inl (grind (arith, nat_tests, high-cons))
+narrow_or_wide (row_C2_DF {a} {b} p q) = inr (grind (arith, nat_tests, high-cons))
+narrow_or_wide (row_E0 {a} {b} {c} p q r) = inr (grind (arith, nat_tests, high-cons))
+narrow_or_wide (row_E1_EC {a} {b} {c} p q r) = inr (grind (arith, nat_tests, high-cons))
+narrow_or_wide (row_ED {a} {b} {c} p q r) = inr (grind (arith, nat_tests, high-cons))
+narrow_or_wide (row_EE_EF {a} {b} {c} p q r) = inr (grind (arith, nat_tests, high-cons))
+narrow_or_wide (row_F0 {a} {b} {c} {d} p q r s) = inr (grind (arith, nat_tests, high-cons))
+narrow_or_wide (row_F1_F3 {a} {b} {c} {d} p q r s) = inr (grind (arith, nat_tests, high-cons))
+narrow_or_wide (row_F4 {a} {b} {c} {d} p q r s) = inr (grind (arith, nat_tests, high-cons))
 
 pub wide_of : {e : List ℕ} → IsEncoding e → 2 ≤ length e → IsWide e
-wide_of {e} h some = ⊎_elim (λ n. let one = n.one in absurd (omega arith)) (λ w. w) (narrow_or_wide h)
+wide_of {e} h some = let one = narrow_or_wide h in grind arith
 
 -- so well-formed octets have either none of 80 or more, or at least two, and have no more characters than octets
 
 encodings_high : (es : List (List ℕ)) → AllByRecursion IsEncoding es
-    → (high_count (concat es) ≡ 0) ⊎ (2 ≤ high_count (concat es))
-encodings_high [] h = inl refl
+    → ((high_count (concat es) ≡ 0) ⊎ (2 ≤ high_count (concat es))) × (length es ≤ length (concat es))
+encodings_high [] h = (inl refl, omega arith)
 encodings_high (e ∷ es) h =
-    ⊎_elim
-    (λ n. let none = n.none in ⊎_elim (λ others. inl (omega (arith, high-append e (concat es))))
-    (λ others. inr (omega (arith, high-append e (concat es)))) (encodings_high es h.1))
-    (λ w. let two = w.two in inr (omega (arith, high-append e (concat es))))
-    (narrow_or_wide h.0)
-
-encodings_few : (es : List (List ℕ)) → AllByRecursion IsEncoding es → length es ≤ length (concat es)
-encodings_few [] h = omega arith
-encodings_few (e ∷ es) h = let some = length_of h.0 in let few = encodings_few es h.1 in
-    omega (arith, length-append e (concat es))
+    let one = narrow_or_wide h.0 in
+    let rest = encodings_high es h.1 in
+    grind (arith, high-append e (concat es), length-append e (concat es))
 
 spelled_high : {x cs : List ℕ} → Spells x cs → (high_count x ≡ 0) ⊎ (2 ≤ high_count x)
 spelled_high {x} {cs} s =
-    subst (λ y. (high_count y ≡ 0) ⊎ (2 ≤ high_count y)) s.joined (encodings_high s.encodings s.each)
+    subst (λ y. (high_count y ≡ 0) ⊎ (2 ≤ high_count y)) s.joined (encodings_high s.encodings s.each).0
 
 -- octets spell no more characters than there are octets
 pub spelled_few : {x cs : List ℕ} → Spells x cs → length cs ≤ length x
 spelled_few {x} {cs} s =
-    let few = encodings_few s.encodings s.each in
+    let few = (encodings_high s.encodings s.each).1 in
     omega (arith, ap length s.joined, ap length s.numbers, length-map s.encodings number_of)
-
--- a number is below 80, or it isn't
-pub low_or_high : (a : ℕ) → (a < 0x80) ⊎ (0x80 ≤ a)
-low_or_high a = by (ltb a 0x80) refl
-  where
-    by : (b : Bool) → ltb a 0x80 ≡ b → (a < 0x80) ⊎ (0x80 ≤ a)
-    by true e = inl (grind (arith, nat_tests))
-    by false e = inr (grind (arith, nat_tests))
-
--- octets whose first is 80 or more have at least one of 80 or more
-high_first : (y : List ℕ) → 0x80 ≤ get_or y 0 0 → 1 ≤ high_count y
-high_first [] h = absurd (omega arith)
-high_first (a ∷ y) h = omega (arith, high-cons_high a y h)
 
 -- if some octets are 80 or more, not all are below 80
 some_high : (y : List ℕ) → 1 ≤ high_count y → ¬ All (λ o. o < 0x80) y
 some_high [] h all = absurd (omega arith)
 some_high (a ∷ y) h all =
-    some_high y (omega (arith, high-cons_low a y (All-head (λ o. o < 0x80) a y all))) (All-tail (λ o. o < 0x80) a y all)
+    let low : a < 0x80 = All-head (λ o. o < 0x80) a y all in
+    some_high y (grind (arith, nat_tests, high-cons a y)) (All-tail (λ o. o < 0x80) a y all)
 
 pub search_start : (x : List ℕ) (t : ℕ) → IsSearching x 0 t t
 search_start x t = record {
@@ -127,19 +86,30 @@ search_start x t = record {
   most = omega arith;
 }
 
-high_add : (x : List ℕ) (place n : ℕ) → place ≤ length x
+high_add : (x : List ℕ) (place n : ℕ)
     → high_count (take (place + n) x) ≡ high_count (take place x) + high_count (take n (drop place x))
-high_add x place n h = ap high_count (take-add x place n h) ∙ high-append (take place x) (take n (drop place x))
+high_add x place n = ap high_count (take-add place n x) ∙ high-append (take place x) (take n (drop place x))
+
+-- the same place and turns in other words
+search_at : {x : List ℕ} {place other old now later : ℕ} → IsSearching x place old now → place ≡ other → now ≡ later
+    → IsSearching x other old later
+search_at {x} {place} {other} {old} {now} s p n =
+    subst (λ k. IsSearching x other old k) n (subst (λ k. IsSearching x k old now) p s)
+
+-- the first of some octets below 80
+first_low : (x : List ℕ) (place n : ℕ) → 1 ≤ n → place + n ≤ length x → All (λ o. o < 0x80) (take n (drop place x))
+    → get_or x place 0 < 0x80
+first_low x place n some room low =
+    let at : place + 0 ≡ place = omega arith in
+    subst (λ o. o < 0x80) (get_or-chunk place n x 0 0 some ∙ ap (λ k. get_or x k 0) at)
+    (All-get_or (λ o. o < 0x80) (take n (drop place x)) 0 0 (omega (arith, length-chunk place n x room)) low)
 
 -- a lane of octets below 80
 pub search_lane : (x : List ℕ) (place old now : ℕ) → IsSearching x place old now → place + 16 ≤ length x
     → All (λ o. o < 0x80) (take 16 (drop place x)) → IsSearching x (place + 16) old (now + 1)
 search_lane x place old now s room low =
-    let first : get_or x place 0 < 0x80 = subst (λ o. o < 0x80) (get_or-chunk place 16 x 0 0 (omega arith)
-    ∙ ap (λ k. get_or x k 0) (let e : place + 0 ≡ place = omega arith in e))
-    (All-get_or (λ o. o < 0x80) (take 16 (drop place x)) 0 0 (omega (arith, length-chunk place 16 x room)) low) in
-    let before = s.low first in
-    let high = high_add x place 16 (omega arith) in
+    let before = s.low (first_low x place 16 (omega arith) room low) in
+    let high = high_add x place 16 in
     record {
       at = at_low x place old now 16 1 s.at room low (omega arith) (omega arith);
       lanes = λ all. let same = s.lanes all in omega arith;
@@ -156,23 +126,16 @@ search_lanes x place old now s room low =
     let second : All (λ o. o < 0x80) (take 16 (drop (place + 16) x)) =
     subst (All (λ o. o < 0x80)) (drop-take 16 16 (drop place x) ∙ ap (take 16) (drop-drop 16 place x))
     (All-drop (λ o. o < 0x80) 16 _ low) in
-    subst (λ k. IsSearching x k old (now + 2)) (let e : place + 16 + 16 ≡ place + 32 = omega arith in e)
-    (subst (λ k. IsSearching x (place + 16 + 16) old k) (let e : now + 1 + 1 ≡ now + 2 = omega arith in e)
-    (search_lane x (place + 16) old (now + 1) (search_lane x place old now s (omega arith) first) (omega arith) second))
+    let one = search_lane x place old now s (omega arith) first in
+    search_at (search_lane x (place + 16) old (now + 1) one (omega arith) second) (omega arith) (omega arith)
 
 -- octets below 80 before one of 80 or more, one turn each
 pub search_jump : (x : List ℕ) (place old now n : ℕ) → IsSearching x place old now → n < 16 → place + n < length x
     → All (λ o. o < 0x80) (take n (drop place x)) → 0x80 ≤ get_or x (place + n) 0 → IsSearching x (place + n) old (now + n)
-search_jump x place old now zero s few room low high =
-    subst (λ k. IsSearching x k old (now + 0)) (let e : place ≡ place + 0 = omega arith in e)
-    (subst (λ k. IsSearching x place old k) (let e : now ≡ now + 0 = omega arith in e) s)
+search_jump x place old now zero s few room low high = search_at s (omega arith) (omega arith)
 search_jump x place old now (suc n) s few room low high =
-    let first : get_or x place 0 < 0x80 = subst (λ o. o < 0x80) (get_or-chunk place (suc n) x 0 0 (omega arith)
-    ∙ ap (λ k. get_or x k 0) (let e : place + 0 ≡ place = omega arith in e))
-    (All-get_or (λ o. o < 0x80) (take (suc n) (drop place x)) 0 0
-    (omega (arith, length-chunk place (suc n) x (omega arith))) low) in
-    let before = s.low first in
-    let more = high_add x place (suc n) (omega arith) in
+    let before = s.low (first_low x place (suc n) (omega arith) (omega arith) low) in
+    let more = high_add x place (suc n) in
     record {
       at = at_low x place old now (suc n) (suc n) s.at (omega arith) low (omega arith) (omega arith);
       lanes = λ all. let below = All-get_or (λ o. o < 0x80) x (place + suc n) 0 room all in absurd (omega arith);
@@ -193,9 +156,9 @@ pub search_encoding : (x : List ℕ) (place old now len : ℕ) → IsSearching x
     → IsAtFront (drop place x) (Encoding len) → IsSearching x (place + len) old (now + 1)
 search_encoding x place old now len s room wide (within, e) =
     let before = s.most in
-    let high = high_add x place len (omega arith) in
+    let high = high_add x place len in
     let z : List ℕ = take len (drop place x) in
-    let two : 2 ≤ high_count z = (wide_of e (omega (arith, length-take len (drop place x)))).two in
+    let two = wide_of e (omega (arith, length-take len (drop place x))) in
     record {
       at = at_more x place old now len s.at (within, e);
       lanes = λ all. absurd (some_high z (omega arith) (All-take (λ o. o < 0x80) len _ (All-drop (λ o. o < 0x80) place x
@@ -209,25 +172,23 @@ pub search_two_twos : (x : List ℕ) (word place old now : ℕ) → IsSearching 
     → to_le_bytes w32 word ≡ take 4 (drop place x) → IsEncoding (take 2 (to_le_bytes w32 word))
     → IsEncoding (drop 2 (to_le_bytes w32 word)) → IsSearching x (place + 4) old (now + 1 + 1)
 search_two_twos x word place old now s room same first second =
-    let left = length-drop place x in
     let last : drop 2 (to_le_bytes w32 word) ≡ take 2 (drop (place + 2) x) =
     ap (drop 2) same ∙ drop-take 2 2 (drop place x) ∙ ap (take 2) (drop-drop 2 place x) in
     let one = search_encoding x place old now 2 s (omega arith) (omega arith)
     (word_front x _ place 2 room same (omega arith) first) in
-    let two = search_encoding x (place + 2) old (now + 1) 2 one (omega arith) (omega arith)
-    (omega (arith, length-drop (place + 2) x), subst IsEncoding last second) in
-    subst (λ k. IsSearching x k old (now + 1 + 1)) (let e : place + 2 + 2 ≡ place + 4 = omega arith in e) two
+    search_at (search_encoding x (place + 2) old (now + 1) 2 one (omega arith) (omega arith)
+    (omega (arith, length-drop (place + 2) x), subst IsEncoding last second)) (omega arith) refl
+
+-- the octet at a place is the first of those from there on
+at_front : (x : List ℕ) (place : ℕ) → get_or (drop place x) 0 0 ≡ get_or x place 0
+at_front x place = get_or-drop place x 0 0 ∙ ap (λ k. get_or x k 0) (let e : place + 0 ≡ place = omega arith in e)
 
 -- an encoding whose first octet is 80 or more has at least two octets
 pub front_wide : (x : List ℕ) (place len : ℕ) → 0x80 ≤ get_or x place 0 → IsAtFront (drop place x) (Encoding len)
     → 2 ≤ len
 front_wide x place len first (within, e) =
-    let z : List ℕ = take len (drop place x) in
-    let some : 1 ≤ len = let n = length_of e in omega (arith, length-take len (drop place x)) in
-    let here : get_or z 0 0 ≡ get_or x place 0 = get_or-take len (drop place x) 0 0 some ∙ get_or-drop place x 0 0
-    ∙ ap (λ k. get_or x k 0) (let e : place + 0 ≡ place = omega arith in e) in
-    let long = length-take len (drop place x) in
-    ⊎_elim (λ n. let low = n.low in absurd (omega arith)) (λ w. let some = w.some in omega arith) (narrow_or_wide e)
+    let one = narrow_or_wide e in
+    grind (arith, length-take len (drop place x), length_of e, get_or-take len (drop place x) 0 0, at_front x place)
 
 high_cut : (x : List ℕ) (place : ℕ) → high_count x ≡ high_count (take place x) + high_count (drop place x)
 high_cut x place = ap high_count (sym (take-append-drop place x)) ∙ high-append (take place x) (drop place x)
@@ -238,60 +199,57 @@ pub search_fault : (x : List ℕ) (place old now : ℕ) (size : Option ℕ) → 
     → IsFound x old (now + 1) (record { place = place; size = size })
 search_fault x place old now size s room front =
     let before = s.most in
-    record {
-      at = fault_at x place old now size s.at front;
-      few = omega (arith, high_cut x place);
-    }
+    record { at = fault_at x place old now size s.at front; few = omega (arith, high_cut x place) }
+
+-- octets that begin with one of 80 or more have at least one of 80 or more, and the encodings at their front two
+first_high : (before rest : List ℕ) → 0x80 ≤ get_or (before ++ rest) 0 0
+    → (1 ≤ high_count (before ++ rest)) × ((length before ≡ 0) ⊎ (1 ≤ high_count before))
+first_high [] [] h = absurd (omega arith)
+first_high [] (a ∷ rest) h = (grind (arith, nat_tests, high-cons a rest), inl refl)
+first_high (a ∷ before) rest h =
+    (grind (arith, nat_tests, high-cons a (before ++ rest)), inr (grind (arith, nat_tests, high-cons a before)))
 
 -- if fewer than sixteen octets are left
 module _ (x : List ℕ) (place old mid : ℕ) (s : IsSearching x place old mid) (last : length x - 15 ≤ place) where
-  here : get_or (drop place x) 0 0 ≡ get_or x place 0
-  here = get_or-drop place x 0 0 ∙ ap (λ k. get_or x k 0) (let e : place + 0 ≡ place = omega arith in e)
-
   pub few_to_the_end : (now : ℕ) → IsWellFormed (drop place x) → now ≤ mid + length (chars (drop place x))
       → FewTurns x old now
   few_to_the_end now (cs, sp) turns =
       let within = s.at.within in
       let most = s.most in
-      let y : List ℕ = drop place x in
-      let long = length-drop place x in
-      let few = spelled_few sp in
-      let same = ap length (chars_of sp) in
-      let cut = high_cut x place in
-      ⊎_elim
-      (λ first. let before = s.low first in omega arith)
-      (λ first. let some : 1 ≤ high_count y = high_first y (omega (arith, here)) in
-      ⊎_elim (λ none. absurd (omega arith)) (λ two. omega arith) (spelled_high sp))
-      (low_or_high (get_or x place 0))
+      let low = s.low in
+      let high = first_high (drop place x) [] in
+      let two = spelled_high sp in
+      grind (
+        arith,
+        length-drop place x,
+        spelled_few sp,
+        ap length (chars_of sp),
+        high_cut x place,
+        at_front x place,
+        append-nil (drop place x),
+      )
 
   pub few_to_a_fault : (now : ℕ) (fault : Fault) → IsFault (drop place x) fault
       → now ≤ mid + length (chars (take fault.place (drop place x))) + 1 → FewTurns x old now
   few_to_a_fault now fault f turns =
       let within = s.at.within in
       let most = s.most in
-      let y : List ℕ = drop place x in
-      let long = length-drop place x in
+      let low = s.low in
       let rest : List ℕ = f.bad ++ f.after in
-      let few = spelled_few f.good.1 in
-      let front : take fault.place y ≡ f.before = ap (λ z. take fault.place z) f.whole
-      ∙ ap (λ n. take n (f.before ++ rest)) f.place ∙ take-append_seam f.before rest in
-      let same = ap length (ap chars front ∙ chars_of f.good.1) in
-      let some = (bad_some f.first).0 in
-      let parts : length y ≡ length f.before + (length f.bad + length f.after) =
-      omega (arith, ap length f.whole, length-append f.before rest, length-append f.bad f.after) in
-      let cut = high_cut x place in
-      let high : high_count y ≡ high_count f.before + high_count rest =
-      ap high_count f.whole ∙ high-append f.before rest in
-      ⊎_elim
-      (λ first. let before = s.low first in omega arith)
-      (λ first. ⊎_elim
-      (λ none. let empty = none_before f.before rest (subst (λ z. 0x80 ≤ get_or z 0 0) f.whole (omega (arith, here)))
-      none in omega arith)
-      (λ two. omega arith)
-      (spelled_high f.good.1))
-      (low_or_high (get_or x place 0))
-    where
-      none_before : (before rest : List ℕ) → 0x80 ≤ get_or (before ++ rest) 0 0 → high_count before ≡ 0
-          → length before ≡ 0
-      none_before [] rest h none = refl
-      none_before (a ∷ before) rest h none = absurd (omega (arith, high-cons_high a before h))
+      let high = first_high f.before rest in
+      let two = spelled_high f.good.1 in
+      grind (
+        arith,
+        length-drop place x,
+        spelled_few f.good.1,
+        ap length (ap chars (front_is (drop place x) fault f) ∙ chars_of f.good.1),
+        bad_some f.first,
+        ap length f.whole,
+        length-append f.before rest,
+        length-append f.bad f.after,
+        high_cut x place,
+        at_front x place,
+        ap (λ y. get_or y 0 0) f.whole,
+        ap high_count f.whole,
+        high-append f.before rest,
+      )

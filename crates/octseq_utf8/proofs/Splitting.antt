@@ -1,5 +1,5 @@
 -- Octets split in exactly one way, as the finder reads them.
-use Rattle.std.proofs.Common.{◌≡◌, ℕ, zero, suc, ◌-◌, ◌<◌, ◌≤◌, List, [], ◌∷◌, ◌++◌, length, take, drop, refl}
+use Rattle.std.proofs.Common.{◌≡◌, ℕ, zero, suc, ◌-◌, ◌<◌, ◌≤◌, List, [], ◌∷◌, ◌++◌, length, get_or, take, drop, refl}
 use Rattle.std.proofs.Common.{arith, ◌⊎◌, inl, inr, ⊎_elim, ap, sym, ◌∙◌, subst, length-append, length-take, length-drop}
 use Rattle.std.proofs.Math.Seq.{take-append_seam, drop-append_seam}
 use Rattle.std.proofs.lemmas.List.{take-append-drop}
@@ -9,7 +9,7 @@ use Rattle.octseq_utf8.specs.Parts.{IsFront, IsBeginning, IsBadPart, Part, Char}
 use Rattle.octseq_utf8.specs.Parts.{Bad, Splits, nothing, encoding, bad_part}
 use Rattle.octseq_utf8.specs.Reading.{width, fitting, part_len, first_part, parts_after, parts_of}
 use Rattle.octseq_utf8.proofs.Fits.{fits_all, from_fits, fits_more, fits_take, get_left, beginning_fits, beginning_from}
-use Rattle.octseq_utf8.proofs.Fits.{fitting_fits, fitting_within, fitting_wide, fits_fitting}
+use Rattle.octseq_utf8.proofs.Fits.{width_le, beginning_short, fitting_fits, fitting_within, fitting_wide, fits_fitting}
 
 -- all of the width fits
 abbrev IsWhole : List ℕ → Type 0
@@ -145,6 +145,11 @@ bad_some {x} {p} b = (
   ⊎_elim (λ h. (beginning_fits h.0).0) (λ h. omega arith) b.longest,
   omega (arith, ap length b.front.1, length-append p b.front.0),
 )
+
+-- a bad part has at most three octets
+pub bad_length : {x p : List ℕ} → IsBadPart x p → length p ≤ 3
+bad_length {x} {p} b =
+    ⊎_elim (λ h. omega (arith, beginning_short h.0, width_le (get_or p 0 0))) (λ h. omega arith) b.longest
 
 -- there is only one bad part
 pub bad_only : (x p : List ℕ) → IsBadPart x p → ((width x ≡ 0) ⊎ (fitting x < width x)) × (length p ≡ part_len x)

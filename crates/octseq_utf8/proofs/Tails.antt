@@ -125,11 +125,11 @@ last_front x four place len room same some few e =
     in_front : (y : List ℕ) (len : ℕ) → 1 ≤ length y → 2 ≤ len → len ≤ 3
         → IsEncoding (take len (y ++ 0 ∷ 0 ∷ 0 ∷ [])) → IsAtFront y (Encoding len)
     in_front [] len room some few e = absurd (omega arith)
-    in_front (a ∷ []) (suc (suc zero)) room some few e = let last = (wide_of e (omega arith)).last in absurd (omega arith)
+    in_front (a ∷ []) (suc (suc zero)) room some few e = let last = (wide_of e (omega arith)).2 in absurd (omega arith)
     in_front (a ∷ []) (suc (suc (suc zero))) room some few e =
-        let last = (wide_of e (omega arith)).last in absurd (omega arith)
+        let last = (wide_of e (omega arith)).2 in absurd (omega arith)
     in_front (a ∷ b ∷ []) (suc (suc (suc zero))) room some few e =
-        let last = (wide_of e (omega arith)).last in absurd (omega arith)
+        let last = (wide_of e (omega arith)).2 in absurd (omega arith)
     in_front (a ∷ b ∷ y) (suc (suc zero)) room some few e = (omega arith, e)
     in_front (a ∷ b ∷ c ∷ y) (suc (suc (suc zero))) room some few e = (omega arith, e)
     in_front y zero room some few e = absurd (omega arith)
