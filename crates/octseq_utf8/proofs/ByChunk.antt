@@ -2,7 +2,7 @@
 use Rattle.std.proofs.Common.{Bool, true, false, ◌≡◌, ◌≢◌, ℕ, ◌-◌, ◌≤◌, ◌⊎◌, inl, inr, ⊎_elim, List, [], ◌∷◌, ◌++◌}
 use Rattle.std.proofs.Common.{map, length, take, slice_range, refl, arith, ap, sym, ◌∙◌, subst, append_assoc}
 use Rattle.std.specs.List.{flat_map}
-use Rattle.std.specs.Prelude.{Option, Some, None, ◌↔◌, IsTrue, is_some, not}
+use Rattle.std.specs.Prelude.{Option, ◌↔◌, IsTrue, is_some, not}
 use Rattle.std.proofs.lemmas.List.{append-nil, take_at}
 use Rattle.std.proofs.lemmas.Grind.{flat_map-append}
 use Rattle.octseq_utf8.specs.Chunk.{Chunk, IsFirstChunk, AreChunks, no_chunk, first_chunk}
@@ -14,7 +14,7 @@ use Rattle.octseq_utf8.specs.Reading.{parts_of}
 use Rattle.octseq_utf8.specs.Text.{IsWellFormed, chars}
 use Rattle.octseq_utf8.proofs.AtFault.{end_is, end_bounds, onward_is}
 use Rattle.octseq_utf8.proofs.Faults.{no_bad}
-use Rattle.octseq_utf8.proofs.Joins.{text-chars, parts_spelled, parts_fault, text_fault, text_spelled}
+use Rattle.octseq_utf8.proofs.Joins.{text-chars, parts_spelled, parts_fault, text_spelled}
 use Rattle.octseq_utf8.proofs.Spelling.{spells_nothing, chars_of}
 use Rattle.octseq_utf8.proofs.Texts.{octets_of-chars}
 use Rattle.octseq_utf8.proofs.Splitting.{bad_some, only_parts, splits, parts_nil}

@@ -1,12 +1,10 @@
 -- The text of octets with a replacement for each bad part.
-use Rattle.std.proofs.Common.{◌≡◌, ◌≢◌, ℕ, ◌≤◌, List, [], ◌∷◌, ◌++◌, map, length, get_or}
-use Rattle.std.proofs.Common.{refl, arith, inr, ⊎_elim, ap, sym, ◌∙◌, subst, length-append}
+use Rattle.std.proofs.Common.{◌≡◌, ◌≢◌, ℕ, ◌≤◌, List, [], ◌∷◌, ◌++◌, map, length}
+use Rattle.std.proofs.Common.{refl, arith, inr, ap, sym, ◌∙◌, subst, length-append}
 use Rattle.octseq_utf8.specs.Encoding.{IsCharacter, number_of, encoding_of}
 use Rattle.octseq_utf8.specs.Parts.{IsBadPart, Part, Char, Bad, Splits, nothing, encoding, bad_part, text_with, text}
 use Rattle.octseq_utf8.specs.Reading.{parts_of}
 use Rattle.octseq_utf8.specs.Text.{Spells, IsWellFormed}
-use Rattle.octseq_utf8.proofs.Fits.{width_le}
-use Rattle.octseq_utf8.proofs.Fits.{beginning_short}
 use Rattle.octseq_utf8.proofs.Numbers.{encoding_of-number_of, encoding_is_of}
 use Rattle.octseq_utf8.proofs.Joins.{parts_fault, text_spelled}
 use Rattle.octseq_utf8.proofs.Spelling.{spells_nothing, spells_one, spells-append}

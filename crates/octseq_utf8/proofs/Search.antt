@@ -1,15 +1,13 @@
 -- Where the finder is, and the cost of its turns.
-use Rattle.std.proofs.Common.{◌≡◌, ℕ, zero, suc, ◌+◌, ◌-◌, ◌<◌, ◌≤◌, ◌⊎◌, inl, inr, ⊎_elim}
-use Rattle.std.proofs.Common.{Bool, true, false, cond, leb, ltb, List, [], ◌∷◌, ◌++◌, length, take, drop, get_or}
+use Rattle.std.proofs.Common.{◌≡◌, ℕ, zero, suc, ◌+◌, ◌-◌, ◌<◌, ◌≤◌, ◌⊎◌, inl, inr}
+use Rattle.std.proofs.Common.{cond, leb, List, [], ◌∷◌, ◌++◌, length, take, drop, get_or}
 use Rattle.std.proofs.Common.{refl, arith, ap, sym, ◌∙◌, subst, length-append, length-take, length-drop, Option}
-use Rattle.std.proofs.lemmas.Bool.{le-leb, lt-leb}
 use Rattle.std.proofs.lemmas.Bool.Decides.{nat_tests}
 use Rattle.std.proofs.lemmas.List.{append-nil, take-append-drop, take-take, drop-take, drop-drop, length-map, get_or-take, get_or-drop}
 use Rattle.std.proofs.lemmas.List.Elements.{All-nil, All-cons, All-get_or, All-take, All-drop, All-head, All-tail}
 use Rattle.std.proofs.lemmas.List.Sums.{sum_by-append, sum_by-cons}
 use Rattle.std.proofs.lemmas.Simd.{get_or-chunk, length-chunk}
 use Rattle.std.proofs.Math.Seq.{take-add, drop-cons}
-use Rattle.std.specs.Int.{w32, to_le_bytes}
 use Rattle.std.specs.List.{All, concat, AllByRecursion}
 use Rattle.octseq_utf8.specs.Encoding.{IsEncoding, row_00_7F, row_C2_DF, row_E0, row_E1_EC}
 use Rattle.octseq_utf8.specs.Encoding.{row_ED, row_EE_EF, row_F0, row_F1_F3, row_F4, number_of}
@@ -90,11 +88,24 @@ high_add : (x : List ℕ) (place n : ℕ)
     → high_count (take (place + n) x) ≡ high_count (take place x) + high_count (take n (drop place x))
 high_add x place n = ap high_count (take-add place n x) ∙ high-append (take place x) (take n (drop place x))
 
+-- a search goes on from a place to another, in the turns from now to later
+abbrev pub Step : List ℕ → ℕ → ℕ → ℕ → ℕ → Type 0
+Step x place now further later = (old : ℕ) → IsSearching x place old now → IsSearching x further old later
+
+-- What a loop passed, and how many turns it took.
+pub record Passes (x : List ℕ) (from place old now : ℕ) : Type 0 where
+  pub past : from ≤ place
+  pub passed : Step x from old place now
+
+pub passes_on : {x : List ℕ} {from place further old now later : ℕ} → Passes x from place old now → place ≤ further
+    → Step x place now further later → Passes x from further old later
+passes_on p le step = record { past = omega (arith, p.past); passed = λ start before. step start (p.passed start before) }
+
 -- the same place and turns in other words
-search_at : {x : List ℕ} {place other old now later : ℕ} → IsSearching x place old now → place ≡ other → now ≡ later
-    → IsSearching x other old later
-search_at {x} {place} {other} {old} {now} s p n =
-    subst (λ k. IsSearching x other old k) n (subst (λ k. IsSearching x k old now) p s)
+step_at : {x : List ℕ} {place now further other later then : ℕ} → Step x place now further later → further ≡ other
+    → later ≡ then → Step x place now other then
+step_at {x} {other = other} {later} step p n old s =
+    subst (λ k. IsSearching x other old k) n (subst (λ k. IsSearching x k old later) p (step old s))
 
 -- the first of some octets below 80
 first_low : (x : List ℕ) (place n : ℕ) → 1 ≤ n → place + n ≤ length x → All (λ o. o < 0x80) (take n (drop place x))
@@ -105,9 +116,9 @@ first_low x place n some room low =
     (All-get_or (λ o. o < 0x80) (take n (drop place x)) 0 0 (omega (arith, length-chunk place n x room)) low)
 
 -- a lane of octets below 80
-pub search_lane : (x : List ℕ) (place old now : ℕ) → IsSearching x place old now → place + 16 ≤ length x
-    → All (λ o. o < 0x80) (take 16 (drop place x)) → IsSearching x (place + 16) old (now + 1)
-search_lane x place old now s room low =
+pub search_lane : (x : List ℕ) (place now : ℕ) → place + 16 ≤ length x → All (λ o. o < 0x80) (take 16 (drop place x))
+    → Step x place now (place + 16) (now + 1)
+search_lane x place now room low old s =
     let before = s.low (first_low x place 16 (omega arith) room low) in
     let high = high_add x place 16 in
     record {
@@ -118,22 +129,23 @@ search_lane x place old now s room low =
     }
 
 -- two lanes of octets below 80
-pub search_lanes : (x : List ℕ) (place old now : ℕ) → IsSearching x place old now → place + 32 ≤ length x
-    → All (λ o. o < 0x80) (take 32 (drop place x)) → IsSearching x (place + 32) old (now + 2)
-search_lanes x place old now s room low =
+pub search_lanes : (x : List ℕ) (place now : ℕ) → place + 32 ≤ length x → All (λ o. o < 0x80) (take 32 (drop place x))
+    → Step x place now (place + 32) (now + 2)
+search_lanes x place now room low =
     let first : All (λ o. o < 0x80) (take 16 (drop place x)) =
     subst (All (λ o. o < 0x80)) (take-take 16 32 (drop place x) (omega arith)) (All-take (λ o. o < 0x80) 16 _ low) in
     let second : All (λ o. o < 0x80) (take 16 (drop (place + 16) x)) =
     subst (All (λ o. o < 0x80)) (drop-take 16 16 (drop place x) ∙ ap (take 16) (drop-drop 16 place x))
     (All-drop (λ o. o < 0x80) 16 _ low) in
-    let one = search_lane x place old now s (omega arith) first in
-    search_at (search_lane x (place + 16) old (now + 1) one (omega arith) second) (omega arith) (omega arith)
+    step_at (λ old s. search_lane x (place + 16) (now + 1) (omega arith) second old
+    (search_lane x place now (omega arith) first old s)) (omega arith) (omega arith)
 
 -- octets below 80 before one of 80 or more, one turn each
-pub search_jump : (x : List ℕ) (place old now n : ℕ) → IsSearching x place old now → n < 16 → place + n < length x
-    → All (λ o. o < 0x80) (take n (drop place x)) → 0x80 ≤ get_or x (place + n) 0 → IsSearching x (place + n) old (now + n)
-search_jump x place old now zero s few room low high = search_at s (omega arith) (omega arith)
-search_jump x place old now (suc n) s few room low high =
+pub search_jump : (x : List ℕ) (place now n : ℕ) → n < 16 → place + n < length x
+    → All (λ o. o < 0x80) (take n (drop place x)) → 0x80 ≤ get_or x (place + n) 0
+    → Step x place now (place + n) (now + n)
+search_jump x place now zero few room low high = step_at (λ old s. s) (omega arith) (omega arith)
+search_jump x place now (suc n) few room low high = λ old s.
     let before = s.low (first_low x place (suc n) (omega arith) (omega arith) low) in
     let more = high_add x place (suc n) in
     record {
@@ -144,17 +156,17 @@ search_jump x place old now (suc n) s few room low high =
     }
 
 -- one octet below 80 before one of 80 or more
-pub search_octet : (x : List ℕ) (place old now : ℕ) → IsSearching x place old now → place + 1 < length x
-    → get_or x place 0 < 0x80 → 0x80 ≤ get_or x (place + 1) 0 → IsSearching x (place + 1) old (now + 1)
-search_octet x place old now s room low high =
-    search_jump x place old now 1 s (omega arith) room
+pub search_octet : (x : List ℕ) (place now : ℕ) → place + 1 < length x → get_or x place 0 < 0x80
+    → 0x80 ≤ get_or x (place + 1) 0 → Step x place now (place + 1) (now + 1)
+search_octet x place now room low high =
+    search_jump x place now 1 (omega arith) room
     (subst (λ y. All (λ o. o < 0x80) (take 1 y)) (sym (drop-cons x place 0 (omega arith)))
     (All-cons (λ o. o < 0x80) (get_or x place 0) [] low (All-nil (λ o. o < 0x80)))) high
 
 -- an encoding of at least two octets
-pub search_encoding : (x : List ℕ) (place old now len : ℕ) → IsSearching x place old now → place < length x → 2 ≤ len
-    → IsAtFront (drop place x) (Encoding len) → IsSearching x (place + len) old (now + 1)
-search_encoding x place old now len s room wide (within, e) =
+pub search_encoding : (x : List ℕ) (place now len : ℕ) → 2 ≤ len → IsAtFront (drop place x) (Encoding len)
+    → Step x place now (place + len) (now + 1)
+search_encoding x place now len wide (within, e) old s =
     let before = s.most in
     let high = high_add x place len in
     let z : List ℕ = take len (drop place x) in
@@ -167,17 +179,21 @@ search_encoding x place old now len s room wide (within, e) =
       most = omega arith;
     }
 
+-- an encoding of at least two octets, found in a word
+pub search_word : (x four : List ℕ) (place now len : ℕ) → place + 4 ≤ length x → four ≡ take 4 (drop place x)
+    → (2 ≤ len) × (len ≤ 4) → IsEncoding (take len four) → Step x place now (place + len) (now + 1)
+search_word x four place now len room same long e =
+    search_encoding x place now len long.0 (word_front x four place len room same long.1 e)
+
 -- two encodings of two octets, found in one word
-pub search_two_twos : (x : List ℕ) (word place old now : ℕ) → IsSearching x place old now → place + 4 ≤ length x
-    → to_le_bytes w32 word ≡ take 4 (drop place x) → IsEncoding (take 2 (to_le_bytes w32 word))
-    → IsEncoding (drop 2 (to_le_bytes w32 word)) → IsSearching x (place + 4) old (now + 1 + 1)
-search_two_twos x word place old now s room same first second =
-    let last : drop 2 (to_le_bytes w32 word) ≡ take 2 (drop (place + 2) x) =
+pub search_two_twos : (x four : List ℕ) (place now : ℕ) → place + 4 ≤ length x → four ≡ take 4 (drop place x)
+    → IsEncoding (take 2 four) → IsEncoding (drop 2 four) → Step x place now (place + 4) (now + 1 + 1)
+search_two_twos x four place now room same first second =
+    let last : drop 2 four ≡ take 2 (drop (place + 2) x) =
     ap (drop 2) same ∙ drop-take 2 2 (drop place x) ∙ ap (take 2) (drop-drop 2 place x) in
-    let one = search_encoding x place old now 2 s (omega arith) (omega arith)
-    (word_front x _ place 2 room same (omega arith) first) in
-    search_at (search_encoding x (place + 2) old (now + 1) 2 one (omega arith) (omega arith)
-    (omega (arith, length-drop (place + 2) x), subst IsEncoding last second)) (omega arith) refl
+    step_at (λ old s. search_encoding x (place + 2) (now + 1) 2 (omega arith)
+    (omega (arith, length-drop (place + 2) x), subst IsEncoding last second) old
+    (search_word x four place now 2 room same (omega arith, omega arith) first old s)) (omega arith) refl
 
 -- the octet at a place is the first of those from there on
 at_front : (x : List ℕ) (place : ℕ) → get_or (drop place x) 0 0 ≡ get_or x place 0

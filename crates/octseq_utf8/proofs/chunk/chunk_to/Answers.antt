@@ -1,5 +1,3 @@
-use Rattle.std.proofs.Common.{◌∙◌, sym, subst}
-use Rattle.octseq_utf8.specs.Text.{IsWellFormed}
 use Rattle.octseq_utf8.proofs.AtFault.{front_is, after_is}
 use Rattle.octseq_utf8.proofs.Bridge.{utf8_from_well_formed}
 use Rattle.octseq_utf8.proofs.ByChunk.{bad_is, chunk_at_fault}
