@@ -163,19 +163,7 @@ loaded x four i n room fits e h =
 pub shifted : (w m : ℕ) → w < 2 ^ 32 → 1 ≤ m → m ≤ 3
     → to_le_bytes w32 (w / 2 ^ (8 * m)) ≡ take 4 (drop m (to_le_bytes w32 w) ++ 0 ∷ 0 ∷ 0 ∷ [])
 shifted w zero fits some few = absurd (omega arith)
-shifted w (suc zero) fits some few =
-    let second : w / 256 / 256 % 256 ≡ w / 65536 % 256 = omega arith in
-    let third : w / 256 / 65536 % 256 ≡ w / 16777216 % 256 = omega arith in
-    let last : w / 256 / 16777216 % 256 ≡ 0 = omega arith in
-    cc
-shifted w (suc (suc zero)) fits some few =
-    let second : w / 65536 / 256 % 256 ≡ w / 16777216 % 256 = omega arith in
-    let third : w / 65536 / 65536 % 256 ≡ 0 = omega arith in
-    let last : w / 65536 / 16777216 % 256 ≡ 0 = omega arith in
-    cc
-shifted w (suc (suc (suc zero))) fits some few =
-    let second : w / 16777216 / 256 % 256 ≡ 0 = omega arith in
-    let third : w / 16777216 / 65536 % 256 ≡ 0 = omega arith in
-    let last : w / 16777216 / 16777216 % 256 ≡ 0 = omega arith in
-    cc
+shifted w (suc zero) fits some few = grind arith
+shifted w (suc (suc zero)) fits some few = grind arith
+shifted w (suc (suc (suc zero))) fits some few = grind arith
 shifted w (suc (suc (suc (suc m)))) fits some few = absurd (omega arith)
