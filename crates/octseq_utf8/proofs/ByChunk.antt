@@ -12,8 +12,7 @@ use Rattle.octseq_utf8.specs.Fault.{Fault, IsFault, IsFaultSize, fault_end}
 use Rattle.octseq_utf8.specs.Parts.{IsBeginning, IsBadPart, Part, Char, Bad, Splits, octets_with, text_with}
 use Rattle.octseq_utf8.specs.Reading.{parts_of}
 use Rattle.octseq_utf8.specs.Text.{IsWellFormed, chars}
-use Rattle.octseq_utf8.proofs.AtFault.{end_is, end_bounds, onward_is}
-use Rattle.octseq_utf8.proofs.Faults.{no_bad}
+use Rattle.octseq_utf8.proofs.Faults.{end_is, end_bounds, onward_is, no_bad}
 use Rattle.octseq_utf8.proofs.Joins.{text-chars, parts_spelled, parts_fault, text_spelled}
 use Rattle.octseq_utf8.proofs.Spelling.{spells_nothing, chars_of}
 use Rattle.octseq_utf8.proofs.Texts.{octets_of-chars}
@@ -26,11 +25,6 @@ cut_is bad after size true (inl h) e = (λ t. (h.1, h.2), λ k. refl)
 cut_is bad after size true (inr h) e = let some = ap is_some h.0 in absurd (cc)
 cut_is bad after size false (inl h) e = let none = ap is_some h.0 in absurd (cc)
 cut_is bad after size false (inr h) e = (λ t. absurd (cc), λ k. absurd (h.1 k))
-
--- there are no parts if there are no octets
-pub none_left : (x : List ℕ) → length x ≡ 0 → length (parts_of x) ≡ 0
-none_left [] h = ap length parts_nil
-none_left (a ∷ x) h = absurd (omega arith)
 
 -- the chunk that ends with a fault
 module _ (x : List ℕ) (fault : Fault) (f : IsFault x fault) where

@@ -34,13 +34,6 @@ text-chars w [] ps = refl
 text-chars w (c ∷ cs) ps = ap (λ y. encoding_of c ++ y) (text-chars w cs ps)
     ∙ sym (append_assoc (encoding_of c) (octets_of cs) (text_with w ps))
 
--- the text at a fault
-pub text_fault : (w : ℕ) {x cs : List ℕ} → Spells x cs → (p r : List ℕ) → IsBadPart (p ++ r) p
-    → text_with w (parts_of (x ++ (p ++ r))) ≡ x ++ (encoding_of w ++ text_with w (parts_of r))
-text_fault w {x} {cs} s p r b =
-    ap (text_with w) (parts_fault s p r b) ∙ text-chars w cs (Bad p ∷ parts_of r)
-    ∙ ap (λ y. y ++ (encoding_of w ++ text_with w (parts_of r))) (octets_of_spelled s)
-
 -- the parts of well-formed octets are their characters, and the text is those octets
 
 -- the parts of well-formed octets are the characters that they spell

@@ -10,7 +10,5 @@ pub mod Masks
 pub mod Ascii
 pub mod Faults
 pub mod Search
-pub mod Tails
 pub mod LossyTexts
-pub mod AtFault
 pub mod ByChunk

@@ -1,26 +1,196 @@
--- Where the finder is, and the cost of its turns.
-use Rattle.std.proofs.Common.{◌≡◌, ℕ, zero, suc, ◌+◌, ◌-◌, ◌<◌, ◌≤◌, ◌⊎◌, inl, inr}
-use Rattle.std.proofs.Common.{cond, leb, List, [], ◌∷◌, ◌++◌, length, take, drop, get_or}
-use Rattle.std.proofs.Common.{refl, arith, ap, sym, ◌∙◌, subst, length-append, length-take, length-drop, Option}
-use Rattle.std.proofs.lemmas.Bool.Decides.{nat_tests}
-use Rattle.std.proofs.lemmas.List.{append-nil, take-append-drop, take-take, drop-take, drop-drop, length-map, get_or-take, get_or-drop}
-use Rattle.std.proofs.lemmas.List.Elements.{All-nil, All-cons, All-get_or, All-take, All-drop, All-head, All-tail}
-use Rattle.std.proofs.lemmas.List.Sums.{sum_by-append, sum_by-cons}
-use Rattle.std.proofs.lemmas.Simd.{get_or-chunk, length-chunk}
-use Rattle.std.proofs.Math.Seq.{take-add, drop-cons}
+-- Where the finder is, the cost of its turns, and what a search finds.
+use Rattle.std.proofs.Common.{◌≡◌, ℕ, ◌+◌, ◌-◌, ◌*◌, ◌<◌, ◌≤◌, List, [], ◌∷◌, ◌++◌, map, length, take, drop, get_or}
+use Rattle.std.proofs.Common.{refl, arith, inl, inr, ap, sym, ◌∙◌, subst, append_assoc, length-append, length-take}
+use Rattle.std.proofs.Common.{length-drop, Option, Some, zero, suc, ◌⊎◌, cond, leb, ◌/◌, ◌%◌, None}
+use Rattle.std.specs.Prelude.{unwrap_or, IsNone, IfNone, IfSome, ◌↔◌}
+use Rattle.std.proofs.lemmas.List.{take-append-drop, take_all, take-take, length-map, append-nil}
+use Rattle.std.proofs.lemmas.List.{drop-take, drop-drop, get_or-take, get_or-drop, take-append-le}
+use Rattle.std.proofs.lemmas.List.Elements.{All-head, All-tail, All-nil, All-cons, All-get_or, All-take, All-drop}
+use Rattle.std.proofs.lemmas.Simd.{length-chunk, get_or-chunk}
+use Rattle.std.proofs.Math.Seq.{take-add, drop-cons, get_or-append_right}
 use Rattle.std.specs.List.{All, concat, AllByRecursion}
-use Rattle.octseq_utf8.specs.Encoding.{IsEncoding, row_00_7F, row_C2_DF, row_E0, row_E1_EC}
-use Rattle.octseq_utf8.specs.Encoding.{row_ED, row_EE_EF, row_F0, row_F1_F3, row_F4, number_of}
-use Rattle.octseq_utf8.specs.Fault.{Fault, IsFault}
+use Rattle.octseq_utf8.specs.Encoding.{IsEncoding, row_00_7F, number_of, row_C2_DF, row_E0, row_E1_EC, row_ED}
+use Rattle.octseq_utf8.specs.Encoding.{row_EE_EF, row_F0, row_F1_F3, row_F4}
+use Rattle.octseq_utf8.specs.Fault.{Fault, IsFault, fault_end, fault_from}
 use Rattle.octseq_utf8.specs.FirstPart.{IsAtFront}
-use Rattle.octseq_utf8.specs.Search.{high_count, IsSearching, FewTurns, IsFound}
+use Rattle.octseq_utf8.specs.Parts.{IsBadPart}
+use Rattle.octseq_utf8.specs.Search.{IsAt, IsFaultAt, high_count, IsSearching, FewTurns, IsFound, IsAfter}
 use Rattle.octseq_utf8.specs.Text.{Spells, IsWellFormed, chars}
+use Rattle.octseq_utf8.specs.declared.finder.FirstPart.{FirstPart}
 use Rattle.octseq_utf8.specs.declared.finder.FirstPart.TheVariants.{Encoding, Bad}
-use Rattle.octseq_utf8.proofs.Faults.{at_start, at_low, at_more, fault_at, word_front}
 use Rattle.octseq_utf8.proofs.Fits.{length_of}
-use Rattle.octseq_utf8.proofs.AtFault.{front_is}
-use Rattle.octseq_utf8.proofs.Spelling.{chars_of}
+use Rattle.octseq_utf8.proofs.Faults.{front_is, fault_refutes, rest_of}
+use Rattle.octseq_utf8.proofs.Spelling.{chars_of, spells_nothing, spells_one, spells-append}
 use Rattle.octseq_utf8.proofs.Splitting.{bad_some}
+use Rattle.octseq_utf8.proofs.Texts.{well_formed-append, chars-append}
+use Rattle.std.proofs.lemmas.Bool.Decides.{nat_tests}
+use Rattle.std.proofs.lemmas.List.Sums.{sum_by-append, sum_by-cons}
+
+-- the finder is at the front before its first turn
+pub at_start : (x : List ℕ) (t : ℕ) → IsAt x 0 t t
+at_start x t = record {
+  characters = [];
+  within = omega arith;
+  spelled = spells_nothing;
+  turns = omega arith;
+  few = omega arith;
+  passed = omega arith;
+}
+
+-- what is at a place, given what is at the front of a slice from there
+pub at_place : (x : List ℕ) (place : ℕ) (front : FirstPart) → IsAtFront (take (length x - place) (drop place x)) front
+    → IsAtFront (drop place x) front
+at_place x place front h = subst (λ y. IsAtFront y front) (rest_of x place) h
+
+-- an encoding at that place has at least one octet
+pub front_some : (x : List ℕ) (place len : ℕ) → IsAtFront (take (length x - place) (drop place x)) (Encoding len)
+    → 1 ≤ len
+front_some x place len h =
+    let y : List ℕ = take (length x - place) (drop place x) in
+    let within = h.0 in
+    let n = length_of h.1 in
+    omega (arith, length-take len y)
+
+-- one more encoding
+pub at_more : (x : List ℕ) (place old now len : ℕ) → IsAt x place old now → IsAtFront (drop place x) (Encoding len)
+    → IsAt x (place + len) old (now + 1)
+at_more x place old now len at (within, e) =
+    let next : List ℕ = number_of (take len (drop place x)) ∷ [] in
+    let long = length_of e in
+    let short = length-take len (drop place x) in
+    record {
+      characters = at.characters ++ next;
+      within = omega (arith, length-drop place x);
+      spelled = subst (λ z. Spells z (at.characters ++ next)) (sym (take-add place len x))
+          (spells-append at.spelled (spells_one e));
+      turns = omega (arith, at.turns, length-append at.characters next);
+      few = omega (arith, at.few);
+      passed = omega (arith, at.passed);
+    }
+
+-- an encoding at the front of a word of four octets
+pub word_front : (x four : List ℕ) (place len : ℕ) → place + 4 ≤ length x → four ≡ take 4 (drop place x) → len ≤ 4
+    → IsEncoding (take len four) → IsAtFront (drop place x) (Encoding len)
+word_front x four place len room same few e =
+    (omega (arith, length-drop place x), subst IsEncoding (ap (take len) same ∙ take-take len 4 (drop place x) few) e)
+
+-- an octet below 80
+pub octet_front : (x : List ℕ) (place : ℕ) → place < length x → get_or x place 0 < 0x80
+    → IsAtFront (drop place x) (Encoding 1)
+octet_front x place lt low = (
+  omega (arith, length-drop place x),
+  subst IsEncoding (sym (ap (take 1) (drop-cons x place 0 lt)))
+      (row_00_7F (omega arith, omega arith)),
+)
+
+-- a lane of octets below 80: each spells its character
+
+-- octets that are all below 80 spell one character for each octet
+pub spells_low : (x : List ℕ) → All (λ o. o < 0x80) x → Spells x (map (λ o. number_of (o ∷ [])) x)
+spells_low [] low = spells_nothing
+spells_low (a ∷ x) low =
+    let first : a < 0x80 = All-head (λ o. o < 0x80) a x low in
+    spells-append (spells_one (row_00_7F {a = a} (omega arith, omega arith)))
+    (spells_low x (All-tail (λ o. o < 0x80) a x low))
+
+-- octets that are all below 80 are passed in at most one turn each, and at most sixteen of them in a turn
+pub at_low : (x : List ℕ) (place old now n more : ℕ) → IsAt x place old now → place + n ≤ length x
+    → All (λ o. o < 0x80) (take n (drop place x)) → more ≤ n → n ≤ 16 * more → IsAt x (place + n) old (now + more)
+at_low x place old now n more at room low few passed =
+    let next : List ℕ = map (λ o. number_of (o ∷ [])) (take n (drop place x)) in
+    let long : length next ≡ n = length-map (take n (drop place x)) _ ∙ length-chunk place n x room in
+    record {
+      characters = at.characters ++ next;
+      within = room;
+      spelled = subst (λ z. Spells z (at.characters ++ next)) (sym (take-add place n x))
+          (spells-append at.spelled (spells_low (take n (drop place x)) low));
+      turns = omega (arith, at.turns, length-append at.characters next);
+      few = omega (arith, at.few);
+      passed = omega (arith, at.passed);
+    }
+
+-- the end
+pub at_end : (x : List ℕ) (place old now : ℕ) → IsAt x place old now → length x ≤ place
+    → IsWellFormed x × (now ≤ old + length (chars x))
+at_end x place old now at past =
+    let s : Spells x at.characters = subst (λ z. Spells z at.characters) (take_all place x past) at.spelled in
+    ((at.characters, s), rw (chars_of s) at.turns)
+
+-- a bad part at the finder's place is the fault there, found in one more turn
+pub fault_at : (x : List ℕ) (place old now : ℕ) (size : Option ℕ) → IsAt x place old now
+    → IsAtFront (drop place x) (Bad size)
+    → IsFaultAt x old (now + 1) (record { place = place; size = size })
+fault_at x place old now size at front =
+    let y : List ℕ = drop place x in
+    let n : ℕ = unwrap_or size (length y) in
+    let cut : take n y ++ drop n y ≡ y = take-append-drop n y in
+    record {
+      is_fault = record {
+        before = take place x;
+        bad = take n y;
+        after = drop n y;
+        whole = sym (ap (λ z. take place x ++ z) cut ∙ take-append-drop place x);
+        good = (at.characters, at.spelled);
+        first = subst (λ z. IsBadPart z (take n y)) (sym cut) front.bad;
+        place = omega (arith, at.within, length-take place x);
+        size = front.size;
+      };
+      turns = rw (chars_of at.spelled) (omega (arith, at.turns));
+      passed = omega (arith, at.passed, front.few, ap (unwrap_or size) (length-drop place x));
+    }
+
+-- what is found after a place is found in the whole
+
+-- if the octets from the finder's place on are well formed, so are all of them, and their characters join
+pub well_formed_after : (x : List ℕ) (place old now : ℕ) → IsAt x place old now → IsWellFormed (drop place x)
+    → IsWellFormed x × (chars x ≡ chars (take place x) ++ chars (drop place x))
+well_formed_after x place old now at w =
+    let before : IsWellFormed (take place x) = (at.characters, at.spelled) in
+    let whole = take-append-drop place x in
+    (subst IsWellFormed whole (well_formed-append _ _ before w), ap chars (sym whole) ∙ chars-append _ _ before w)
+
+-- if the well-formed rest takes at most one turn for each character, so does the whole
+pub turns_after : (x : List ℕ) (place old mid now : ℕ) → IsAt x place old mid → IsWellFormed (drop place x)
+    → now ≤ mid + length (chars (drop place x)) → now ≤ old + length (chars x)
+turns_after x place old mid now at w turns =
+    omega (
+      arith,
+      at.turns,
+      ap length ((well_formed_after x place old mid at w).1),
+      ap length (chars_of at.spelled),
+      length-append (chars (take place x)) (chars (drop place x)),
+    )
+
+-- the fault of the octets from the finder's place on is the fault of the whole, within the turns that the whole allows
+pub fault_after : (x : List ℕ) (place old mid now : ℕ) (fault : Fault) → IsAt x place old mid
+    → IsFault (drop place x) fault
+    → now ≤ mid + length (chars (take fault.place (drop place x))) + 1
+    → fault_end (drop place x) fault + 16 * mid ≤ 16 * now
+    → IsFaultAt x old now (record { place = place + fault.place; size = fault.size })
+fault_after x place old mid now fault at f turns passed =
+    let before : IsWellFormed (take place x) = (at.characters, at.spelled) in
+    let good : IsWellFormed (take fault.place (drop place x)) =
+    subst IsWellFormed (sym (front_is (drop place x) fault f)) f.good in
+    let spelled : chars (take (place + fault.place) x) ≡ at.characters ++ chars (take fault.place (drop place x)) =
+    ap chars (take-add place fault.place x) ∙ chars-append _ _ before good
+    ∙ ap (λ cs. cs ++ chars (take fault.place (drop place x))) (chars_of at.spelled) in
+    let left : length (drop place x) - fault.place ≡ length x - (place + fault.place) =
+    omega (arith, length-drop place x) in
+    record {
+      is_fault = record {
+        before = take place x ++ f.before;
+        bad = f.bad;
+        after = f.after;
+        whole = sym (take-append-drop place x) ∙ ap (λ y. take place x ++ y) f.whole
+            ∙ sym (append_assoc (take place x) f.before (f.bad ++ f.after));
+        good = well_formed-append _ _ before f.good;
+        first = f.first;
+        place = omega (arith, f.place, at.within, length-take place x, length-append (take place x) f.before);
+        size = f.size;
+      };
+      turns = rw spelled (omega (arith, at.turns, length-append at.characters (chars (take fault.place (drop place x)))));
+      passed = omega (arith, at.passed, ap (unwrap_or fault.size) left);
+    }
 
 high-append : (x y : List ℕ) → high_count (x ++ y) ≡ high_count x + high_count y
 high-append x y = sum_by-append (λ o. cond (leb 0x80 o) 1 0) x y
@@ -269,3 +439,114 @@ module _ (x : List ℕ) (place old mid : ℕ) (s : IsSearching x place old mid) 
         ap high_count f.whole,
         high-append f.before rest,
       )
+
+-- A search that begins at a place, and what it shows about the whole.
+
+drop_further : {x : List ℕ} {from place old now : ℕ} → IsAfter x from place old now
+    → drop place x ≡ drop (place - from) (drop from x)
+drop_further {x} {from} {place} b =
+    let e : place ≡ from + (place - from) = omega (arith, b.past) in
+    ap (λ k. drop k x) e ∙ sym (drop-drop (place - from) from x)
+
+-- an encoding at the place of a search is passed in one turn
+pub after_more : (x : List ℕ) (from place old now len : ℕ) → IsAfter x from place old now
+    → IsAtFront (drop place x) (Encoding len) → IsAfter x from (place + len) old (now + 1)
+after_more x from place old now len b front = record {
+  past = omega (arith, b.past);
+  at = subst (λ k. IsAt (drop from x) k old (now + 1))
+      (let e : place - from + len ≡ place + len - from = omega (arith, b.past) in e)
+      (at_more (drop from x) (place - from) old now len b.at (rw (drop_further b) at front));
+}
+
+-- the same, found in a word
+pub after_word : (x four : List ℕ) (from place old now len : ℕ) → IsAfter x from place old now → place + 4 ≤ length x
+    → four ≡ take 4 (drop place x) → len ≤ 4 → IsEncoding (take len four) → IsAfter x from (place + len) old (now + 1)
+after_word x four from place old now len b room same few e =
+    after_more x from place old now len b (word_front x four place len room same few e)
+
+-- a search that reaches the end has passed well-formed octets, with at most one turn for each character
+pub after_end : (x : List ℕ) (from place old now : ℕ) → IsAfter x from place old now → length x ≤ place
+    → IsWellFormed (drop from x) × (now ≤ old + length (chars (drop from x)))
+after_end x from place old now b past =
+    at_end (drop from x) (place - from) old now b.at (omega (arith, length-drop from x))
+
+-- a bad part at the place of a search is the fault of the octets that it searches, found in one more turn
+pub after_fault : (x : List ℕ) (from place old now : ℕ) (size : Option ℕ) → IsAfter x from place old now
+    → IsAtFront (drop place x) (Bad size)
+    → IsFaultAt (drop from x) old (now + 1) (fault_from from (record { place = place; size = size }))
+after_fault x from place old now size b front =
+    fault_at (drop from x) (place - from) old now size b.at (rw (drop_further b) at front)
+
+-- octets that are all below 80 are well formed, one character each
+pub low_well_formed : (y : List ℕ) → All (λ o. o < 0x80) y → IsWellFormed y × (length (chars y) ≡ length y)
+low_well_formed y low = (
+  (map (λ o. number_of (o ∷ [])) y, spells_low y low),
+  ap length (chars_of (spells_low y low))
+      ∙ length-map y (λ o. number_of (o ∷ [])),
+)
+
+-- What a search of all octets finds.
+abbrev pub Finds : List ℕ → ℕ → ℕ → Option Fault → Type 0
+Finds x old now r = (IsNone r ↔ IsWellFormed x) × IfSome r (IsFaultAt x old now)
+    × IfNone r (now ≤ old + length (chars x)) × FewTurns x old now
+
+-- a fault found is a fault
+pub finds_fault : (x : List ℕ) (old now : ℕ) (fault : Fault) → IsFaultAt x old now fault → FewTurns x old now
+    → Finds x old now (Some fault)
+finds_fault x old now fault f few = ((λ h. absurd (cc), λ w. absurd (fault_refutes f.is_fault w)), f, tt, few)
+
+-- and what a search of the octets from a place on shows
+pub tail : (x : List ℕ) (place old mid now : ℕ) (r : Option Fault) → IsSearching x place old mid
+    → length x - 15 ≤ place → IsNone r ↔ IsWellFormed (drop place x) → IfSome r (λ fault. place ≤ fault.place)
+    → IfSome r (λ fault. IsFault (drop place x) (fault_from place fault))
+    → IfNone r (now ≤ mid + length (chars (drop place x)))
+    → IfSome r (λ fault. now ≤ mid + length (chars (take (fault.place - place) (drop place x))) + 1)
+    → IfSome r (λ fault. fault_end (drop place x) (fault_from place fault) + 16 * mid ≤ 16 * now) → Finds x old now r
+tail x place old mid now None s last none past f turns turns_to passed =
+    let good = none.0 refl in (
+      (λ h. (well_formed_after x place old mid s.at good).0, λ w. refl),
+      past,
+      turns_after x place old mid now s.at good turns,
+      few_to_the_end x place old mid s last now good turns,
+    )
+tail x place old mid now (Some fault) s last none past f turns turns_to passed =
+    let same : place + (fault.place - place) ≡ fault.place = omega arith in
+    finds_fault x old now fault
+    (subst (λ k. IsFaultAt x old now (record { place = k; size = fault.size })) same
+    (fault_after x place old mid now (fault_from place fault) s.at f turns_to passed))
+    (few_to_a_fault x place old mid s last now (fault_from place fault) f turns_to)
+
+-- the turns of octets that are all below 80
+pub ascii_turns : (x : List ℕ) (place old mid now : ℕ) → IsSearching x place old mid → length x - 15 ≤ place
+    → now ≤ mid + length (drop place x) → All (λ o. o < 0x80) x
+    → now ≤ old + length x / 16 + length x % 16
+ascii_turns x place old mid now s last more low =
+    let lanes = s.lanes low in
+    let within = s.at.within in
+    let left = length-drop place x in
+    omega arith
+
+-- an encoding at the front of a word that has zeros after the octets includes none of the zeros
+pub last_front : (x four : List ℕ) (place len : ℕ) → place < length x → four ≡ take 4 (drop place x ++ 0 ∷ 0 ∷ 0 ∷ [])
+    → 2 ≤ len → len ≤ 3 → IsEncoding (take len four) → IsAtFront (drop place x) (Encoding len)
+last_front x four place len room same some few e =
+    let y : List ℕ = drop place x in
+    let front = subst IsEncoding (ap (take len) same ∙ take-take len 4 (y ++ 0 ∷ 0 ∷ 0 ∷ []) (omega arith)) e in
+    let long : length (take len (y ++ 0 ∷ 0 ∷ 0 ∷ [])) ≡ len =
+    length-take len _ ∙ omega (arith, length-append y (0 ∷ 0 ∷ 0 ∷ []), length-drop place x) in
+    let within : len ≤ length y = grind (
+      arith,
+      wide_of front (omega arith),
+      get_or-take len (y ++ 0 ∷ 0 ∷ 0 ∷ []) (len - 1) 0 (omega arith),
+      after_zeros y (len - 1),
+    ) in
+    (within, subst IsEncoding (take-append-le len y _ within) front)
+  where
+    zeros : (i : ℕ) → get_or {A = ℕ} (0 ∷ 0 ∷ 0 ∷ []) i 0 ≡ 0
+    zeros zero = refl
+    zeros (suc zero) = refl
+    zeros (suc (suc zero)) = refl
+    zeros (suc (suc (suc i))) = refl
+
+    after_zeros : (y : List ℕ) (i : ℕ) → length y ≤ i → get_or (y ++ 0 ∷ 0 ∷ 0 ∷ []) i 0 ≡ 0
+    after_zeros y i le = get_or-append_right y _ i 0 le ∙ zeros (i - length y)

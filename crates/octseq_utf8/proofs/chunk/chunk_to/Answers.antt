@@ -1,4 +1,4 @@
-use Rattle.octseq_utf8.proofs.AtFault.{front_is, after_is}
+use Rattle.octseq_utf8.proofs.Faults.{front_is, after_is}
 use Rattle.octseq_utf8.proofs.Bridge.{utf8_from_well_formed}
 use Rattle.octseq_utf8.proofs.ByChunk.{bad_is, chunk_at_fault}
 use Rattle.octseq_utf8.proofs.chunk.chunk_to.Goals as goal

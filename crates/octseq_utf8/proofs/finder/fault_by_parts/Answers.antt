@@ -2,7 +2,7 @@ use Rattle.std.proofs.Common.{drop, refl, arith, length-drop}
 use Rattle.octseq_utf8.specs.Fault.{fault_from}
 use Rattle.octseq_utf8.specs.Search.{IsFaultAt}
 use Rattle.octseq_utf8.proofs.Faults.{fault_refutes}
-use Rattle.octseq_utf8.proofs.Tails.{after_more, after_end, after_fault, low_well_formed}
+use Rattle.octseq_utf8.proofs.Search.{after_more, after_end, after_fault, low_well_formed}
 use Rattle.octseq_utf8.proofs.finder.fault_by_parts.Goals as goal
 
 -- the octets that are left are few and all below 80

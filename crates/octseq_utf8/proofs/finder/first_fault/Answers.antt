@@ -1,8 +1,7 @@
 use Rattle.std.proofs.Common.{refl, arith, length-drop}
 use Rattle.std.proofs.lemmas.Option.{IfSome_then}
 use Rattle.octseq_utf8.proofs.Faults.{fault_refutes}
-use Rattle.octseq_utf8.proofs.Search.{search_start}
-use Rattle.octseq_utf8.proofs.Tails.{Finds, tail, ascii_turns, low_well_formed}
+use Rattle.octseq_utf8.proofs.Search.{search_start, Finds, tail, ascii_turns, low_well_formed}
 use Rattle.octseq_utf8.proofs.finder.first_fault.Goals as goal
 
 -- sixteen to thirty-two octets that are all below 80

@@ -1,7 +1,6 @@
 use Rattle.std.proofs.Common.{arith}
 use Rattle.octseq_utf8.specs.declared.finder.FirstPart.TheVariants.{Encoding, Bad}
-use Rattle.octseq_utf8.proofs.Faults.{at_place, octet_front}
-use Rattle.octseq_utf8.proofs.Tails.{after_more, after_word, after_fault}
+use Rattle.octseq_utf8.proofs.Search.{at_place, octet_front, after_more, after_word, after_fault}
 use Rattle.octseq_utf8.proofs.finder.pass_words.Goals as goal
 
 pub loop-at-preserved-then-octets-at-lt128 : goal.loop-at-preserved-then-octets-at-lt128

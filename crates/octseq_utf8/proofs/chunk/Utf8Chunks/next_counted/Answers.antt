@@ -1,10 +1,10 @@
-use Rattle.std.proofs.Common.{◌≡◌, ℕ, ◌+◌, ◌*◌, ◌-◌, ◌≤◌, List, [], length, take, drop, arith, ap, refl, length-take, length-drop}
+use Rattle.std.proofs.Common.{◌≡◌, ℕ, ◌+◌, ◌-◌, ◌≤◌, List, [], length, take, drop, arith, ap, refl, length-take, length-drop}
 use Rattle.std.proofs.lemmas.Bool.Decides.{nat_tests}
 use Rattle.std.proofs.lemmas.List.{nil_from_length}
 use Rattle.octseq_utf8.specs.Fault.{fault_end}
 use Rattle.octseq_utf8.specs.Parts.{Part, Splits}
 use Rattle.octseq_utf8.specs.Reading.{parts_of}
-use Rattle.octseq_utf8.proofs.AtFault.{end_bounds, parts_at_fault, parts_well_formed}
+use Rattle.octseq_utf8.proofs.Faults.{end_bounds, parts_at_fault, parts_well_formed}
 use Rattle.octseq_utf8.proofs.ByChunk.{chunk_at_end}
 use Rattle.octseq_utf8.proofs.Splitting.{only_parts, parts_nil}
 use Rattle.octseq_utf8.proofs.chunk.Utf8Chunks.next_counted.Goals as goal
