@@ -6,13 +6,16 @@ use Rattle.std.specs.Prelude.{unwrap_or}
 use Rattle.std.proofs.lemmas.List.{take_all, length-map, append_cancel_left, take_at}
 use Rattle.std.proofs.lemmas.List.{drop_at}
 use Rattle.octseq_utf8.specs.Fault.{Fault, IsFaultSize, IsFault, fault_end}
-use Rattle.octseq_utf8.specs.Parts.{Part, Char, Bad as BadPart, Bad}
+use Rattle.octseq_utf8.specs.Parts.{Part, Char, Bad}
 use Rattle.octseq_utf8.specs.Reading.{parts_of}
 use Rattle.octseq_utf8.specs.Text.{IsWellFormed, chars, octets_of}
-use Rattle.octseq_utf8.specs.declared.finder.FirstPart.TheVariants.{Bad}
 use Rattle.octseq_utf8.proofs.Joins.{parts_fault, parts_spelled}
 use Rattle.octseq_utf8.proofs.Spelling.{chars_of, octets_of_spelled}
 use Rattle.octseq_utf8.proofs.Splitting.{bad_some, bad_length}
+
+fault_parts : {x : List ℕ} {fault : Fault} (f : IsFault x fault)
+    → parts_of x ≡ map Char f.good.0 ++ (Bad f.bad ∷ parts_of f.after)
+fault_parts f = ap parts_of f.whole ∙ parts_fault f.good.1 f.bad f.after f.first
 
 module _ (rest : List ℕ) (fault : Fault) (f : IsFault rest fault) where
   whole_length : length rest ≡ fault.place + (length f.bad + length f.after)
@@ -52,7 +55,7 @@ module _ (rest : List ℕ) (fault : Fault) (f : IsFault rest fault) where
       + length (parts_of (drop (fault_end rest fault) rest))
   parts_at_fault = omega (
     arith,
-    ap length (ap parts_of f.whole ∙ parts_fault f.good.1 f.bad f.after f.first),
+    ap length (fault_parts f),
     ap length (ap chars front_is ∙ chars_of f.good.1),
     length-append (map Char f.good.0) (Bad f.bad ∷ parts_of f.after),
     length-map f.good.0 Char,
@@ -70,23 +73,18 @@ rest_of x place = take_all (length x - place) (drop place x) (omega (arith, leng
 -- there is only one fault, and it rules out that the octets are well formed
 
 -- parts that are characters and then a bad part are never only characters
-pub no_bad : (cs ds : List ℕ) (p : List ℕ) (ps : List Part) → map Char cs ++ (BadPart p ∷ ps) ≡ map Char ds → ⊥
+pub no_bad : (cs ds : List ℕ) (p : List ℕ) (ps : List Part) → map Char cs ++ (Bad p ∷ ps) ≡ map Char ds → ⊥
 no_bad [] [] p ps h = cc
 no_bad [] (d ∷ ds) p ps h = cc
 no_bad (c ∷ cs) [] p ps h = cc
 no_bad (c ∷ cs) (d ∷ ds) p ps h = no_bad cs ds p ps (cc)
 
 first_bad_same : (cs ds p q : List ℕ) (ps qs : List Part)
-    → map Char cs ++ (BadPart p ∷ ps) ≡ map Char ds ++ (BadPart q ∷ qs) → (cs ≡ ds) × (p ≡ q)
+    → map Char cs ++ (Bad p ∷ ps) ≡ map Char ds ++ (Bad q ∷ qs) → (cs ≡ ds) × (p ≡ q)
 first_bad_same [] [] p q ps qs h = (refl, cc)
 first_bad_same [] (d ∷ ds) p q ps qs h = absurd (cc)
 first_bad_same (c ∷ cs) [] p q ps qs h = absurd (cc)
-first_bad_same (c ∷ cs) (d ∷ ds) p q ps qs h = let k = first_bad_same cs ds p q ps qs (cc) in
-    (let e : c ≡ d = cc in let f = k.0 in cc, k.1)
-
-fault_parts : {x : List ℕ} {fault : Fault} (f : IsFault x fault)
-    → parts_of x ≡ map Char f.good.0 ++ (BadPart f.bad ∷ parts_of f.after)
-fault_parts f = ap parts_of f.whole ∙ parts_fault f.good.1 f.bad f.after f.first
+first_bad_same (c ∷ cs) (d ∷ ds) p q ps qs h = let k = first_bad_same cs ds p q ps qs (cc) in (cc, k.1)
 
 -- octets that have a fault aren't well formed
 pub fault_refutes : {x : List ℕ} {fault : Fault} → IsFault x fault → ¬ IsWellFormed x
@@ -105,18 +103,16 @@ one_fault {x} {fault} {other} f g =
     (sym (fault_parts f) ∙ fault_parts g) in
     let front : f.before ≡ g.before = sym (octets_of_spelled f.good.1) ∙ ap octets_of same.0
     ∙ octets_of_spelled g.good.1 in
-    let bad : f.bad ≡ g.bad = same.1 in
     let whole : g.before ++ (g.bad ++ f.after) ≡ g.before ++ (g.bad ++ g.after) = cc (f.whole, g.whole) in
     let ends : f.after ≡ g.after = append_cancel_left g.bad _ _ (append_cancel_left g.before _ _ whole) in
     let place : fault.place ≡ other.place = cc (f.place, g.place) in
     let long : IsFaultSize g.bad g.after fault.size =
-    subst (λ y. IsFaultSize g.bad y fault.size) ends (subst (λ y. IsFaultSize y f.after fault.size) bad f.size) in
+    subst (λ y. IsFaultSize g.bad y fault.size) ends (subst (λ y. IsFaultSize y f.after fault.size) same.1 f.size) in
     let size : fault.size ≡ other.size = same_size g.bad g.after fault.size other.size long g.size in
     λ i. record { place = place i; size = size i }
 
 sized : (bad after : List ℕ) (n : ℕ) → IsFaultSize bad after (Some n) → n ≡ length bad
-sized bad after n (inl h) = absurd (cc)
-sized bad after n (inr h) = cc
+sized bad after n h = grind arith
 
 -- a fault that has a size has one to three octets
 pub fault_small : {octets : List ℕ} {place n : ℕ} → IsFault octets (record { place = place; size = Some n })

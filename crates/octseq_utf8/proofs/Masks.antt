@@ -2,12 +2,13 @@
 -- its range; so what the code tests of the word puts each octet in the range that a row of the table requires. Only
 -- this direction is needed: what no mask accepts is read octet by octet.
 use Rattle.std.proofs.Common.{◌≡◌, ◌≢◌, ℕ, zero, suc, ◌+◌, ◌*◌, ◌/◌, ◌%◌, ◌^◌, ◌-◌, ◌<◌, ◌≤◌, List, [], ◌∷◌, ◌++◌}
-use Rattle.std.proofs.Common.{ap, ◌∙◌, arith, bit_and, bit_or, take, drop, length, get_or, take_all, length-take}
-use Rattle.std.proofs.Common.{length-drop, Fits, w8}
+use Rattle.std.proofs.Common.{ap, ◌∙◌, arith, bit_and, bit_or, take, drop, length, get_or}
+use Rattle.std.proofs.Common.{Fits, w8}
 use Rattle.std.specs.Int.{IsInRange, w32, to_le_bytes, from_le_bytes}
 use lib.Lanes.{Each1}
 use Rattle.std.proofs.lemmas.Bool.Decides.{nat_tests}
-use Rattle.std.proofs.lemmas.Simd.{chunk-fits}
+use Rattle.std.proofs.lemmas.List.{take-take}
+use Rattle.std.proofs.lemmas.Simd.{chunk-fits, length-chunk}
 use Rattle.std.proofs.lemmas.Nat.{and_block, and_mask, or_shifted, le_bytes_4}
 use Rattle.std.proofs.lemmas.Nat.Bits.{and_high}
 use Rattle.std.specs.Int.Bits.{and_zero_r}
@@ -74,7 +75,7 @@ pub two : (w a b c d : ℕ) → AreOctets w a b c d → 0x80C2 ≤ bit_and w 0xC
 two w a b c d o low high =
     let all = and_4 w a b c d o 0xC0FF (omega arith) in
     let each = masks_4 w a b c d o in
-    row_C2_DF (omega arith, omega arith) (omega arith, omega arith)
+    row_C2_DF (omega arith) (omega arith)
 
 -- of the first octets of two encodings, the bits between the lowest and the top three carry where they aren't 0
 carries : (w a b c d : ℕ) → AreOctets w a b c d → bit_and (bit_and w 0x1E001E + 0x1E001E) 0x200020 ≡ 0x200020
@@ -90,7 +91,7 @@ carries w a b c d o h =
     0x200020 (omega arith) in
     let of_p = masks p (omega arith) in
     let of_q = masks q (omega arith) in
-    (omega arith, omega arith)
+    omega arith
 
 -- twice two octets: the masked word has the top bits of each, and the bits of the first ones carry
 pub two_twos : (w a b c d : ℕ) → AreOctets w a b c d → bit_and w 0xC0E0C0E0 ≡ 0x80C080C0
@@ -98,10 +99,8 @@ pub two_twos : (w a b c d : ℕ) → AreOctets w a b c d → bit_and w 0xC0E0C0E
 two_twos w a b c d o h k =
     let all = and_4 w a b c d o 0xC0E0C0E0 (omega arith) in
     let each = masks_4 w a b c d o in
-    let wide = carries w a b c d o k in (
-      row_C2_DF (omega arith, omega arith) (omega arith, omega arith),
-      row_C2_DF (omega arith, omega arith) (omega arith, omega arith),
-    )
+    let wide = carries w a b c d o k in
+    (row_C2_DF (omega arith) (omega arith), row_C2_DF (omega arith) (omega arith))
 
 -- three octets: the masked word is as in the row, and the bits that matter for E0 and ED are neither all 0 nor those of
 -- a surrogate
@@ -112,12 +111,10 @@ three w a b c d o h k l =
     let all = and_4 w a b c d o 0xC0C0F0 (omega arith) in
     let low = and_4 w a b c d o 0x200F (omega arith) in
     let each = masks_4 w a b c d o in
-    row_three a b c (omega arith, omega arith) (omega arith, omega arith) (omega arith, omega arith) (λ q. omega arith)
-    (λ q. omega arith)
-  where
-    row_three : (a b c : ℕ) → IsInRange 0xE0 0xEF a → IsInRange 0x80 0xBF b → IsInRange 0x80 0xBF c
-        → (a ≡ 0xE0 → 0xA0 ≤ b) → (a ≡ 0xED → b ≤ 0x9F) → IsEncoding (a ∷ b ∷ c ∷ [])
-    row_three a b c p q r e0 ed = from_fits (a ∷ b ∷ c ∷ []) (grind (arith, nat_tests)) (grind (arith, nat_tests))
+    let ranges : IsInRange 0xE0 0xEF a × IsInRange 0x80 0xBF b × IsInRange 0x80 0xBF c = omega arith in
+    let e0 : a ≡ 0xE0 → 0xA0 ≤ b = λ q. omega arith in
+    let ed : a ≡ 0xED → b ≤ 0x9F = λ q. omega arith in
+    from_fits (a ∷ b ∷ c ∷ []) (grind (arith, nat_tests)) (grind (arith, nat_tests))
 
 -- the low bits of the first octet followed by those of the second
 high_is : (w : ℕ) → bit_or (bit_and w 7 * 256 % 4294967296) (bit_and (w / 256) 63) ≡ (w % 8) * 256 + w / 256 % 64
@@ -135,24 +132,19 @@ four w a b c d o h k =
     let all = and_4 w a b c d o 0xC0C0C0F8 (omega arith) in
     let each = masks_4 w a b c d o in
     let high = high_is w in
-    row_four a b c d (omega arith, omega arith) (omega arith, omega arith) (omega arith, omega arith)
-    (omega arith, omega arith) (λ q. omega arith) (λ q. omega arith)
-  where
-    row_four : (a b c d : ℕ) → IsInRange 0xF0 0xF4 a → IsInRange 0x80 0xBF b → IsInRange 0x80 0xBF c
-        → IsInRange 0x80 0xBF d → (a ≡ 0xF0 → 0x90 ≤ b) → (a ≡ 0xF4 → b ≤ 0x8F) → IsEncoding (a ∷ b ∷ c ∷ d ∷ [])
-    row_four a b c d p q r s f0 f4 =
-        from_fits (a ∷ b ∷ c ∷ d ∷ []) (grind (arith, nat_tests)) (grind (arith, nat_tests))
+    let ranges : IsInRange 0xF0 0xF4 a × IsInRange 0x80 0xBF b × IsInRange 0x80 0xBF c × IsInRange 0x80 0xBF d =
+    omega arith in
+    let f0 : a ≡ 0xF0 → 0x90 ≤ b = λ q. omega arith in
+    let f4 : a ≡ 0xF4 → b ≤ 0x8F = λ q. omega arith in
+    from_fits (a ∷ b ∷ c ∷ d ∷ []) (grind (arith, nat_tests)) (grind (arith, nat_tests))
 
 -- the octets of a loaded word
 pub loaded : (x four : List ℕ) (i n : ℕ) → i + 4 ≤ length x → ((k : ℕ) → Fits w8 (get_or x k 0))
     → four ≡ take 4 (take (i + 4 - i) (drop i x)) → n ≡ from_le_bytes w32 four → to_le_bytes w32 n ≡ take 4 (drop i x)
 loaded x four i n room fits e h =
-    let same : four ≡ take 4 (drop i x) =
-    e ∙ take_all 4 (take (i + 4 - i) (drop i x)) (omega (arith, length-take (i + 4 - i) (drop i x)))
-    ∙ ap (λ k. take k (drop i x)) (let q : i + 4 - i ≡ 4 = omega arith in q) in
-    let long : length (take 4 (drop i x)) ≡ 4 = length-take 4 (drop i x) ∙ omega (arith, length-drop i x) in
-    le_bytes_4 (take 4 (drop i x)) n long (below_of (take 4 (drop i x)) (chunk-fits w8 i 4 x fits))
-    (h ∙ ap (from_le_bytes w32) same)
+    let same : four ≡ take 4 (drop i x) = e ∙ take-take 4 (i + 4 - i) (drop i x) (omega arith) in
+    le_bytes_4 (take 4 (drop i x)) n (length-chunk i 4 x room)
+    (below_of (take 4 (drop i x)) (chunk-fits w8 i 4 x fits)) (h ∙ ap (from_le_bytes w32) same)
   where
     below_of : (ys : List ℕ) → Each1 (Fits w8) ys → (k : ℕ) → get_or ys k 0 < 256
     below_of [] f k = omega arith

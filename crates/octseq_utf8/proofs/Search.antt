@@ -13,7 +13,6 @@ use Rattle.octseq_utf8.specs.Encoding.{IsEncoding, row_00_7F, number_of, row_C2_
 use Rattle.octseq_utf8.specs.Encoding.{row_EE_EF, row_F0, row_F1_F3, row_F4}
 use Rattle.octseq_utf8.specs.Fault.{Fault, IsFault, fault_end, fault_from}
 use Rattle.octseq_utf8.specs.FirstPart.{IsAtFront}
-use Rattle.octseq_utf8.specs.Parts.{IsBadPart}
 use Rattle.octseq_utf8.specs.Search.{IsAt, IsFaultAt, high_count, IsSearching, FewTurns, IsFound, IsAfter}
 use Rattle.octseq_utf8.specs.Text.{Spells, IsWellFormed, chars}
 use Rattle.octseq_utf8.specs.declared.finder.FirstPart.{FirstPart}
@@ -45,28 +44,28 @@ at_place x place front h = subst (λ y. IsAtFront y front) (rest_of x place) h
 -- an encoding at that place has at least one octet
 pub front_some : (x : List ℕ) (place len : ℕ) → IsAtFront (take (length x - place) (drop place x)) (Encoding len)
     → 1 ≤ len
-front_some x place len h =
-    let y : List ℕ = take (length x - place) (drop place x) in
-    let within = h.0 in
-    let n = length_of h.1 in
-    omega (arith, length-take len y)
+front_some x place len h = omega (arith, h.0, length_of h.1, length-take len (take (length x - place) (drop place x)))
+
+-- more characters, in at most one turn each, where a turn passes at most sixteen octets
+at_spelled : (x cs : List ℕ) (place old now n more : ℕ) → IsAt x place old now → place + n ≤ length x
+    → Spells (take n (drop place x)) cs → more ≤ length cs → more ≤ n → n ≤ 16 * more
+    → IsAt x (place + n) old (now + more)
+at_spelled x cs place old now n more at room spelled some few passed = record {
+  characters = at.characters ++ cs;
+  within = room;
+  spelled = rw (take-add place n x) (spells-append at.spelled spelled);
+  turns = omega (arith, at.turns, length-append at.characters cs);
+  few = omega (arith, at.few);
+  passed = omega (arith, at.passed);
+}
 
 -- one more encoding
 pub at_more : (x : List ℕ) (place old now len : ℕ) → IsAt x place old now → IsAtFront (drop place x) (Encoding len)
     → IsAt x (place + len) old (now + 1)
 at_more x place old now len at (within, e) =
-    let next : List ℕ = number_of (take len (drop place x)) ∷ [] in
-    let long = length_of e in
-    let short = length-take len (drop place x) in
-    record {
-      characters = at.characters ++ next;
-      within = omega (arith, length-drop place x);
-      spelled = subst (λ z. Spells z (at.characters ++ next)) (sym (take-add place len x))
-          (spells-append at.spelled (spells_one e));
-      turns = omega (arith, at.turns, length-append at.characters next);
-      few = omega (arith, at.few);
-      passed = omega (arith, at.passed);
-    }
+    let long : (1 ≤ len) × (len ≤ 4) = omega (arith, length_of e, length-take len (drop place x)) in
+    at_spelled x _ place old now len 1 at (omega (arith, at.within, length-drop place x)) (spells_one e) (omega arith)
+    long.0 (omega arith)
 
 -- an encoding at the front of a word of four octets
 pub word_front : (x four : List ℕ) (place len : ℕ) → place + 4 ≤ length x → four ≡ take 4 (drop place x) → len ≤ 4
@@ -77,11 +76,8 @@ word_front x four place len room same few e =
 -- an octet below 80
 pub octet_front : (x : List ℕ) (place : ℕ) → place < length x → get_or x place 0 < 0x80
     → IsAtFront (drop place x) (Encoding 1)
-octet_front x place lt low = (
-  omega (arith, length-drop place x),
-  subst IsEncoding (sym (ap (take 1) (drop-cons x place 0 lt)))
-      (row_00_7F (omega arith, omega arith)),
-)
+octet_front x place lt low =
+    (omega (arith, length-drop place x), rw (drop-cons x place 0 lt) (row_00_7F {a = get_or x place 0} (omega arith)))
 
 -- a lane of octets below 80: each spells its character
 
@@ -89,25 +85,15 @@ octet_front x place lt low = (
 pub spells_low : (x : List ℕ) → All (λ o. o < 0x80) x → Spells x (map (λ o. number_of (o ∷ [])) x)
 spells_low [] low = spells_nothing
 spells_low (a ∷ x) low =
-    let first : a < 0x80 = All-head (λ o. o < 0x80) a x low in
-    spells-append (spells_one (row_00_7F {a = a} (omega arith, omega arith)))
+    spells-append (spells_one (row_00_7F {a = a} (omega (arith, All-head (λ o. o < 0x80) a x low))))
     (spells_low x (All-tail (λ o. o < 0x80) a x low))
 
 -- octets that are all below 80 are passed in at most one turn each, and at most sixteen of them in a turn
 pub at_low : (x : List ℕ) (place old now n more : ℕ) → IsAt x place old now → place + n ≤ length x
     → All (λ o. o < 0x80) (take n (drop place x)) → more ≤ n → n ≤ 16 * more → IsAt x (place + n) old (now + more)
 at_low x place old now n more at room low few passed =
-    let next : List ℕ = map (λ o. number_of (o ∷ [])) (take n (drop place x)) in
-    let long : length next ≡ n = length-map (take n (drop place x)) _ ∙ length-chunk place n x room in
-    record {
-      characters = at.characters ++ next;
-      within = room;
-      spelled = subst (λ z. Spells z (at.characters ++ next)) (sym (take-add place n x))
-          (spells-append at.spelled (spells_low (take n (drop place x)) low));
-      turns = omega (arith, at.turns, length-append at.characters next);
-      few = omega (arith, at.few);
-      passed = omega (arith, at.passed);
-    }
+    at_spelled x _ place old now n more at room (spells_low (take n (drop place x)) low)
+    (omega (arith, length-map (take n (drop place x)) (λ o. number_of (o ∷ [])), length-chunk place n x room)) few passed
 
 -- the end
 pub at_end : (x : List ℕ) (place old now : ℕ) → IsAt x place old now → length x ≤ place
@@ -115,29 +101,6 @@ pub at_end : (x : List ℕ) (place old now : ℕ) → IsAt x place old now → l
 at_end x place old now at past =
     let s : Spells x at.characters = subst (λ z. Spells z at.characters) (take_all place x past) at.spelled in
     ((at.characters, s), rw (chars_of s) at.turns)
-
--- a bad part at the finder's place is the fault there, found in one more turn
-pub fault_at : (x : List ℕ) (place old now : ℕ) (size : Option ℕ) → IsAt x place old now
-    → IsAtFront (drop place x) (Bad size)
-    → IsFaultAt x old (now + 1) (record { place = place; size = size })
-fault_at x place old now size at front =
-    let y : List ℕ = drop place x in
-    let n : ℕ = unwrap_or size (length y) in
-    let cut : take n y ++ drop n y ≡ y = take-append-drop n y in
-    record {
-      is_fault = record {
-        before = take place x;
-        bad = take n y;
-        after = drop n y;
-        whole = sym (ap (λ z. take place x ++ z) cut ∙ take-append-drop place x);
-        good = (at.characters, at.spelled);
-        first = subst (λ z. IsBadPart z (take n y)) (sym cut) front.bad;
-        place = omega (arith, at.within, length-take place x);
-        size = front.size;
-      };
-      turns = rw (chars_of at.spelled) (omega (arith, at.turns));
-      passed = omega (arith, at.passed, front.few, ap (unwrap_or size) (length-drop place x));
-    }
 
 -- what is found after a place is found in the whole
 
@@ -191,6 +154,28 @@ fault_after x place old mid now fault at f turns passed =
       turns = rw spelled (omega (arith, at.turns, length-append at.characters (chars (take fault.place (drop place x)))));
       passed = omega (arith, at.passed, ap (unwrap_or fault.size) left);
     }
+
+-- a bad part at the finder's place is the fault there, found in one more turn
+pub fault_at : (x : List ℕ) (place old now : ℕ) (size : Option ℕ) → IsAt x place old now
+    → IsAtFront (drop place x) (Bad size)
+    → IsFaultAt x old (now + 1) (record { place = place; size = size })
+fault_at x place old now size at front =
+    let y : List ℕ = drop place x in
+    let n : ℕ = unwrap_or size (length y) in
+    let cut : take n y ++ drop n y ≡ y = take-append-drop n y in
+    let same : place + 0 ≡ place = omega arith in
+    let all : length y - 0 ≡ length y = omega arith in
+    subst (λ k. IsFaultAt x old (now + 1) (record { place = k; size = size })) same
+    (fault_after x place old now (now + 1) _ at (record {
+      before = [];
+      bad = take n y;
+      after = drop n y;
+      whole = sym cut;
+      good = ([], spells_nothing);
+      first = rw cut front.bad;
+      place = refl;
+      size = front.size;
+    }) (omega arith) (omega (arith, front.few, ap (unwrap_or size) all)))
 
 high-append : (x y : List ℕ) → high_count (x ++ y) ≡ high_count x + high_count y
 high-append x y = sum_by-append (λ o. cond (leb 0x80 o) 1 0) x y
@@ -247,12 +232,7 @@ some_high (a ∷ y) h all =
     some_high y (grind (arith, nat_tests, high-cons a y)) (All-tail (λ o. o < 0x80) a y all)
 
 pub search_start : (x : List ℕ) (t : ℕ) → IsSearching x 0 t t
-search_start x t = record {
-  at = at_start x t;
-  lanes = λ all. omega arith;
-  low = λ h. omega arith;
-  most = omega arith;
-}
+search_start x t = record { at = at_start x t; lanes = λ all. omega arith; low = λ h. omega arith; most = omega arith }
 
 high_add : (x : List ℕ) (place n : ℕ)
     → high_count (take (place + n) x) ≡ high_count (take place x) + high_count (take n (drop place x))
@@ -302,10 +282,9 @@ search_lane x place now room low old s =
 pub search_lanes : (x : List ℕ) (place now : ℕ) → place + 32 ≤ length x → All (λ o. o < 0x80) (take 32 (drop place x))
     → Step x place now (place + 32) (now + 2)
 search_lanes x place now room low =
-    let first : All (λ o. o < 0x80) (take 16 (drop place x)) =
-    subst (All (λ o. o < 0x80)) (take-take 16 32 (drop place x) (omega arith)) (All-take (λ o. o < 0x80) 16 _ low) in
-    let second : All (λ o. o < 0x80) (take 16 (drop (place + 16) x)) =
-    subst (All (λ o. o < 0x80)) (drop-take 16 16 (drop place x) ∙ ap (take 16) (drop-drop 16 place x))
+    let first = subst (All (λ o. o < 0x80)) (take-take 16 32 (drop place x) (omega arith))
+    (All-take (λ o. o < 0x80) 16 _ low) in
+    let second = subst (All (λ o. o < 0x80)) (drop-take 16 16 (drop place x) ∙ ap (take 16) (drop-drop 16 place x))
     (All-drop (λ o. o < 0x80) 16 _ low) in
     step_at (λ old s. search_lane x (place + 16) (now + 1) (omega arith) second old
     (search_lane x place now (omega arith) first old s)) (omega arith) (omega arith)
@@ -330,8 +309,7 @@ pub search_octet : (x : List ℕ) (place now : ℕ) → place + 1 < length x →
     → 0x80 ≤ get_or x (place + 1) 0 → Step x place now (place + 1) (now + 1)
 search_octet x place now room low high =
     search_jump x place now 1 (omega arith) room
-    (subst (λ y. All (λ o. o < 0x80) (take 1 y)) (sym (drop-cons x place 0 (omega arith)))
-    (All-cons (λ o. o < 0x80) (get_or x place 0) [] low (All-nil (λ o. o < 0x80)))) high
+    (rw (drop-cons x place 0 (omega arith)) (All-cons (λ o. o < 0x80) _ [] low (All-nil (λ o. o < 0x80)))) high
 
 -- an encoding of at least two octets
 pub search_encoding : (x : List ℕ) (place now len : ℕ) → 2 ≤ len → IsAtFront (drop place x) (Encoding len)
