@@ -5,9 +5,9 @@ use Rattle.std.proofs.Math.Seq.{take-append_seam}
 use Rattle.std.proofs.lemmas.List.{append-nil, take-append-drop}
 use Rattle.octseq_utf8.specs.Parts.{IsFront, IsBeginning, IsBadPart, Bad}
 use Rattle.octseq_utf8.specs.Reading.{width_of, width, fitting, part_len, parts_of}
-use Rattle.octseq_utf8.proofs.Beginnings.{beginning_fits, beginning_short, nil_or_some}
+use Rattle.octseq_utf8.proofs.Fits.{beginning_fits, beginning_short, nil_or_some}
 use Rattle.octseq_utf8.proofs.Fits.{Fits, fits_more, fits_less, fits_fewer, get_left}
-use Rattle.octseq_utf8.proofs.Fitting.{fitting_fits, fitting_within, fitting_wide, fits_fitting}
+use Rattle.octseq_utf8.proofs.Fits.{fitting_fits, fitting_within, fitting_wide, fits_fitting}
 use Rattle.octseq_utf8.proofs.Splitting.{bad_of, bad_only, bad_some, fitting_beginning, parts_bad, parts_nil}
 
 -- p is the bad part of p ++ t if no encoding begins there and p is as long as the first part
@@ -21,7 +21,7 @@ bad_at p t some h n =
 pub bad_self : (q : List ℕ) → IsBeginning q → IsBadPart (q ++ []) q
 bad_self q b =
     let f = beginning_fits b in
-    let some = f.some in
+    let some = f.0 in
     let short = beginning_short b in
     let lead : width (q ++ []) ≡ width q = ap width_of (get_left q [] 0 some) in
     let m = fits_fitting (q ++ []) (length q) (fits_more q [] (length q) f) in

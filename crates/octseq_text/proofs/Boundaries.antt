@@ -6,43 +6,12 @@ use Rattle.std.proofs.lemmas.List.{map-append, drop-append-le, take_all}
 use Rattle.std.proofs.Math.Seq.{take-append_seam, drop-append_seam, drop-append-add}
 use Rattle.std.specs.Int.{is_in_range}
 use Rattle.std.specs.List.{concat, AllByRecursion}
-use Rattle.octseq_utf8.specs.Encoding.{IsEncoding, row_00_7F, row_C2_DF, row_E0, row_E1_EC}
-use Rattle.octseq_utf8.specs.Encoding.{row_ED, row_EE_EF, row_F0, row_F1_F3, row_F4, number_of}
+use Rattle.octseq_utf8.specs.Encoding.{IsEncoding, number_of}
 use Rattle.octseq_text.specs.TextRun.{CutsTo}
 use Rattle.octseq_utf8.specs.Text.{Spells, IsWellFormed, begins_within, chars, octets_of, IsFrontOf, IsBoundary}
-use Rattle.octseq_utf8.proofs.Spelling.{inside, plain, begins_all, octets_of_numbers}
-use Rattle.octseq_utf8.proofs.Spelling.{chars_of, octets_of_spelled, concat-append}
+use Rattle.octseq_utf8.proofs.Spelling.{led, begins_all, octets_of_numbers, chars_of, octets_of_spelled}
+use Rattle.std.proofs.lemmas.List.Folds.{concat-append}
 use Rattle.octseq_utf8.proofs.Texts.{spelled, octets_of-chars}
-
--- The octets after the first of an encoding are within it.
-record IsLed (e : List ℕ) : Type 0 where
-  first : ℕ
-  more : List ℕ
-  whole : e ≡ first ∷ more
-  within : AllByRecursion (λ b. is_in_range 0x80 0xBF b ≡ true) more
-
-led_2 : (a b : ℕ) → is_in_range 0x80 0xBF b ≡ true → IsLed (a ∷ b ∷ [])
-led_2 a b p = record { first = a; more = b ∷ []; whole = refl; within = (p, tt) }
-
-led_3 : (a b c : ℕ) → is_in_range 0x80 0xBF b ≡ true → is_in_range 0x80 0xBF c ≡ true → IsLed (a ∷ b ∷ c ∷ [])
-led_3 a b c p q = record { first = a; more = b ∷ c ∷ []; whole = refl; within = (p, (q, tt)) }
-
-led_4 : (a b c d : ℕ) → is_in_range 0x80 0xBF b ≡ true → is_in_range 0x80 0xBF c ≡ true → is_in_range 0x80 0xBF d ≡ true
-    → IsLed (a ∷ b ∷ c ∷ d ∷ [])
-led_4 a b c d p q r = record { first = a; more = b ∷ c ∷ d ∷ []; whole = refl; within = (p, (q, (r, tt))) }
-
-led : {e : List ℕ} → IsEncoding e → IsLed e
-led (row_00_7F {a} p) = record { first = a; more = []; whole = refl; within = tt }
-led (row_C2_DF {a} {b} p q) = led_2 a b (plain b q)
-led (row_E0 {a} {b} {c} p q r) = led_3 a b c (inside 0xA0 0xBF b (omega arith) (omega arith) q) (plain c r)
-led (row_E1_EC {a} {b} {c} p q r) = led_3 a b c (plain b q) (plain c r)
-led (row_ED {a} {b} {c} p q r) = led_3 a b c (inside 0x80 0x9F b (omega arith) (omega arith) q) (plain c r)
-led (row_EE_EF {a} {b} {c} p q r) = led_3 a b c (plain b q) (plain c r)
-led (row_F0 {a} {b} {c} {d} p q r s) = led_4 a b c d (inside 0x90 0xBF b (omega arith) (omega arith) q) (plain c r)
-    (plain d s)
-led (row_F1_F3 {a} {b} {c} {d} p q r s) = led_4 a b c d (plain b q) (plain c r) (plain d s)
-led (row_F4 {a} {b} {c} {d} p q r s) = led_4 a b c d (inside 0x80 0x8F b (omega arith) (omega arith) q) (plain c r)
-    (plain d s)
 
 within_at : (more : List ℕ) → AllByRecursion (λ b. is_in_range 0x80 0xBF b ≡ true) more → (i : ℕ) (y : List ℕ)
     → i < length more → begins_within (drop i more ++ y) ≡ true

@@ -10,7 +10,7 @@ use Rattle.octseq_utf8.specs.FirstPart.{IsBadFront}
 use Rattle.octseq_utf8.specs.Parts.{IsFront, IsBeginning, IsBadPart}
 use Rattle.octseq_utf8.specs.Reading.{width_of, width, part_len, parts_of}
 use Rattle.octseq_utf8.specs.Text.{IsWellFormed}
-use Rattle.octseq_utf8.proofs.Beginnings.{beginning_fits, beginning_short, nil_or_some}
+use Rattle.octseq_utf8.proofs.Fits.{beginning_fits, beginning_short, nil_or_some}
 use Rattle.octseq_utf8.proofs.Fits.{get_left}
 use Rattle.octseq_utf8.proofs.Spelling.{spells_nothing, spells_one}
 use Rattle.octseq_utf8.proofs.Splitting.{beginning_fitting, encoding_fitting, parts_bad, parts_encoding, parts_step, splits}
@@ -32,7 +32,7 @@ take_most n x most =
 module _ (begun piece joined : List ℕ) (begins : IsBeginning begun)
     (is : joined ≡ begun ++ take (4 - length begun) piece) where
   some : 1 ≤ length begun
-  some = (beginning_fits begins).some
+  some = (beginning_fits begins).0
 
   long : length joined ≡ length begun + min (4 - length begun) (length piece)
   long = ap length is ∙ length-append begun (take (4 - length begun) piece)

@@ -5,12 +5,12 @@ use Rattle.octseq_utf8.specs.Chunk.{Chunk, IsFirstChunk}
 use Rattle.octseq_utf8.specs.Fault.{Fault, IsFault, fault_end}
 use Rattle.octseq_utf8.specs.Parts.{IsBadPart, Part, Splits, nothing, encoding, bad_part}
 use Rattle.octseq_utf8.specs.Text.{chars}
-use Rattle.octseq_utf8.proofs.Beginnings.{nil_or_some}
+use Rattle.octseq_utf8.proofs.Fits.{nil_or_some}
+use Rattle.octseq_utf8.proofs.Faults.{end_bounds, front_is}
 use Rattle.octseq_utf8.proofs.Search.{spelled_few}
-use Rattle.octseq_utf8.proofs.Rows.{length_of}
+use Rattle.octseq_utf8.proofs.Fits.{length_of}
 use Rattle.octseq_utf8.proofs.Spelling.{chars_of}
 use Rattle.octseq_utf8.proofs.Splitting.{bad_some}
-use Rattle.octseq_utf8.proofs.AtFault.{end_bounds, front_is}
 
 -- there are no more parts than octets
 pub parts_few : {x : List ℕ} {parts : List Part} → Splits x parts → length parts ≤ length x

@@ -8,8 +8,7 @@ use Rattle.octseq_utf8.specs.Encoding.{number_of}
 use Rattle.octseq_utf8.specs.Fault.{Fault, IsFault, IsFaultSize, saturated, fault_after}
 use Rattle.octseq_utf8.specs.Parts.{IsBeginning}
 use Rattle.octseq_utf8.specs.Text.{IsWellFormed, chars}
-use Rattle.octseq_utf8.proofs.AtFault.{end_bounds, onward_is}
-use Rattle.octseq_utf8.proofs.Faults.{fault_refutes}
+use Rattle.octseq_utf8.proofs.Faults.{end_bounds, onward_is, fault_refutes}
 use Rattle.octseq_utf8.proofs.Search.{spelled_few}
 use Rattle.octseq_utf8.proofs.Spelling.{chars_of, spells_nothing, spells_one}
 use Rattle.octseq_utf8.proofs.Texts.{well_formed-append}

@@ -16,10 +16,10 @@ use Rattle.octseq_text.specs.Pieces.{Settles, open_end, no_end, Held, HasRead, I
 use Rattle.octseq_utf8.specs.Reading.{parts_of}
 use Rattle.octseq_text.specs.Progress.{Reads, IsRead, IsTooLong, IsOpenEnd}
 use Rattle.octseq_utf8.specs.Text.{Spells, IsWellFormed}
-use Rattle.octseq_utf8.proofs.Beginnings.{beginning_short}
+use Rattle.octseq_utf8.proofs.Fits.{beginning_short}
 use Rattle.octseq_utf8.proofs.LossyTexts.{replacement_is_character, text_well_formed}
 use Rattle.octseq_core.proofs.Limits.{past_more}
-use Rattle.octseq_utf8.proofs.Rows.{width_le}
+use Rattle.octseq_utf8.proofs.Fits.{width_le}
 use Rattle.octseq_text.proofs.Settling.{reads_none, reads_more, reads_then, reads_good, reads_bad, settles_reads}
 use Rattle.octseq_text.proofs.Settling.{one_settling, reads_settles, text-append, text-chars, text_read, snoc_some}
 use Rattle.octseq_utf8.proofs.Splitting.{splits, one_splitting}

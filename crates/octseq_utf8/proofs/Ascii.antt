@@ -1,7 +1,7 @@
 -- The mask of a lane has a bit for each octet that is 0x80 or more. So it is 0 if all are ASCII, and even if the first
 -- one is.
-use Rattle.std.proofs.Common.{◌≡◌, ◌≢◌, ℕ, zero, suc, ◌+◌, ◌*◌, ◌%◌, ◌^◌, ◌<◌, ◌≤◌, ◌-◌, ◌↔◌, ◌⊎◌, inl, inr, ⊎_elim}
-use Rattle.std.proofs.Common.{subst, Bool, not, true, false, cond, leb, List, [], ◌∷◌, map, length, replicate, take}
+use Rattle.std.proofs.Common.{◌≡◌, ◌≢◌, ℕ, ◌+◌, ◌%◌, ◌^◌, ◌<◌, ◌≤◌, ◌-◌, ◌↔◌, ⊎_elim}
+use Rattle.std.proofs.Common.{subst, not, cond, leb, List, [], ◌∷◌, map, length, replicate, take}
 use Rattle.std.proofs.Common.{drop, get_or, length-take, length-drop, refl, ap, sym, ◌∙◌, arith, w8}
 use Rattle.std.proofs.lemmas.Bool.Decides.{nat_tests}
 use Rattle.std.proofs.lemmas.List.Elements.{All-nil, All-cons, All-head, All-tail}
@@ -9,31 +9,24 @@ use Rattle.std.proofs.lemmas.List.Elements.{All-get_or, All-from_get_or}
 use Rattle.std.proofs.lemmas.Simd.{mask_l-mod, tops_compared, zip2_splat_left}
 use Rattle.std.proofs.lemmas.Simd.{get_or-chunk, trailing_mask_l, length-chunk}
 use Rattle.std.proofs.lemmas.List.{length-map, get_or-take, get_or-drop}
-use Rattle.std.proofs.lemmas.List.Sums.{prefix_len-le-length, prefix_len_passes, prefix_len_stops}
+use Rattle.std.proofs.lemmas.List.Sums.{prefix_len_passes, prefix_len_stops}
 use Rattle.std.specs.List.{All, prefix_len}
-use Rattle.std.proofs.Math.Nat.{eq-or-lt_of_le}
+use Rattle.std.proofs.lemmas.Bool.{cases_lt}
 use Rattle.std.specs.Int.Count.{count_trailing_zeros}
 use lib.Lanes.{mask_l, top, zip2}
-
--- one more octet at the front of a lane, by its bit
-none_more : (y : ℕ) (ys : List ℕ) → (mask_l (map (leb 128) ys) ≡ 0 → All (λ o. o < 128) ys) → (b : Bool) → leb 128 y ≡ b
-    → cond b 1 0 + 2 * mask_l (map (leb 128) ys) ≡ 0 → All (λ o. o < 128) (y ∷ ys)
-none_more y ys rec true e h = absurd (omega arith)
-none_more y ys rec false e h = All-cons (λ o. o < 128) y ys (grind (arith, nat_tests)) (rec (omega arith))
 
 -- if the mask is 0 every octet is ASCII, and if every octet is, the mask is 0
 
 none_high : (ys : List ℕ) → mask_l (map (leb 128) ys) ≡ 0 → All (λ o. o < 128) ys
 none_high [] h = All-nil (λ o. o < 128)
-none_high (y ∷ ys) h = none_more y ys (none_high ys) (leb 128 y) refl h
+none_high (y ∷ ys) h =
+    All-cons (λ o. o < 128) y ys (grind (arith, nat_tests)) (none_high ys (grind (arith, nat_tests)))
 
 high_none : (ys : List ℕ) → All (λ o. o < 128) ys → mask_l (map (leb 128) ys) ≡ 0
 high_none [] h = refl
 high_none (y ∷ ys) h =
     let low : y < 128 = All-head (λ o. o < 128) y ys h in
-    let e : leb 128 y ≡ false = grind (arith, nat_tests) in
-    ap (λ b. cond b 1 0 + 2 * mask_l (map (leb 128) ys)) e ∙ (let k = high_none ys (All-tail (λ o. o < 128) y ys h) in
-    omega arith)
+    grind (arith, nat_tests, high_none ys (All-tail (λ o. o < 128) y ys h))
 
 -- the mask that the code computes, by comparing each octet of the lane with 0x80
 pub mask_is : (n : ℕ) (ys : List ℕ) → length ys ≡ n → n ≤ 64
@@ -56,9 +49,6 @@ pub record IsBeforeHigh (x : List ℕ) (n : ℕ) : Type 0 where
   pub low : All (λ o. o < 128) (take n x)
   pub high : 128 ≤ get_or x n 0
 
-less_or_more : (n k : ℕ) → n ≤ k → (n < k) ⊎ (n ≡ k)
-less_or_more n k h = ⊎_elim (λ e. inr e) (λ l. inl l) (eq-or-lt_of_le h)
-
 -- if the mask of the first lane isn't 0, its lowest bit is for the first octet of 80 or more
 pub before_high : (x : List ℕ) (high : ℕ) → 16 ≤ length x → high ≡ mask_l (map (leb 128) (take 16 x)) → high ≢ 0
     → IsBeforeHigh x (count_trailing_zeros 64 high)
@@ -69,33 +59,21 @@ before_high x high room same some =
     let found : count_trailing_zeros 64 high ≡ n =
     ap (count_trailing_zeros 64) same ∙ trailing_mask_l (leb 128) 64 ys (omega arith) (omega arith) in
     let below : (i : ℕ) → i < n → get_or ys i 0 < 128 =
-    λ i h. not_high (get_or ys i 0) (prefix_len_passes (λ o. not (leb 128 o)) ys i 0 h) in
+    λ i h. let pass = prefix_len_passes (λ o. not (leb 128 o)) ys i 0 h in grind (arith, nat_tests) in
     let few : n < length ys =
     ⊎_elim
     (λ less. less)
     (λ all. absurd (some (same ∙ high_none ys (All-from_get_or (λ o. o < 128) ys 0 (λ i h. below i (omega arith))))))
-    (less_or_more n (length ys) (prefix_len-le-length (λ o. not (leb 128 o)) ys)) in
+    (cases_lt n (length ys)) in
+    let stop = prefix_len_stops (λ o. not (leb 128 o)) ys 0 few in
     subst (IsBeforeHigh x) (sym found)
     (record {
       few = omega arith;
       low = All-from_get_or (λ o. o < 128) (take n x) 0 (λ i h.
           let less : i < n = omega (arith, length-take n x) in
           subst (λ o. o < 128) (get_or-take 16 x i 0 (omega arith) ∙ sym (get_or-take n x i 0 less)) (below i less));
-      high = subst (λ o. 128 ≤ o) (get_or-take 16 x n 0 (omega arith))
-          (is_high (get_or ys n 0) (prefix_len_stops (λ o. not (leb 128 o)) ys 0 few));
+      high = subst (λ o. 128 ≤ o) (get_or-take 16 x n 0 (omega arith)) (grind (arith, nat_tests));
     })
-  where
-    not_high : (o : ℕ) → not (leb 128 o) ≡ true → o < 128
-    not_high o h = grind (arith, nat_tests)
-
-    is_high : (o : ℕ) → not (leb 128 o) ≡ false → 128 ≤ o
-    is_high o h = grind (arith, nat_tests)
-
--- a number is less than another, or it isn't
-pub less_or_not : (i n : ℕ) → (i < n) ⊎ (n ≤ i)
-less_or_not i zero = inr (omega arith)
-less_or_not zero (suc n) = inl (omega arith)
-less_or_not (suc i) (suc n) = ⊎_elim (λ h. inl (omega arith)) (λ h. inr (omega arith)) (less_or_not i n)
 
 -- octets whose first n and last n are below 80, if those overlap or meet
 pub ends_low : (x : List ℕ) (from n : ℕ) → from + n ≤ length x → length x ≤ from + (n + n)
@@ -104,14 +82,13 @@ pub ends_low : (x : List ℕ) (from n : ℕ) → from + n ≤ length x → lengt
 ends_low x from n room few first last =
     All-from_get_or (λ o. o < 128) (drop from x) 0 (λ i h.
     let in_x : from + i < length x = omega (arith, length-drop from x) in
-    let here : get_or (drop from x) i 0 ≡ get_or x (from + i) 0 = get_or-drop from x i 0 in
+    let k : ℕ = from + i - (length x - n) in
     ⊎_elim
-    (λ less. subst (λ o. o < 128) (get_or-chunk from n x i 0 less ∙ sym here)
+    (λ less. rw (get_or-drop from x i 0, ← get_or-chunk from n x i 0 less)
     (All-get_or (λ o. o < 128) (take n (drop from x)) i 0 (omega (arith, length-chunk from n x room)) first))
     (λ more.
-    let k : ℕ = from + i - (length x - n) in
     let same : (length x - n) + k ≡ from + i = omega arith in
-    subst (λ o. o < 128) (get_or-chunk (length x - n) n x k 0 (omega arith) ∙ ap (λ j. get_or x j 0) same ∙ sym here)
+    rw (get_or-drop from x i 0, ← same, ← get_or-chunk (length x - n) n x k 0 (omega arith))
     (All-get_or (λ o. o < 128) (take n (drop (length x - n) x)) k 0
     (omega (arith, length-chunk (length x - n) n x (omega arith))) last))
-    (less_or_not i n))
+    (cases_lt i n))

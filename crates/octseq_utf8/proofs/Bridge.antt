@@ -1,6 +1,6 @@
 -- The same definitions in std: well formed is `IsUtf8`, a character is a scalar, and its encoding is `encode_utf8`.
-use Rattle.std.proofs.Common.{◌≡◌, ℕ, Bool, true, false, ◌&&◌, List, [], ◌∷◌, ◌++◌}
-use Rattle.std.proofs.Common.{map, refl, arith, inl, inr, ⊎_elim, ap, sym, ◌∙◌, subst}
+use Rattle.std.proofs.Common.{◌≡◌, ℕ, Bool, true, ◌&&◌, List, [], ◌∷◌, ◌++◌}
+use Rattle.std.proofs.Common.{map, refl, arith, ap, sym, ◌∙◌, subst}
 use Rattle.std.proofs.lemmas.Bool.Decides.{nat_tests}
 use Rattle.std.specs.Str.{IsUtf8}
 use Rattle.std.specs.List.{flat_map, AllByRecursion}
@@ -26,7 +26,7 @@ scalar_from c h = grind (arith, nat_tests)
 
 -- a scalar of std is a character
 pub from_scalar : (c : ℕ) → scalar c ≡ true → IsCharacter c
-from_scalar c h = ⊎_elim (λ k. inl (omega arith, omega arith)) (λ k. inr (omega arith, omega arith)) (scalar_cases c h)
+from_scalar c h = grind (arith, nat_tests, scalar_cases c h)
 
 scalars_from : (es : List (List ℕ)) → AllByRecursion IsEncoding es → scalars (map number_of es) ≡ true
 scalars_from [] h = refl
@@ -35,8 +35,7 @@ scalars_from (e ∷ es) h =
     ∙ scalars_from es h.1
 
 both : (a b : Bool) → a && b ≡ true → (a ≡ true) × (b ≡ true)
-both true b h = (refl, h)
-both false b h = absurd (grind (arith, nat_tests))
+both a b h = grind (arith, nat_tests)
 
 spells_all : (cs : List ℕ) → scalars cs ≡ true → Spells (flat_map encoding_of cs) cs
 spells_all [] h = record { encodings = []; each = tt; joined = refl; numbers = refl }

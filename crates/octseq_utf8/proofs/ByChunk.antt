@@ -1,69 +1,47 @@
 -- Octets by their chunks: splittings, texts, turns.
-use Rattle.std.proofs.Common.{Bool, true, false, ◌≡◌, ◌≢◌, ℕ, ◌-◌, ◌≤◌, ◌⊎◌, inl, inr, List, [], ◌∷◌, ◌++◌}
+use Rattle.std.proofs.Common.{Bool, true, false, ◌≡◌, ◌≢◌, ℕ, ◌-◌, ◌≤◌, ◌⊎◌, inl, inr, ⊎_elim, List, [], ◌∷◌, ◌++◌}
 use Rattle.std.proofs.Common.{map, length, take, slice_range, refl, arith, ap, sym, ◌∙◌, subst, append_assoc}
 use Rattle.std.specs.List.{flat_map}
-use Rattle.std.specs.Prelude.{Option, Some, None, ◌↔◌, IsTrue, is_some, not}
-use Rattle.std.proofs.Math.Seq.{take-append_seam}
-use Rattle.std.proofs.lemmas.List.{append-nil}
+use Rattle.std.specs.Prelude.{Option, ◌↔◌, IsTrue, is_some, not}
+use Rattle.std.proofs.lemmas.List.{append-nil, take_at}
+use Rattle.std.proofs.lemmas.Grind.{flat_map-append}
 use Rattle.octseq_utf8.specs.Chunk.{Chunk, IsFirstChunk, AreChunks, no_chunk, first_chunk}
 use Rattle.octseq_utf8.specs.Chunk.{bad_parts, chunk_parts, mark_of, chunk_text}
 use Rattle.octseq_utf8.specs.Encoding.{encoding_of}
 use Rattle.octseq_utf8.specs.Fault.{Fault, IsFault, IsFaultSize, fault_end}
-use Rattle.octseq_utf8.specs.Parts.{IsBeginning, IsBadPart, Part, Char, Bad, Splits, text_with}
+use Rattle.octseq_utf8.specs.Parts.{IsBeginning, IsBadPart, Part, Char, Bad, Splits, octets_with, text_with}
 use Rattle.octseq_utf8.specs.Reading.{parts_of}
 use Rattle.octseq_utf8.specs.Text.{IsWellFormed, chars}
-use Rattle.octseq_utf8.proofs.AtFault.{end_is, end_bounds, onward_is}
-use Rattle.octseq_utf8.proofs.Faults.{no_bad}
-use Rattle.octseq_utf8.proofs.Joins.{parts_spelled, parts_fault, text_fault, text_spelled}
+use Rattle.octseq_utf8.proofs.Faults.{end_is, end_bounds, onward_is, no_bad}
+use Rattle.octseq_utf8.proofs.Joins.{text-chars, parts_spelled, parts_fault, text_spelled}
 use Rattle.octseq_utf8.proofs.Spelling.{spells_nothing, chars_of}
+use Rattle.octseq_utf8.proofs.Texts.{octets_of-chars}
 use Rattle.octseq_utf8.proofs.Splitting.{bad_some, only_parts, splits, parts_nil}
 
--- a fault has no size exactly if its bad part begins a character and reaches the end
-no_size : (bad after : List ℕ) (size : Option ℕ) → IsFaultSize bad after size
-    → (size ≡ None → IsBeginning bad × (after ≡ [])) × (IsBeginning bad × (after ≡ []) → size ≡ None)
-no_size bad after size (inl h) = (λ e. (h.1, h.2), λ k. h.0)
-no_size bad after size (inr h) =
-    (λ e. let no : Some (length bad) ≡ None = sym h.0 ∙ e in absurd (cc), λ k. absurd (h.1 k))
-
--- what a test for none returns
-pub tests_none : (size : Option ℕ) (test : Bool) → is_some size ≡ not test → IsTrue test ↔ (size ≡ None)
-tests_none None true h = (λ t. refl, λ e. refl)
-tests_none None false h = absurd (cc)
-tests_none (Some n) true h = absurd (cc)
-tests_none (Some n) false h = (λ t. absurd (cc), λ e. absurd (cc))
-
--- there are no parts if there are no octets
-pub none_left : (x : List ℕ) → length x ≡ 0 → length (parts_of x) ≡ 0
-none_left [] h = ap length parts_nil
-none_left (a ∷ x) h = absurd (omega arith)
+-- the test of a fault's size says whether its bad part begins a character and reaches the end
+pub cut_is : (bad after : List ℕ) (size : Option ℕ) (test : Bool) → IsFaultSize bad after size
+    → is_some size ≡ not test → IsTrue test ↔ (IsBeginning bad × (after ≡ []))
+cut_is bad after size true (inl h) e = (λ t. (h.1, h.2), λ k. refl)
+cut_is bad after size true (inr h) e = let some = ap is_some h.0 in absurd (cc)
+cut_is bad after size false (inl h) e = let none = ap is_some h.0 in absurd (cc)
+cut_is bad after size false (inr h) e = (λ t. absurd (cc), λ k. absurd (h.1 k))
 
 -- the chunk that ends with a fault
 module _ (x : List ℕ) (fault : Fault) (f : IsFault x fault) where
-  pub chunk_at_fault : (valid invalid after : List ℕ) (incomplete : Bool) → valid ≡ f.before → invalid ≡ f.bad
-      → after ≡ f.after
-      → (IsTrue incomplete ↔ (fault.size ≡ None))
-      → IsFirstChunk x (record { valid = valid; invalid = invalid; incomplete = incomplete }) after
-  chunk_at_fault valid invalid after incomplete v i b cut =
-      let sized = no_size f.bad f.after fault.size f.size in
-      record {
-        whole = f.whole ∙ ap (λ y. y ++ (f.bad ++ f.after)) (sym v) ∙ ap (λ y. valid ++ (y ++ f.after)) (sym i)
-            ∙ ap (λ y. valid ++ (invalid ++ y)) (sym b);
-        some = λ nothing. let bounds = end_bounds x fault f in omega (arith, ap length nothing);
-        good = subst IsWellFormed (sym v) f.good;
-        bad = inr (subst (λ y. IsBadPart (y ++ after) y) (sym i)
-            (subst (λ y. IsBadPart (f.bad ++ y) f.bad) (sym b) f.first));
-        cut = (
-          λ t. let k = sized.0 (cut.0 t) in (subst IsBeginning (sym i) k.0, b ∙ k.1),
-          λ k. cut.1 (sized.1 (subst IsBeginning i k.0, sym b ∙ k.1)),
-        );
-      }
+  pub chunk_at_fault : (incomplete : Bool) → is_some fault.size ≡ not incomplete
+      → IsFirstChunk x (record { valid = f.before; invalid = f.bad; incomplete = incomplete }) f.after
+  chunk_at_fault incomplete test = record {
+    whole = f.whole;
+    some = λ nothing. omega (arith, ap length nothing, end_bounds x fault f);
+    good = f.good;
+    bad = inr f.first;
+    cut = cut_is f.bad f.after fault.size incomplete f.size test;
+  }
 
   -- the ill-formed part goes from the place of the fault to its end
   pub bad_is : slice_range x fault.place (fault_end x fault) ≡ f.bad
-  bad_is =
-      let long : fault_end x fault - fault.place ≡ length f.bad = omega (arith, end_is x fault f) in
-      ap (take (fault_end x fault - fault.place)) (onward_is x fault f) ∙ ap (λ n. take n (f.bad ++ f.after)) long
-      ∙ take-append_seam f.bad f.after
+  bad_is = ap (take (fault_end x fault - fault.place)) (onward_is x fault f)
+      ∙ take_at f.bad f.after _ (omega (arith, end_is x fault f))
 
 -- the chunk of octets that are well-formed text
 pub chunk_at_end : (x : List ℕ) → x ≢ [] → IsWellFormed x
@@ -87,72 +65,57 @@ parts_some : (bad : List ℕ) → 1 ≤ length bad → bad_parts bad ≡ Bad bad
 parts_some [] h = absurd (omega arith)
 parts_some (b ∷ bad) h = refl
 
+-- the text of a bad part, if there is one
+text_bad : (w : ℕ) (bad : List ℕ) → text_with w (bad_parts bad) ≡ mark_of (encoding_of w) bad
+text_bad w [] = refl
+text_bad w (b ∷ bad) = append-nil (encoding_of w)
+
+-- octets whose only chunk has no bad part are its text
+all_valid : (x : List ℕ) (chunk : Chunk) (after : List ℕ) → IsFirstChunk x chunk after
+    → (chunk.invalid ≡ []) × (after ≡ []) → x ≡ chunk.valid
+all_valid x chunk after c none = c.whole ∙ rw (none.0, none.1) (append-nil chunk.valid)
+
 -- the parts of octets are the parts of the first chunk followed by the parts of what is after it
 pub parts_at_chunk : (x : List ℕ) (chunk : Chunk) (after : List ℕ) → IsFirstChunk x chunk after
     → parts_of x ≡ chunk_parts chunk ++ parts_of after
 parts_at_chunk x chunk after c = go c.bad
   where
-    front : map Char (chars chunk.valid) ≡ map Char c.good.0
-    front = ap (map Char) (chars_of c.good.1)
+    front : map Char c.good.0 ≡ map Char (chars chunk.valid)
+    front = ap (map Char) (sym (chars_of c.good.1))
 
     go : ((chunk.invalid ≡ []) × (after ≡ [])) ⊎ IsBadPart (chunk.invalid ++ after) chunk.invalid
         → parts_of x ≡ chunk_parts chunk ++ parts_of after
     go (inl none) =
-        let same : x ≡ chunk.valid = c.whole ∙ ap (λ y. chunk.valid ++ (y ++ after)) none.0
-        ∙ ap (λ y. chunk.valid ++ y) none.1 ∙ append-nil chunk.valid in
-        ap parts_of same ∙ parts_spelled c.good.1 ∙ sym front
-        ∙ sym (ap (λ ps. chunk_parts chunk ++ ps) (ap parts_of none.1 ∙ parts_nil) ∙ append-nil (chunk_parts chunk)
-        ∙ ap (λ y. map Char (chars chunk.valid) ++ bad_parts y) none.0 ∙ append-nil (map Char (chars chunk.valid)))
+        ap parts_of (all_valid x chunk after c none) ∙ parts_spelled c.good.1 ∙ front
+        ∙ sym (simp (none.0, none.1, parts_nil, append-nil))
     go (inr bad) =
-        let some = parts_some chunk.invalid (bad_some bad).0 in
         ap parts_of c.whole ∙ parts_fault c.good.1 chunk.invalid after bad
-        ∙ ap (λ ps. ps ++ (Bad chunk.invalid ∷ parts_of after)) (sym front)
-        ∙ sym (ap (λ ps. (map Char (chars chunk.valid) ++ ps) ++ parts_of after) some
-        ∙ append_assoc (map Char (chars chunk.valid)) (Bad chunk.invalid ∷ []) (parts_of after))
+        ∙ rw (front, parts_some chunk.invalid (bad_some bad).0)
+        (sym (append_assoc (map Char (chars chunk.valid)) (Bad chunk.invalid ∷ []) (parts_of after)))
 
 -- and their text is the text of the first chunk followed by the text of what is after it
 pub text_at_chunk : (w : ℕ) (x : List ℕ) (chunk : Chunk) (after : List ℕ) → IsFirstChunk x chunk after
     → text_with w (parts_of x) ≡ chunk_text w chunk ++ text_with w (parts_of after)
-text_at_chunk w x chunk after c = go c.bad
-  where
-    go : ((chunk.invalid ≡ []) × (after ≡ [])) ⊎ IsBadPart (chunk.invalid ++ after) chunk.invalid
-        → text_with w (parts_of x) ≡ chunk_text w chunk ++ text_with w (parts_of after)
-    go (inl none) =
-        let same : x ≡ chunk.valid = c.whole ∙ ap (λ y. chunk.valid ++ (y ++ after)) none.0
-        ∙ ap (λ y. chunk.valid ++ y) none.1 ∙ append-nil chunk.valid in
-        let nothing : mark_of (encoding_of w) chunk.invalid ++ text_with w (parts_of after) ≡ [] =
-        ap (λ y. mark_of (encoding_of w) y ++ text_with w (parts_of after)) none.0 ∙ ap (λ y. text_with w (parts_of y))
-        none.1 ∙ text_spelled w spells_nothing in
-        ap (λ y. text_with w (parts_of y)) same ∙ text_spelled w c.good.1
-        ∙ sym (append_assoc chunk.valid (mark_of (encoding_of w) chunk.invalid) (text_with w (parts_of after))
-        ∙ ap (λ y. chunk.valid ++ y) nothing ∙ append-nil chunk.valid)
-    go (inr bad) =
-        ap (λ y. text_with w (parts_of y)) c.whole ∙ text_fault w c.good.1 chunk.invalid after bad
-        ∙ ap (λ y. chunk.valid ++ (y ++ text_with w (parts_of after)))
-        (sym (mark_some (encoding_of w) chunk.invalid (bad_some bad).0))
-        ∙ sym (append_assoc chunk.valid (mark_of (encoding_of w) chunk.invalid) (text_with w (parts_of after)))
+text_at_chunk w x chunk after c =
+    ap (text_with w) (parts_at_chunk x chunk after c)
+    ∙ flat_map-append (octets_with w) (chunk_parts chunk) (parts_of after)
+    ∙ ap (λ y. y ++ text_with w (parts_of after)) (text-chars w (chars chunk.valid) (bad_parts chunk.invalid)
+    ∙ rw (octets_of-chars chunk.valid c.good, text_bad w chunk.invalid) refl)
 
 -- octets whose first chunk has no bad part are well formed
 pub whole_text : (x : List ℕ) (chunk : Chunk) (after : List ℕ) → IsFirstChunk x chunk after → length chunk.invalid ≡ 0
     → IsWellFormed x
-whole_text x chunk after c none = go c.bad
-  where
-    go : ((chunk.invalid ≡ []) × (after ≡ [])) ⊎ IsBadPart (chunk.invalid ++ after) chunk.invalid → IsWellFormed x
-    go (inl end) =
-        let same : x ≡ chunk.valid = c.whole ∙ ap (λ y. chunk.valid ++ (y ++ after)) end.0
-        ∙ ap (λ y. chunk.valid ++ y) end.1 ∙ append-nil chunk.valid in
-        subst IsWellFormed (sym same) c.good
-    go (inr bad) = let some = (bad_some bad).0 in absurd (omega arith)
+whole_text x chunk after c none =
+    ⊎_elim (λ end. subst IsWellFormed (sym (all_valid x chunk after c end)) c.good)
+    (λ bad. absurd (omega (arith, bad_some bad))) c.bad
 
 -- and octets whose first chunk has one aren't
 pub no_whole_text : (x : List ℕ) (chunk : Chunk) (after : List ℕ) → IsFirstChunk x chunk after
     → 1 ≤ length chunk.invalid → ¬ IsWellFormed x
-no_whole_text x chunk after c some good = go c.bad
-  where
-    go : ((chunk.invalid ≡ []) × (after ≡ [])) ⊎ IsBadPart (chunk.invalid ++ after) chunk.invalid → ⊥
-    go (inl end) = absurd (omega (arith, ap length end.0))
-    go (inr bad) = no_bad c.good.0 good.0 chunk.invalid (parts_of after)
-        (sym (ap parts_of c.whole ∙ parts_fault c.good.1 chunk.invalid after bad) ∙ parts_spelled good.1)
+no_whole_text x chunk after c some good =
+    ⊎_elim (λ end. absurd (omega (arith, ap length end.0)))
+    (λ bad. no_bad c.good.0 good.0 chunk.invalid (parts_of after)
+    (sym (ap parts_of c.whole ∙ parts_fault c.good.1 chunk.invalid after bad) ∙ parts_spelled good.1)) c.bad
 
 -- the chunks of octets are their one splitting
 

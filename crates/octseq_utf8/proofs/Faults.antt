@@ -1,255 +1,90 @@
--- Faults, and the places that the finder reaches.
-use Rattle.std.proofs.Common.{◌≡◌, ℕ, ◌+◌, ◌-◌, ◌*◌, ◌<◌, ◌≤◌, List, [], ◌∷◌, ◌++◌, map}
-use Rattle.std.proofs.Common.{length, take, drop, get_or, refl, arith, inl, inr, ⊎_elim, ap, sym, ◌∙◌}
-use Rattle.std.proofs.Common.{subst, append_assoc, length-append, length-take, length-drop, Option, Some}
+-- Faults: the octets around one, that there is only one, and its size.
+use Rattle.std.proofs.Common.{◌≡◌, ℕ, ◌+◌, ◌-◌, ◌<◌, ◌≤◌, List, [], ◌∷◌, ◌++◌, map, length, take, drop}
+use Rattle.std.proofs.Common.{refl, arith, inl, inr, ap, sym, ◌∙◌, subst, append_assoc, length-append}
+use Rattle.std.proofs.Common.{length-drop, Option, Some}
 use Rattle.std.specs.Prelude.{unwrap_or}
-use Rattle.std.proofs.lemmas.List.{take-append-drop, take_all, take-take, length-map}
-use Rattle.std.proofs.lemmas.List.Elements.{All-head, All-tail}
-use Rattle.std.proofs.Math.Seq.{take-append-add, take-append_seam, drop-append_seam, drop-cons}
-use Rattle.std.specs.List.{All}
-use Rattle.octseq_utf8.specs.Encoding.{IsEncoding, row_00_7F, number_of}
+use Rattle.std.proofs.lemmas.List.{take_all, length-map, append_cancel_left, take_at}
+use Rattle.std.proofs.lemmas.List.{drop_at}
 use Rattle.octseq_utf8.specs.Fault.{Fault, IsFaultSize, IsFault, fault_end}
-use Rattle.octseq_utf8.specs.FirstPart.{IsAtFront}
-use Rattle.octseq_utf8.specs.Parts.{IsBadPart, Part, Char, Bad as BadPart}
+use Rattle.octseq_utf8.specs.Parts.{Part, Char, Bad}
 use Rattle.octseq_utf8.specs.Reading.{parts_of}
-use Rattle.octseq_utf8.specs.Search.{IsAt, IsFaultAt}
-use Rattle.octseq_utf8.specs.Text.{Spells, IsWellFormed, chars, octets_of}
-use Rattle.octseq_utf8.specs.declared.finder.FirstPart.{FirstPart}
-use Rattle.octseq_utf8.specs.declared.finder.FirstPart.TheVariants.{Encoding, Bad}
-use Rattle.octseq_utf8.proofs.Beginnings.{nil_or_some, beginning_short}
-use Rattle.octseq_utf8.proofs.Rows.{length_of, width_le}
+use Rattle.octseq_utf8.specs.Text.{IsWellFormed, chars, octets_of}
 use Rattle.octseq_utf8.proofs.Joins.{parts_fault, parts_spelled}
-use Rattle.octseq_utf8.proofs.Spelling.{chars_of, octets_of_spelled, spells_nothing, spells_one, spells-append}
-use Rattle.octseq_utf8.proofs.Texts.{well_formed-append, chars-append}
+use Rattle.octseq_utf8.proofs.Spelling.{chars_of, octets_of_spelled}
+use Rattle.octseq_utf8.proofs.Splitting.{bad_some, bad_length}
 
--- the finder is at the front before its first turn
-pub at_start : (x : List ℕ) (t : ℕ) → IsAt x 0 t t
-at_start x t = record {
-  characters = [];
-  within = omega arith;
-  spelled = spells_nothing;
-  turns = omega arith;
-  few = omega arith;
-  passed = omega arith;
-}
+fault_parts : {x : List ℕ} {fault : Fault} (f : IsFault x fault)
+    → parts_of x ≡ map Char f.good.0 ++ (Bad f.bad ∷ parts_of f.after)
+fault_parts f = ap parts_of f.whole ∙ parts_fault f.good.1 f.bad f.after f.first
 
--- the first i + n octets are the first i followed by the next n
-pub take-add : (x : List ℕ) (i n : ℕ) → i ≤ length x → take (i + n) x ≡ take i x ++ take n (drop i x)
-take-add x i n h =
-    let cut : take i x ++ drop i x ≡ x = take-append-drop i x in
-    let long : length (take i x) ≡ i = length-take i x ∙ omega arith in
-    ap (λ y. take (i + n) y) (sym cut) ∙ ap (λ k. take (k + n) (take i x ++ drop i x)) (sym long)
-    ∙ take-append-add (take i x) (drop i x) n
+module _ (rest : List ℕ) (fault : Fault) (f : IsFault rest fault) where
+  whole_length : length rest ≡ fault.place + (length f.bad + length f.after)
+  whole_length = omega (
+    arith,
+    f.place,
+    ap length f.whole,
+    length-append f.before (f.bad ++ f.after),
+    length-append f.bad f.after,
+  )
+
+  bad_size : (size : Option ℕ) → IsFaultSize f.bad f.after size
+      → unwrap_or size (length rest - fault.place) ≡ length f.bad
+  bad_size size (inl h) = ap (λ o. unwrap_or o (length rest - fault.place)) h.0
+      ∙ omega (arith, ap length h.2, whole_length)
+  bad_size size (inr h) = ap (λ o. unwrap_or o (length rest - fault.place)) h.0
+
+  pub end_is : fault_end rest fault ≡ fault.place + length f.bad
+  end_is = ap (λ n. fault.place + n) (bad_size fault.size f.size)
+
+  -- the fault has at least one octet, and ends within the octets
+  pub end_bounds : (fault.place < fault_end rest fault) × (fault_end rest fault ≤ length rest)
+  end_bounds = let some = bad_some f.first in (omega (arith, end_is), omega (arith, end_is, whole_length))
+
+  pub front_is : take fault.place rest ≡ f.before
+  front_is = ap (take fault.place) f.whole ∙ take_at f.before (f.bad ++ f.after) fault.place (sym f.place)
+
+  pub onward_is : drop fault.place rest ≡ f.bad ++ f.after
+  onward_is = ap (drop fault.place) f.whole ∙ drop_at f.before (f.bad ++ f.after) fault.place (sym f.place)
+
+  pub after_is : drop (fault_end rest fault) rest ≡ f.after
+  after_is = ap (drop (fault_end rest fault)) (f.whole ∙ sym (append_assoc f.before f.bad f.after))
+      ∙ drop_at (f.before ++ f.bad) f.after _ (omega (arith, f.place, end_is, length-append f.before f.bad))
+
+  -- the parts are the characters before the fault, the bad part, and those after it
+  pub parts_at_fault : length (parts_of rest) ≡ length (chars (take fault.place rest)) + 1
+      + length (parts_of (drop (fault_end rest fault) rest))
+  parts_at_fault = omega (
+    arith,
+    ap length (fault_parts f),
+    ap length (ap chars front_is ∙ chars_of f.good.1),
+    length-append (map Char f.good.0) (Bad f.bad ∷ parts_of f.after),
+    length-map f.good.0 Char,
+    ap (λ y. length (parts_of y)) after_is,
+  )
+
+-- the parts of well-formed octets are their characters
+pub parts_well_formed : (x : List ℕ) → IsWellFormed x → length (parts_of x) ≡ length (chars x)
+parts_well_formed x (cs, s) = ap length (parts_spelled s) ∙ length-map cs Char ∙ sym (ap length (chars_of s))
 
 -- a slice from a place to the end is all octets from that place on
 pub rest_of : (x : List ℕ) (place : ℕ) → take (length x - place) (drop place x) ≡ drop place x
 rest_of x place = take_all (length x - place) (drop place x) (omega (arith, length-drop place x))
 
--- what is at a place, given what is at the front of a slice from there
-pub at_place : (x : List ℕ) (place : ℕ) (front : FirstPart) → IsAtFront (take (length x - place) (drop place x)) front
-    → IsAtFront (drop place x) front
-at_place x place front h = subst (λ y. IsAtFront y front) (rest_of x place) h
-
--- an encoding at that place has at least one octet
-pub front_some : (x : List ℕ) (place len : ℕ) → IsAtFront (take (length x - place) (drop place x)) (Encoding len)
-    → 1 ≤ len
-front_some x place len h =
-    let y : List ℕ = take (length x - place) (drop place x) in
-    let within = h.0 in
-    let n = length_of h.1 in
-    omega (arith, length-take len y)
-
--- one more encoding
-pub at_more : (x : List ℕ) (place old now len : ℕ) → IsAt x place old now → IsAtFront (drop place x) (Encoding len)
-    → IsAt x (place + len) old (now + 1)
-at_more x place old now len at (within, e) =
-    let in_x = at.within in
-    let turns = at.turns in
-    let before = at.few in
-    let passed = at.passed in
-    let long : length (take len (drop place x)) ≡ len = length-take len (drop place x) ∙ omega arith in
-    let some : (1 ≤ len) × (len ≤ 4) = let l = length_of e in (omega arith, omega arith) in
-    let next : List ℕ = number_of (take len (drop place x)) ∷ [] in
-    record {
-      characters = at.characters ++ next;
-      within = omega (arith, length-drop place x);
-      spelled = subst (λ z. Spells z (at.characters ++ next)) (sym (take-add x place len in_x))
-          (spells-append at.spelled (spells_one e));
-      turns = omega (arith, length-append at.characters next);
-      few = let least = some.0 in omega arith;
-      passed = let most = some.1 in omega arith;
-    }
-
--- an encoding at the front of a word of four octets
-pub word_front : (x four : List ℕ) (place len : ℕ) → place + 4 ≤ length x → four ≡ take 4 (drop place x) → len ≤ 4
-    → IsEncoding (take len four) → IsAtFront (drop place x) (Encoding len)
-word_front x four place len room same few e =
-    (omega (arith, length-drop place x), subst IsEncoding (ap (take len) same ∙ take-take len 4 (drop place x) few) e)
-
--- an octet below 80
-pub octet_front : (x : List ℕ) (place : ℕ) → place < length x → get_or x place 0 < 0x80
-    → IsAtFront (drop place x) (Encoding 1)
-octet_front x place lt low = (
-  omega (arith, length-drop place x),
-  subst IsEncoding (sym (ap (take 1) (drop-cons x place 0 lt)))
-      (row_00_7F (omega arith, omega arith)),
-)
-
--- a lane of octets below 80: each spells its character
-
--- octets that are all below 80 spell one character for each octet
-pub spells_low : (x : List ℕ) → All (λ o. o < 0x80) x → Spells x (map (λ o. number_of (o ∷ [])) x)
-spells_low [] low = spells_nothing
-spells_low (a ∷ x) low =
-    let first : a < 0x80 = All-head (λ o. o < 0x80) a x low in
-    spells-append (spells_one (row_00_7F {a = a} (omega arith, omega arith)))
-    (spells_low x (All-tail (λ o. o < 0x80) a x low))
-
--- octets that are all below 80 are passed in at most one turn each, and at most sixteen of them in a turn
-pub at_low : (x : List ℕ) (place old now n more : ℕ) → IsAt x place old now → place + n ≤ length x
-    → All (λ o. o < 0x80) (take n (drop place x)) → more ≤ n → n ≤ 16 * more → IsAt x (place + n) old (now + more)
-at_low x place old now n more at room low few passed =
-    let in_x = at.within in
-    let turns = at.turns in
-    let before = at.few in
-    let so_far = at.passed in
-    let octets : List ℕ = take n (drop place x) in
-    let next : List ℕ = map (λ o. number_of (o ∷ [])) octets in
-    record {
-      characters = at.characters ++ next;
-      within = omega arith;
-      spelled = subst (λ z. Spells z (at.characters ++ next)) (sym (take-add x place n in_x))
-          (spells-append at.spelled (spells_low octets low));
-      turns = omega (
-        arith,
-        length-append at.characters next,
-        length-map octets (λ o. number_of (o ∷ [])),
-        length-take n (drop place x),
-        length-drop place x,
-      );
-      few = omega arith;
-      passed = omega arith;
-    }
-
--- the end
-pub at_end : (x : List ℕ) (place old now : ℕ) → IsAt x place old now → length x ≤ place
-    → IsWellFormed x × (now ≤ old + length (chars x))
-at_end x place old now at past =
-    let in_x = at.within in
-    let turns = at.turns in
-    let s : Spells x at.characters = subst (λ z. Spells z at.characters) (take_all place x past) at.spelled in
-    ((at.characters, s), rw (chars_of s) (omega arith))
-
--- a bad part at the finder's place is the fault there, found in one more turn
-pub fault_at : (x : List ℕ) (place old now : ℕ) (size : Option ℕ) → IsAt x place old now
-    → IsAtFront (drop place x) (Bad size)
-    → IsFaultAt x old (now + 1) (record { place = place; size = size })
-fault_at x place old now size at front =
-    let in_x = at.within in
-    let turns = at.turns in
-    let passed = at.passed in
-    let few = front.few in
-    let y : List ℕ = drop place x in
-    let n : ℕ = unwrap_or size (length y) in
-    let left : unwrap_or size (length y) ≡ unwrap_or size (length x - place) =
-    ap (unwrap_or size) (length-drop place x) in
-    let cut : take n y ++ drop n y ≡ y = take-append-drop n y in
-    record {
-      is_fault = record {
-        before = take place x;
-        bad = take n y;
-        after = drop n y;
-        whole = sym (ap (λ z. take place x ++ z) cut ∙ take-append-drop place x);
-        good = (at.characters, at.spelled);
-        first = subst (λ z. IsBadPart z (take n y)) (sym cut) front.bad;
-        place = sym (length-take place x ∙ omega arith);
-        size = front.size;
-      };
-      turns = rw (chars_of at.spelled) (omega arith);
-      passed = omega arith;
-    }
-
--- what is found after a place is found in the whole
-
--- if the octets from the finder's place on are well formed, so are all of them, and their characters join
-pub well_formed_after : (x : List ℕ) (place old now : ℕ) → IsAt x place old now → IsWellFormed (drop place x)
-    → IsWellFormed x × (chars x ≡ chars (take place x) ++ chars (drop place x))
-well_formed_after x place old now at w =
-    let before : IsWellFormed (take place x) = (at.characters, at.spelled) in
-    let whole = take-append-drop place x in
-    (subst IsWellFormed whole (well_formed-append _ _ before w), ap chars (sym whole) ∙ chars-append _ _ before w)
-
--- if the well-formed rest takes at most one turn for each character, so does the whole
-pub turns_after : (x : List ℕ) (place old mid now : ℕ) → IsAt x place old mid → IsWellFormed (drop place x)
-    → now ≤ mid + length (chars (drop place x)) → now ≤ old + length (chars x)
-turns_after x place old mid now at w turns =
-    let first = at.turns in
-    let spelled : chars x ≡ at.characters ++ chars (drop place x) =
-    (well_formed_after x place old mid at w).1 ∙ ap (λ cs. cs ++ chars (drop place x)) (chars_of at.spelled) in
-    rw spelled (omega (arith, length-append at.characters (chars (drop place x))))
-
--- the fault of the octets from the finder's place on is the fault of the whole, within the turns that the whole allows
-pub fault_after : (x : List ℕ) (place old mid now : ℕ) (fault : Fault) → IsAt x place old mid
-    → IsFault (drop place x) fault
-    → now ≤ mid + length (chars (take fault.place (drop place x))) + 1
-    → fault_end (drop place x) fault + 16 * mid ≤ 16 * now
-    → IsFaultAt x old now (record { place = place + fault.place; size = fault.size })
-fault_after x place old mid now fault at f turns passed =
-    let before : IsWellFormed (take place x) = (at.characters, at.spelled) in
-    let in_x = at.within in
-    let first = at.turns in
-    let reached = at.passed in
-    let here = f.place in
-    let long : length (take place x) ≡ place = length-take place x ∙ omega arith in
-    let front : take fault.place (drop place x) ≡ f.before =
-    ap (λ k. take k (drop place x)) here ∙ ap (take (length f.before)) f.whole
-    ∙ take-append_seam f.before (f.bad ++ f.after) in
-    let both : take (place + fault.place) x ≡ take place x ++ take fault.place (drop place x) =
-    take-add x place fault.place in_x in
-    let good : IsWellFormed (take fault.place (drop place x)) = subst IsWellFormed (sym front) f.good in
-    let spelled : chars (take (place + fault.place) x) ≡ at.characters ++ chars (take fault.place (drop place x)) =
-    ap chars both ∙ chars-append _ _ before good ∙ ap (λ cs. cs ++ chars (take fault.place (drop place x)))
-    (chars_of at.spelled) in
-    let left : length x - (place + fault.place) ≡ length (drop place x) - fault.place =
-    omega (arith, length-drop place x) in
-    let end : unwrap_or fault.size (length x - (place + fault.place))
-    ≡ unwrap_or fault.size (length (drop place x) - fault.place) = ap (unwrap_or fault.size) left in
-    record {
-      is_fault = record {
-        before = take place x ++ f.before;
-        bad = f.bad;
-        after = f.after;
-        whole = sym (take-append-drop place x) ∙ ap (λ y. take place x ++ y) f.whole
-            ∙ sym (append_assoc (take place x) f.before (f.bad ++ f.after));
-        good = well_formed-append _ _ before f.good;
-        first = f.first;
-        place = omega (arith, length-append (take place x) f.before);
-        size = f.size;
-      };
-      turns = rw spelled (omega (arith, length-append at.characters (chars (take fault.place (drop place x)))));
-      passed = omega arith;
-    }
-
 -- there is only one fault, and it rules out that the octets are well formed
 
 -- parts that are characters and then a bad part are never only characters
-pub no_bad : (cs ds : List ℕ) (p : List ℕ) (ps : List Part) → map Char cs ++ (BadPart p ∷ ps) ≡ map Char ds → ⊥
+pub no_bad : (cs ds : List ℕ) (p : List ℕ) (ps : List Part) → map Char cs ++ (Bad p ∷ ps) ≡ map Char ds → ⊥
 no_bad [] [] p ps h = cc
 no_bad [] (d ∷ ds) p ps h = cc
 no_bad (c ∷ cs) [] p ps h = cc
 no_bad (c ∷ cs) (d ∷ ds) p ps h = no_bad cs ds p ps (cc)
 
 first_bad_same : (cs ds p q : List ℕ) (ps qs : List Part)
-    → map Char cs ++ (BadPart p ∷ ps) ≡ map Char ds ++ (BadPart q ∷ qs) → (cs ≡ ds) × (p ≡ q)
+    → map Char cs ++ (Bad p ∷ ps) ≡ map Char ds ++ (Bad q ∷ qs) → (cs ≡ ds) × (p ≡ q)
 first_bad_same [] [] p q ps qs h = (refl, cc)
 first_bad_same [] (d ∷ ds) p q ps qs h = absurd (cc)
 first_bad_same (c ∷ cs) [] p q ps qs h = absurd (cc)
-first_bad_same (c ∷ cs) (d ∷ ds) p q ps qs h = let k = first_bad_same cs ds p q ps qs (cc) in
-    (let e : c ≡ d = cc in let f = k.0 in cc, k.1)
-
-fault_parts : {x : List ℕ} {fault : Fault} (f : IsFault x fault)
-    → parts_of x ≡ map Char f.good.0 ++ (BadPart f.bad ∷ parts_of f.after)
-fault_parts f = ap parts_of f.whole ∙ parts_fault f.good.1 f.bad f.after f.first
+first_bad_same (c ∷ cs) (d ∷ ds) p q ps qs h = let k = first_bad_same cs ds p q ps qs (cc) in (cc, k.1)
 
 -- octets that have a fault aren't well formed
 pub fault_refutes : {x : List ℕ} {fault : Fault} → IsFault x fault → ¬ IsWellFormed x
@@ -268,39 +103,19 @@ one_fault {x} {fault} {other} f g =
     (sym (fault_parts f) ∙ fault_parts g) in
     let front : f.before ≡ g.before = sym (octets_of_spelled f.good.1) ∙ ap octets_of same.0
     ∙ octets_of_spelled g.good.1 in
-    let place : fault.place ≡ other.place = f.place ∙ ap length front ∙ sym g.place in
-    let ends : f.after ≡ g.after =
-    sym (drop-append_seam f.bad f.after)
-    ∙ ap (λ y. drop (length f.bad) y) (sym (drop-append_seam f.before (f.bad ++ f.after))
-    ∙ ap (λ y. drop (length f.before) y) (sym f.whole ∙ g.whole)
-    ∙ ap (λ y. drop (length y) (g.before ++ (g.bad ++ g.after))) front ∙ drop-append_seam g.before (g.bad ++ g.after))
-    ∙ ap (λ y. drop (length y) (g.bad ++ g.after)) same.1 ∙ drop-append_seam g.bad g.after in
+    let whole : g.before ++ (g.bad ++ f.after) ≡ g.before ++ (g.bad ++ g.after) = cc (f.whole, g.whole) in
+    let ends : f.after ≡ g.after = append_cancel_left g.bad _ _ (append_cancel_left g.before _ _ whole) in
+    let place : fault.place ≡ other.place = cc (f.place, g.place) in
     let long : IsFaultSize g.bad g.after fault.size =
-    subst (λ y. IsFaultSize g.bad y fault.size) ends
-    (subst (λ y. IsFaultSize y f.after fault.size) same.1 f.size) in
+    subst (λ y. IsFaultSize g.bad y fault.size) ends (subst (λ y. IsFaultSize y f.after fault.size) same.1 f.size) in
     let size : fault.size ≡ other.size = same_size g.bad g.after fault.size other.size long g.size in
     λ i. record { place = place i; size = size i }
 
--- a bad part has one to three octets
-
-bad_small : {octets bad : List ℕ} → IsBadPart octets bad → (1 ≤ length bad) × (length bad ≤ 3)
-bad_small {bad = bad} b =
-    ⊎_elim
-    (λ l. let short = beginning_short l.0 in let width = width_le (get_or bad 0 0) in
-    (nil_or_some bad l.0.some, omega arith))
-    (λ one. let n = one.0 in (omega arith, omega arith))
-    b.longest
-
 sized : (bad after : List ℕ) (n : ℕ) → IsFaultSize bad after (Some n) → n ≡ length bad
-sized bad after n (inl h) = absurd (let e = h.0 in cc)
-sized bad after n (inr h) = let e = h.0 in cc
+sized bad after n h = grind arith
 
 -- a fault that has a size has one to three octets
 pub fault_small : {octets : List ℕ} {place n : ℕ} → IsFault octets (record { place = place; size = Some n })
     → (1 ≤ n) × (n ≤ 3)
 fault_small {n = n} f =
-    let few = bad_small f.first in
-    let long = sized f.bad f.after n f.size in
-    let least = few.0 in
-    let most = few.1 in
-    (omega arith, omega arith)
+    let long = sized f.bad f.after n f.size in (omega (arith, bad_some f.first), omega (arith, bad_length f.first))

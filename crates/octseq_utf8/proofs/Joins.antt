@@ -29,17 +29,10 @@ pub parts_fault : {x cs : List ℕ} → Spells x cs → (p r : List ℕ) → IsB
 parts_fault {x} {cs} s p r b = parts_front s (p ++ r) ∙ ap (λ ps. map Char cs ++ ps) (parts_bad p r b)
 
 -- the text of characters is their octets
-text-chars : (w : ℕ) (cs : List ℕ) (ps : List Part) → text_with w (map Char cs ++ ps) ≡ octets_of cs ++ text_with w ps
+pub text-chars : (w : ℕ) (cs : List ℕ) (ps : List Part) → text_with w (map Char cs ++ ps) ≡ octets_of cs ++ text_with w ps
 text-chars w [] ps = refl
 text-chars w (c ∷ cs) ps = ap (λ y. encoding_of c ++ y) (text-chars w cs ps)
     ∙ sym (append_assoc (encoding_of c) (octets_of cs) (text_with w ps))
-
--- the text at a fault
-pub text_fault : (w : ℕ) {x cs : List ℕ} → Spells x cs → (p r : List ℕ) → IsBadPart (p ++ r) p
-    → text_with w (parts_of (x ++ (p ++ r))) ≡ x ++ (encoding_of w ++ text_with w (parts_of r))
-text_fault w {x} {cs} s p r b =
-    ap (text_with w) (parts_fault s p r b) ∙ text-chars w cs (Bad p ∷ parts_of r)
-    ∙ ap (λ y. y ++ (encoding_of w ++ text_with w (parts_of r))) (octets_of_spelled s)
 
 -- the parts of well-formed octets are their characters, and the text is those octets
 

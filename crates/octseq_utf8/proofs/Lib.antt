@@ -2,10 +2,7 @@ pub mod Numbers
 pub mod Spelling
 pub mod Bridge
 pub mod Texts
-pub mod Rows
 pub mod Fits
-pub mod Beginnings
-pub mod Fitting
 pub mod Splitting
 pub mod Joins
 pub mod Fronts
@@ -13,7 +10,5 @@ pub mod Masks
 pub mod Ascii
 pub mod Faults
 pub mod Search
-pub mod Tails
 pub mod LossyTexts
-pub mod AtFault
 pub mod ByChunk

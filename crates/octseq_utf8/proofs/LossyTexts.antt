@@ -1,16 +1,14 @@
 -- The text of octets with a replacement for each bad part.
-use Rattle.std.proofs.Common.{◌≡◌, ◌≢◌, ℕ, ◌≤◌, List, [], ◌∷◌, ◌++◌, map, length, get_or}
-use Rattle.std.proofs.Common.{refl, arith, inr, ⊎_elim, ap, sym, ◌∙◌, subst, length-append}
+use Rattle.std.proofs.Common.{◌≡◌, ◌≢◌, ℕ, ◌≤◌, List, [], ◌∷◌, ◌++◌, map, length}
+use Rattle.std.proofs.Common.{refl, arith, inr, ap, sym, ◌∙◌, subst, length-append}
 use Rattle.octseq_utf8.specs.Encoding.{IsCharacter, number_of, encoding_of}
 use Rattle.octseq_utf8.specs.Parts.{IsBadPart, Part, Char, Bad, Splits, nothing, encoding, bad_part, text_with, text}
 use Rattle.octseq_utf8.specs.Reading.{parts_of}
 use Rattle.octseq_utf8.specs.Text.{Spells, IsWellFormed}
-use Rattle.octseq_utf8.proofs.Rows.{width_le}
-use Rattle.octseq_utf8.proofs.Beginnings.{beginning_short}
 use Rattle.octseq_utf8.proofs.Numbers.{encoding_of-number_of, encoding_is_of}
 use Rattle.octseq_utf8.proofs.Joins.{parts_fault, text_spelled}
 use Rattle.octseq_utf8.proofs.Spelling.{spells_nothing, spells_one, spells-append}
-use Rattle.octseq_utf8.proofs.Splitting.{splits, only_parts}
+use Rattle.octseq_utf8.proofs.Splitting.{splits, only_parts, bad_length}
 
 -- U+FFFD, the replacement, is a character
 pub replacement_is_character : IsCharacter 0xFFFD
@@ -29,11 +27,6 @@ text_well_formed w h (encoding {e} {parts = parts} p s) =
 text_well_formed w h (bad_part b s) =
     let rest = text_well_formed w h s in
     (number_of (encoding_of w) ∷ rest.0, spells-append (spells_one (encoding_is_of w h).0) rest.1)
-
--- a bad part has at most three octets
-pub bad_length : {x p : List ℕ} → IsBadPart x p → length p ≤ 3
-bad_length {x} {p} b = ⊎_elim (λ h. let s = beginning_short h.0 in omega (arith, width_le (get_or p 0 0)))
-    (λ h. omega arith) b.longest
 
 replacement_length : length (encoding_of 0xFFFD) ≡ 3
 unfolding encoding_of

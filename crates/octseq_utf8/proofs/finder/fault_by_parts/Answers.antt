@@ -2,41 +2,35 @@ use Rattle.std.proofs.Common.{drop, refl, arith, length-drop}
 use Rattle.octseq_utf8.specs.Fault.{fault_from}
 use Rattle.octseq_utf8.specs.Search.{IsFaultAt}
 use Rattle.octseq_utf8.proofs.Faults.{fault_refutes}
-use Rattle.octseq_utf8.proofs.Tails.{after_more, after_end, after_fault, low_well_formed}
+use Rattle.octseq_utf8.proofs.Search.{after_more, after_end, after_fault, low_well_formed}
 use Rattle.octseq_utf8.proofs.finder.fault_by_parts.Goals as goal
 
 -- the octets that are left are few and all below 80
 
 pub returns-then-is_short_ascii-clause-none : goal.returns-then-is_short_ascii-clause-none
-returns-then-is_short_ascii-clause-none c = (
-  λ h. (low_well_formed (drop c.args.from c.args.octets.now) (c.is_short_ascii.ensures c.if-is_short_ascii.true)).0,
-  λ w. refl,
-)
+returns-then-is_short_ascii-clause-none c =
+    (λ h. (low_well_formed _ (c.is_short_ascii.ensures c.if-is_short_ascii.true)).0, λ w. refl)
 
 pub returns-then-is_short_ascii-clause-turns : goal.returns-then-is_short_ascii-clause-turns
 returns-then-is_short_ascii-clause-turns c =
-    let passed = c.pass.ensures in
-    let same = (low_well_formed (drop c.args.from c.args.octets.now)
-    (c.is_short_ascii.ensures c.if-is_short_ascii.true)).1 in
-    omega (arith, length-drop c.args.from c.args.octets.now)
+    omega (
+      arith,
+      c.pass.ensures,
+      low_well_formed _ (c.is_short_ascii.ensures c.if-is_short_ascii.true),
+      length-drop c.args.from c.args.octets.now,
+    )
 
 pub loop-at-preserved : goal.loop-at-preserved
-loop-at-preserved c =
-    let few = c.loop-at.invariant.few in
-    record {
-      after = rw c.tick.ensures (after_more c.args.octets.now c.args.from c.loop-at.at c.args.turns.now c.loop-at.turns
-          c.in-Encoding.len c.loop-at.invariant.after c.in-Encoding.ensures);
-      few = omega arith;
-    }
+loop-at-preserved c = record {
+  after = rw c.tick.ensures (after_more _ _ _ _ _ _ c.loop-at.invariant.after c.in-Encoding.ensures);
+  few = omega (arith, c.loop-at.invariant.few);
+}
 
 -- what must be shown of the returned fault
 owed : (c : goal.After-new)
     → IsFaultAt (drop c.args.from c.args.octets.now) c.args.turns.now c.tick.new.self
     (fault_from c.args.from c.new.result)
-owed c =
-    rw (c.new.ensures, c.tick.ensures)
-    (after_fault c.args.octets.now c.args.from c.loop-at.at c.args.turns.now c.loop-at.turns c.in-Bad.size
-    c.loop-at.invariant.after c.in-Bad.ensures)
+owed c = rw (c.new.ensures, c.tick.ensures) (after_fault _ _ _ _ _ _ c.loop-at.invariant.after c.in-Bad.ensures)
 
 -- a fault while four octets are left
 
@@ -53,6 +47,4 @@ pub returns-in-Bad-clause-turns_to_fault : goal.returns-in-Bad-clause-turns_to_f
 returns-in-Bad-clause-turns_to_fault c = (owed c).turns
 
 pub returns-clause-turns : goal.returns-clause-turns
-returns-clause-turns c =
-    (after_end c.args.octets.now c.args.from c.loop-at.at c.args.turns.now c.loop-at.turns c.loop-at.invariant.after
-    c.loop-at-test.false).1
+returns-clause-turns c = (after_end _ _ _ _ _ c.loop-at.invariant.after c.loop-at-test.false).1

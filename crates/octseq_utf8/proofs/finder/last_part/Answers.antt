@@ -1,6 +1,5 @@
 use Rattle.std.proofs.Common.{arith}
-use Rattle.octseq_utf8.proofs.Faults.{octet_front}
-use Rattle.octseq_utf8.proofs.Tails.{last_front}
+use Rattle.octseq_utf8.proofs.Search.{octet_front, last_front}
 use Rattle.octseq_utf8.proofs.finder.last_part.Goals as goal
 
 pub returns-then-octets-at-lt128 : goal.returns-then-octets-at-lt128

@@ -1,6 +1,4 @@
-use Rattle.std.proofs.Common.{◌∙◌, sym, subst, arith, Some}
-use Rattle.octseq_utf8.specs.FirstPart.{IsBadFront, IsAtFront}
-use Rattle.octseq_utf8.specs.declared.finder.FirstPart.TheVariants.{Encoding}
+use Rattle.std.proofs.Common.{arith}
 use Rattle.octseq_utf8.proofs.Fronts.{front_encoding, front_lead, front_cut, front_other, front_second}
 use Rattle.octseq_utf8.proofs.finder.part_at_front.Goals as goal
 
@@ -9,23 +7,23 @@ returns-then-not-is_continuation c = front_second c.args.octets.now c.if-octets-
     (grind (arith, c.is_continuation.ensures, c.if-not-is_continuation.true))
 
 pub returns-then-width-eq0 : goal.returns-then-width-eq0
-returns-then-width-eq0 c = front_lead c.args.octets.now c.requires (sym c.width-width.ensures ∙ c.if-width-eq0.true)
+returns-then-width-eq0 c = front_lead c.args.octets.now c.requires (cc (c.width-width.ensures))
 
 pub returns-then-fitting-width : goal.returns-then-fitting-width
 returns-then-fitting-width c =
-    subst (λ k. IsAtFront c.args.octets.now (Encoding k)) (sym c.width-width.ensures)
-    (front_encoding c.args.octets.now c.requires (λ h. c.if-width-eq0.false (c.width-width.ensures ∙ h))
-    (sym c.fitting_len-fitting.ensures ∙ c.if-fitting-width.true ∙ c.width-width.ensures))
+    rw c.width-width.ensures
+    (front_encoding c.args.octets.now c.requires (λ h. c.if-width-eq0.false (cc (c.width-width.ensures)))
+    (cc (c.fitting_len-fitting.ensures, c.width-width.ensures)))
 
 pub returns-then-fitting-octets : goal.returns-then-fitting-octets
 returns-then-fitting-octets c =
-    front_cut c.args.octets.now c.requires (λ h. c.if-width-eq0.false (c.width-width.ensures ∙ h))
-    (λ h. c.if-fitting-width.false (c.fitting_len-fitting.ensures ∙ h ∙ sym c.width-width.ensures))
-    (sym c.fitting_len-fitting.ensures ∙ c.if-fitting-octets.true)
+    front_cut c.args.octets.now c.requires (λ h. c.if-width-eq0.false (cc (c.width-width.ensures)))
+    (λ h. c.if-fitting-width.false (cc (c.fitting_len-fitting.ensures, c.width-width.ensures)))
+    (cc (c.fitting_len-fitting.ensures))
 
 pub returns-else-fitting-octets : goal.returns-else-fitting-octets
 returns-else-fitting-octets c =
-    subst (λ k. IsBadFront c.args.octets.now (Some k) k) (sym c.fitting_len-fitting.ensures)
-    (front_other c.args.octets.now c.requires (λ h. c.if-width-eq0.false (c.width-width.ensures ∙ h))
-    (λ h. c.if-fitting-width.false (c.fitting_len-fitting.ensures ∙ h ∙ sym c.width-width.ensures))
-    (λ h. c.if-fitting-octets.false (c.fitting_len-fitting.ensures ∙ h)))
+    rw c.fitting_len-fitting.ensures
+    (front_other c.args.octets.now c.requires (λ h. c.if-width-eq0.false (cc (c.width-width.ensures)))
+    (λ h. c.if-fitting-width.false (cc (c.fitting_len-fitting.ensures, c.width-width.ensures)))
+    (λ h. c.if-fitting-octets.false (cc (c.fitting_len-fitting.ensures))))

@@ -1,7 +1,7 @@
 use Rattle.std.proofs.Common.{arith}
 use Rattle.octseq_utf8.specs.declared.finder.FirstPart.TheVariants.{Encoding, Bad}
-use Rattle.octseq_utf8.proofs.Faults.{at_place, front_some, word_front}
-use Rattle.octseq_utf8.proofs.Search.{front_wide, search_encoding, search_fault, search_octet, search_two_twos}
+use Rattle.octseq_utf8.proofs.Search.{at_place, front_some, passes_on, front_wide, search_encoding, search_fault}
+use Rattle.octseq_utf8.proofs.Search.{search_octet, search_two_twos, search_word}
 use Rattle.octseq_utf8.proofs.finder.pass_encodings.Goals.{else-octets-at-lt128-via-then-octets-at-lt128+else-octets-at-lt128-2, else-octets-at-lt128-via-else-octets-at-lt128}
 use Rattle.octseq_utf8.proofs.finder.pass_encodings.Goals as goal
 
@@ -9,98 +9,66 @@ use Rattle.octseq_utf8.proofs.finder.pass_encodings.Goals as goal
 
 pub loop-at-preserved-then-octets-at-lt128-3 : goal.loop-at-preserved-then-octets-at-lt128-3
 loop-at-preserved-then-octets-at-lt128-3 c =
-    let words = c.saturating_sub-words.ensures in
-    let past = c.loop-at.invariant.past in
-    record {
-      past = omega arith;
-      passed = λ start before. rw c.tick.ensures
-          (search_octet c.args.octets.now c.loop-at.at start c.loop-at.turns (c.loop-at.invariant.passed start before)
-          (omega arith) c.if-octets-at-lt128-3.true (elim c.else-octets-at-lt128.branch [
-            | else-octets-at-lt128-via-then-octets-at-lt128+else-octets-at-lt128-2 w ↦ w.if-octets-at-lt128-2.false
-            | else-octets-at-lt128-via-else-octets-at-lt128 w ↦ absurd (omega (arith, w.if-octets-at-lt128.false, c.if-octets-at-lt128-3.true))
-          ]));
-    }
+    rw c.tick.ensures
+    (passes_on c.loop-at.invariant (omega arith)
+    (search_octet c.args.octets.now c.loop-at.at c.loop-at.turns (omega (arith, c.saturating_sub-words.ensures))
+    c.if-octets-at-lt128-3.true (elim c.else-octets-at-lt128.branch [
+      | else-octets-at-lt128-via-then-octets-at-lt128+else-octets-at-lt128-2 w ↦ w.if-octets-at-lt128-2.false
+      | else-octets-at-lt128-via-else-octets-at-lt128 w ↦ absurd (omega (arith, w.if-octets-at-lt128.false, c.if-octets-at-lt128-3.true))
+    ])))
 
 -- an encoding at the front of the word, and those after it
 
 pub loop-at-preserved-then-is_two_twos : goal.loop-at-preserved-then-is_two_twos
 loop-at-preserved-then-is_two_twos c =
-    let words = c.saturating_sub-words.ensures in
-    let past = c.loop-at.invariant.past in
-    record {
-      past = omega arith;
-      passed = λ start before. rw (c.tick-then-is_two_twos.ensures, c.tick.ensures)
-          (search_two_twos c.args.octets.now c.word_at-word.result c.loop-at.at start c.loop-at.turns
-          (c.loop-at.invariant.passed start before) (omega arith) c.word_at-word.ensures
-          (c.is_two_twos.ensures.first c.if-is_two_twos.true) (c.is_two_twos.ensures.second c.if-is_two_twos.true));
-    }
+    rw (c.tick-then-is_two_twos.ensures, c.tick.ensures)
+    (passes_on c.loop-at.invariant (omega arith)
+    (search_two_twos c.args.octets.now _ c.loop-at.at c.loop-at.turns (omega (arith, c.saturating_sub-words.ensures))
+    c.word_at-word.ensures (c.is_two_twos.ensures.first c.if-is_two_twos.true)
+    (c.is_two_twos.ensures.second c.if-is_two_twos.true)))
 
 pub loop-at-preserved-then-begins_two : goal.loop-at-preserved-then-begins_two
 loop-at-preserved-then-begins_two c =
-    let words = c.saturating_sub-words.ensures in
-    let past = c.loop-at.invariant.past in
-    record {
-      past = omega arith;
-      passed = λ start before. rw c.tick.ensures
-          (search_encoding c.args.octets.now c.loop-at.at start c.loop-at.turns 2
-          (c.loop-at.invariant.passed start before) (omega arith) (omega arith)
-          (word_front c.args.octets.now _ c.loop-at.at 2 (omega arith) c.word_at-word.ensures (omega arith)
-          (c.begins_two.ensures c.if-begins_two.true)));
-    }
+    rw c.tick.ensures
+    (passes_on c.loop-at.invariant (omega arith)
+    (search_word c.args.octets.now _ c.loop-at.at c.loop-at.turns 2 (omega (arith, c.saturating_sub-words.ensures))
+    c.word_at-word.ensures (omega arith, omega arith) (c.begins_two.ensures c.if-begins_two.true)))
 
 pub loop-at-preserved-then-begins_three : goal.loop-at-preserved-then-begins_three
 loop-at-preserved-then-begins_three c =
-    let words = c.saturating_sub-words.ensures in
-    let past = c.loop-at.invariant.past in
     let run = c.pass_run-at.ensures in
-    record {
-      past = let further = run.past in omega arith;
-      passed = λ start before. run.passed start (rw c.tick.ensures
-          (search_encoding c.args.octets.now c.loop-at.at start c.loop-at.turns 3
-          (c.loop-at.invariant.passed start before) (omega arith) (omega arith)
-          (word_front c.args.octets.now _ c.loop-at.at 3 (omega arith) c.word_at-word.ensures (omega arith)
-          (c.begins_three.ensures c.if-begins_three.true))));
-    }
+    passes_on c.loop-at.invariant (omega (arith, run.past)) (λ old s. run.passed old (rw c.tick.ensures
+    (search_word c.args.octets.now _ c.loop-at.at c.loop-at.turns 3 (omega (arith, c.saturating_sub-words.ensures))
+    c.word_at-word.ensures (omega arith, omega arith) (c.begins_three.ensures c.if-begins_three.true) old s)))
 
 pub loop-at-preserved-then-is_four : goal.loop-at-preserved-then-is_four
 loop-at-preserved-then-is_four c =
-    let words = c.saturating_sub-words.ensures in
-    let past = c.loop-at.invariant.past in
     let run = c.pass_run-at-then-is_four.ensures in
-    record {
-      past = let further = run.past in omega arith;
-      passed = λ start before. run.passed start (rw c.tick.ensures
-          (search_encoding c.args.octets.now c.loop-at.at start c.loop-at.turns 4
-          (c.loop-at.invariant.passed start before) (omega arith) (omega arith)
-          (word_front c.args.octets.now _ c.loop-at.at 4 (omega arith) c.word_at-word.ensures (omega arith)
-          (c.is_four.ensures c.if-is_four.true))));
-    }
+    passes_on c.loop-at.invariant (omega (arith, run.past)) (λ old s. run.passed old (rw c.tick.ensures
+    (search_word c.args.octets.now _ c.loop-at.at c.loop-at.turns 4 (omega (arith, c.saturating_sub-words.ensures))
+    c.word_at-word.ensures (omega arith, omega arith) (c.is_four.ensures c.if-is_four.true) old s)))
 
 -- what is read by the table
 
 pub loop-at-preserved : goal.loop-at-preserved
 loop-at-preserved c =
-    let words = c.saturating_sub-words.ensures in
-    let past = c.loop-at.invariant.past in
     let front = at_place c.args.octets.now c.loop-at.at (Encoding c.in-Encoding.len) c.in-Encoding.ensures in
-    record {
-      past = omega arith;
-      passed = λ start before. rw c.tick.ensures
-          (search_encoding c.args.octets.now c.loop-at.at start c.loop-at.turns c.in-Encoding.len
-          (c.loop-at.invariant.passed start before) (omega arith)
-          (front_wide c.args.octets.now c.loop-at.at c.in-Encoding.len (omega arith) front) front);
-    }
+    rw c.tick.ensures
+    (passes_on c.loop-at.invariant (omega arith)
+    (search_encoding c.args.octets.now c.loop-at.at c.loop-at.turns c.in-Encoding.len
+    (front_wide c.args.octets.now c.loop-at.at c.in-Encoding.len (omega arith) front) front))
 
 pub returns-in-Bad-clause-fault : goal.returns-in-Bad-clause-fault
 returns-in-Bad-clause-fault c start before =
-    let words = c.saturating_sub-words.ensures in
     rw (c.new.ensures, c.tick.ensures)
     (search_fault c.args.octets.now c.loop-at.at start c.loop-at.turns c.in-Bad.size
-    (c.loop-at.invariant.passed start before) (omega arith)
+    (c.loop-at.invariant.passed start before) (omega (arith, c.saturating_sub-words.ensures))
     (at_place c.args.octets.now c.loop-at.at (Bad c.in-Bad.size) c.in-Bad.ensures))
 
 pub loop-at-smaller : goal.loop-at-smaller
 loop-at-smaller c =
-    let words = c.saturating_sub-words.ensures in
-    let some = front_some c.args.octets.now c.loop-at.at c.in-Encoding.len c.in-Encoding.ensures in
-    omega arith
+    omega (
+      arith,
+      c.saturating_sub-words.ensures,
+      front_some c.args.octets.now c.loop-at.at c.in-Encoding.len c.in-Encoding.ensures,
+    )

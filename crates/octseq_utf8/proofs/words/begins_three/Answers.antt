@@ -4,4 +4,4 @@ use Rattle.octseq_utf8.proofs.Masks.{three}
 use Rattle.octseq_utf8.proofs.words.begins_three.Goals as goal
 
 pub returns : goal.returns
-returns c h = three c.args.word _ _ _ refl refl refl (omega arith) (omega arith) (grind (arith, nat_tests))
+returns c h = three c.args.word _ _ _ _ (refl, refl, refl, refl) (omega arith) (omega arith) (grind (arith, nat_tests))
