@@ -1,10 +1,8 @@
 -- Faults: the octets around one, that there is only one, and its size.
-use Rattle.std.proofs.Common.{◌≡◌, ℕ, ◌+◌, ◌-◌, ◌<◌, ◌≤◌, List, [], ◌∷◌, ◌++◌, map, length, take, drop}
-use Rattle.std.proofs.Common.{refl, arith, inl, inr, ap, sym, ◌∙◌, subst, append_assoc, length-append}
-use Rattle.std.proofs.Common.{length-drop, Option, Some}
+use Rattle.std.proofs.Common.{◌≡◌, ℕ, ◌+◌, ◌-◌, ◌<◌, ◌≤◌, List, [], ◌∷◌, ◌++◌, map, length, take, drop, refl, arith}
+use Rattle.std.proofs.Common.{inl, inr, ap, sym, ◌∙◌, subst, append_assoc, length-append, length-drop, Option, Some}
 use Rattle.std.specs.Prelude.{unwrap_or}
-use Rattle.std.proofs.lemmas.List.{take_all, length-map, append_cancel_left, take_at}
-use Rattle.std.proofs.lemmas.List.{drop_at}
+use Rattle.std.proofs.lemmas.List.{take_all, length-map, append_cancel_left, take_at, drop_at}
 use Rattle.octseq_utf8.specs.Fault.{Fault, IsFaultSize, IsFault, fault_end}
 use Rattle.octseq_utf8.specs.Parts.{Part, Char, Bad}
 use Rattle.octseq_utf8.specs.Reading.{parts_of}

@@ -2,7 +2,7 @@ use Rattle.std.proofs.Common.{◌+◌, sym, ◌∙◌, Some}
 use Rattle.octseq_utf8.specs.Search.{IsFaultAt}
 use Rattle.octseq_utf8.proofs.Faults.{fault_refutes}
 use Rattle.octseq_utf8.proofs.Search.{at_start, fault_at}
-use Rattle.octseq_utf8.proofs.Fronts.{front_stray}
+use Rattle.octseq_utf8.proofs.Splitting.{front_stray}
 use Rattle.octseq_utf8.proofs.chunk.fault_of_rest.Goals as goal
 
 -- a stray octet is a fault at the front
