@@ -109,11 +109,7 @@ one_fault {x} {fault} {other} f g =
     let size : fault.size ≡ other.size = same_size g.bad g.after fault.size other.size long g.size in
     λ i. record { place = place i; size = size i }
 
-sized : (bad after : List ℕ) (n : ℕ) → IsFaultSize bad after (Some n) → n ≡ length bad
-sized bad after n h = grind arith
-
 -- a fault that has a size has one to three octets
 pub fault_small : {octets : List ℕ} {place n : ℕ} → IsFault octets (record { place = place; size = Some n })
     → (1 ≤ n) × (n ≤ 3)
-fault_small {n = n} f =
-    let long = sized f.bad f.after n f.size in (omega (arith, bad_some f.first), omega (arith, bad_length f.first))
+fault_small f = let size = f.size in grind (arith, bad_some f.first, bad_length f.first)

@@ -126,8 +126,7 @@ turns_after x place old mid now at w turns =
 
 -- the fault of the octets from the finder's place on is the fault of the whole, within the turns that the whole allows
 pub fault_after : (x : List ℕ) (place old mid now : ℕ) (fault : Fault) → IsAt x place old mid
-    → IsFault (drop place x) fault
-    → now ≤ mid + length (chars (take fault.place (drop place x))) + 1
+    → IsFault (drop place x) fault → now ≤ mid + length (chars (take fault.place (drop place x))) + 1
     → fault_end (drop place x) fault + 16 * mid ≤ 16 * now
     → IsFaultAt x old now (record { place = place + fault.place; size = fault.size })
 fault_after x place old mid now fault at f turns passed =
@@ -157,8 +156,7 @@ fault_after x place old mid now fault at f turns passed =
 
 -- a bad part at the finder's place is the fault there, found in one more turn
 pub fault_at : (x : List ℕ) (place old now : ℕ) (size : Option ℕ) → IsAt x place old now
-    → IsAtFront (drop place x) (Bad size)
-    → IsFaultAt x old (now + 1) (record { place = place; size = size })
+    → IsAtFront (drop place x) (Bad size) → IsFaultAt x old (now + 1) (record { place = place; size = size })
 fault_at x place old now size at front =
     let y : List ℕ = drop place x in
     let n : ℕ = unwrap_or size (length y) in
@@ -459,8 +457,7 @@ after_fault x from place old now size b front =
 pub low_well_formed : (y : List ℕ) → All (λ o. o < 0x80) y → IsWellFormed y × (length (chars y) ≡ length y)
 low_well_formed y low = (
   (map (λ o. number_of (o ∷ [])) y, spells_low y low),
-  ap length (chars_of (spells_low y low))
-      ∙ length-map y (λ o. number_of (o ∷ [])),
+  ap length (chars_of (spells_low y low)) ∙ length-map y (λ o. number_of (o ∷ [])),
 )
 
 -- What a search of all octets finds.
@@ -496,8 +493,7 @@ tail x place old mid now (Some fault) s last none past f turns turns_to passed =
 
 -- the turns of octets that are all below 80
 pub ascii_turns : (x : List ℕ) (place old mid now : ℕ) → IsSearching x place old mid → length x - 15 ≤ place
-    → now ≤ mid + length (drop place x) → All (λ o. o < 0x80) x
-    → now ≤ old + length x / 16 + length x % 16
+    → now ≤ mid + length (drop place x) → All (λ o. o < 0x80) x → now ≤ old + length x / 16 + length x % 16
 ascii_turns x place old mid now s last more low =
     let lanes = s.lanes low in
     let within = s.at.within in

@@ -163,8 +163,7 @@ bad_only x p b = go (whole_or x)
     some = let s = bad_some b in omega arith
 
     long : IsShort x → (IsBeginning p × ((q : List ℕ) → IsFront q x → IsBeginning q → length q ≤ length p))
-        ⊎ ((length p ≡ 1) × ((q : List ℕ) → IsFront q x → ¬ IsBeginning q))
-        → length p ≡ part_len x
+        ⊎ ((length p ≡ 1) × ((q : List ℕ) → IsFront q x → ¬ IsBeginning q)) → length p ≡ part_len x
     long (inl z) (inl g) = absurd (omega (arith, beginning_fitting x p b.front g.0))
     long (inl z) (inr g) = omega (arith, fitting_wide x)
     long (inr z) (inl g) =
@@ -224,8 +223,7 @@ splits x = splits_within (length x) x (omega arith)
 -- What is at the front of octets, by how many fit.
 
 -- all of the width fits
-pub front_encoding : (x : List ℕ) → 0 < length x → width x ≢ 0 → fitting x ≡ width x
-    → IsAtFront x (Encoding (width x))
+pub front_encoding : (x : List ℕ) → 0 < length x → width x ≢ 0 → fitting x ≡ width x → IsAtFront x (Encoding (width x))
 front_encoding x some lead same =
     let n : part_len x ≡ width x = omega arith in
     (omega (arith, fitting_within x some), subst (λ k. IsEncoding (take k x)) n (whole_encoding x some (omega arith) same))
