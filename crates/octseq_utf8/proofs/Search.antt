@@ -90,8 +90,9 @@ spells_low (a ∷ x) low =
 at_low : (x : List ℕ) (place old now n more : ℕ) → IsAt x place old now → place + n ≤ length x
     → All (λ o. o < 0x80) (take n (drop place x)) → more ≤ n → n ≤ 16 * more → IsAt x (place + n) old (now + more)
 at_low x place old now n more at room low few passed =
-    at_spelled x _ place old now n more at room (spells_low (take n (drop place x)) low)
-    (omega (arith, length-map (take n (drop place x)) (λ o. number_of (o ∷ [])), length-chunk place n x room)) few passed
+    let octets : List ℕ = take n (drop place x) in
+    at_spelled x _ place old now n more at room (spells_low octets low)
+    (omega (arith, length-map octets (λ o. number_of (o ∷ [])), length-chunk place n x room)) few passed
 
 -- a search that reaches the end has passed well-formed octets, with at most one turn for each character
 at_end : (x : List ℕ) (place old now : ℕ) → IsAt x place old now → length x ≤ place
@@ -131,9 +132,9 @@ fault_after x place old mid now fault at f turns passed =
     let before : IsWellFormed (take place x) = (at.characters, at.spelled) in
     let good : IsWellFormed (take fault.place (drop place x)) =
     subst IsWellFormed (sym (front_is (drop place x) fault f)) f.good in
-    let spelled : chars (take (place + fault.place) x) ≡ at.characters ++ chars (take fault.place (drop place x)) =
-    ap chars (take-add place fault.place x) ∙ chars-append _ _ before good
-    ∙ ap (λ cs. cs ++ chars (take fault.place (drop place x))) (chars_of at.spelled) in
+    let cs : List ℕ = chars (take fault.place (drop place x)) in
+    let spelled : chars (take (place + fault.place) x) ≡ at.characters ++ cs =
+    ap chars (take-add place fault.place x) ∙ chars-append _ _ before good ∙ ap (λ y. y ++ cs) (chars_of at.spelled) in
     let left : length (drop place x) - fault.place ≡ length x - (place + fault.place) =
     omega (arith, length-drop place x) in
     record {
@@ -148,7 +149,7 @@ fault_after x place old mid now fault at f turns passed =
         place = omega (arith, f.place, at.within, length-take place x, length-append (take place x) f.before);
         size = f.size;
       };
-      turns = rw spelled (omega (arith, at.turns, length-append at.characters (chars (take fault.place (drop place x)))));
+      turns = rw spelled (omega (arith, at.turns, length-append at.characters cs));
       passed = omega (arith, at.passed, ap (unwrap_or fault.size) left);
     }
 
@@ -247,7 +248,7 @@ pub record Passes (x : List ℕ) (from place old now : ℕ) : Type 0 where
 
 pub passes_on : {x : List ℕ} {from place further old now later : ℕ} → Passes x from place old now → place ≤ further
     → Step x place now further later → Passes x from further old later
-passes_on p le step = record { past = omega (arith, p.past); passed = λ start before. step start (p.passed start before) }
+passes_on p le step = record { past = omega (arith, p.past); passed = λ start s. step start (p.passed start s) }
 
 -- the same place and turns in other words
 step_at : {x : List ℕ} {place now further other later then : ℕ} → Step x place now further later → further ≡ other

@@ -226,7 +226,8 @@ splits x = splits_within (length x) x (omega arith)
 pub front_encoding : (x : List ℕ) → 0 < length x → width x ≢ 0 → fitting x ≡ width x → IsAtFront x (Encoding (width x))
 front_encoding x some lead same =
     let n : part_len x ≡ width x = omega arith in
-    (omega (arith, fitting_within x some), subst (λ k. IsEncoding (take k x)) n (whole_encoding x some (omega arith) same))
+    let whole = whole_encoding x some (omega arith) same in
+    (omega (arith, fitting_within x some), subst (λ k. IsEncoding (take k x)) n whole)
 
 -- no encoding is at the front, so the first part is bad
 front_bad : (x : List ℕ) → 0 < length x → IsShort x → (size : Option ℕ) (n : ℕ) → n ≡ part_len x
