@@ -1,13 +1,12 @@
 -- The mask of a lane has a bit for each octet that is 0x80 or more. So it is 0 if all are ASCII, and even if the first
 -- one is.
-use Rattle.std.proofs.Common.{◌≡◌, ◌≢◌, ℕ, ◌+◌, ◌%◌, ◌^◌, ◌<◌, ◌≤◌, ◌-◌, ◌↔◌, ⊎_elim}
-use Rattle.std.proofs.Common.{subst, not, cond, leb, List, [], ◌∷◌, map, length, replicate, take}
-use Rattle.std.proofs.Common.{drop, get_or, length-take, length-drop, refl, ap, sym, ◌∙◌, arith, w8}
+use Rattle.std.proofs.Common.{◌≡◌, ◌≢◌, ℕ, ◌+◌, ◌%◌, ◌^◌, ◌<◌, ◌≤◌, ◌-◌, ◌↔◌, ⊎_elim, subst, not, cond, leb, List, []}
+use Rattle.std.proofs.Common.{◌∷◌, map, length, replicate, take, drop, get_or, length-take, length-drop, refl, ap, sym}
+use Rattle.std.proofs.Common.{◌∙◌, arith, w8}
 use Rattle.std.proofs.lemmas.Bool.Decides.{nat_tests}
-use Rattle.std.proofs.lemmas.List.Elements.{All-nil, All-cons, All-head, All-tail}
-use Rattle.std.proofs.lemmas.List.Elements.{All-get_or, All-from_get_or}
-use Rattle.std.proofs.lemmas.Simd.{mask_l-mod, tops_compared, zip2_splat_left}
-use Rattle.std.proofs.lemmas.Simd.{get_or-chunk, trailing_mask_l, length-chunk}
+use Rattle.std.proofs.lemmas.List.Elements.{All-nil, All-cons, All-head, All-tail, All-get_or, All-from_get_or}
+use Rattle.std.proofs.lemmas.Simd.{mask_l-mod, tops_compared, zip2_splat_left, get_or-chunk, trailing_mask_l}
+use Rattle.std.proofs.lemmas.Simd.{length-chunk}
 use Rattle.std.proofs.lemmas.List.{length-map, get_or-take, get_or-drop}
 use Rattle.std.proofs.lemmas.List.Sums.{prefix_len_passes, prefix_len_stops}
 use Rattle.std.specs.List.{All, prefix_len}

@@ -121,8 +121,7 @@ no_whole_text x chunk after c some good =
 
 -- octets split into the parts of their first chunk followed by a splitting of what is after it
 pub splits_at_chunk : (x : List ℕ) (chunk : Chunk) (after : List ℕ) (parts : List Part) → IsFirstChunk x chunk after
-    → Splits after parts
-    → Splits x (chunk_parts chunk ++ parts)
+    → Splits after parts → Splits x (chunk_parts chunk ++ parts)
 splits_at_chunk x chunk after parts c s =
     subst (Splits x) (parts_at_chunk x chunk after c ∙ ap (λ ps. chunk_parts chunk ++ ps) (sym (only_parts s)))
     (splits x)
@@ -135,15 +134,13 @@ chunks_split (first_chunk {octets = x} {after} {chunk} {chunks} c s) =
 
 -- for any splittings, the parts of octets are the parts of the first chunk followed by the parts of what is after it
 pub parts_by_chunk : (x after : List ℕ) (chunk : Chunk) (parts rest : List Part) → IsFirstChunk x chunk after
-    → Splits x parts → Splits after rest
-    → parts ≡ chunk_parts chunk ++ rest
+    → Splits x parts → Splits after rest → parts ≡ chunk_parts chunk ++ rest
 parts_by_chunk x after chunk parts rest c s t =
     only_parts s ∙ parts_at_chunk x chunk after c ∙ ap (λ ps. chunk_parts chunk ++ ps) (sym (only_parts t))
 
 -- and so is their text
 pub text_by_chunk : (x after : List ℕ) (chunk : Chunk) (parts rest : List Part) (w : ℕ) → IsFirstChunk x chunk after
-    → Splits x parts → Splits after rest
-    → text_with w parts ≡ chunk_text w chunk ++ text_with w rest
+    → Splits x parts → Splits after rest → text_with w parts ≡ chunk_text w chunk ++ text_with w rest
 text_by_chunk x after chunk parts rest w c s t =
     ap (text_with w) (only_parts s) ∙ text_at_chunk w x chunk after c ∙ ap (λ ps. chunk_text w chunk ++ text_with w ps)
     (sym (only_parts t))
@@ -156,8 +153,7 @@ pub grown : (w : ℕ) (x made made' all : List ℕ) (chunk : Chunk) (after : Lis
     → made' ≡ made ++ chunk_text w chunk → made' ++ text_with w (parts_of after) ≡ all
 grown w x made made' all chunk after before c more =
     ap (λ y. y ++ text_with w (parts_of after)) more ∙ append_assoc made (chunk_text w chunk)
-    (text_with w (parts_of after))
-    ∙ ap (λ y. made ++ y) (sym (text_at_chunk w x chunk after c)) ∙ before
+    (text_with w (parts_of after)) ∙ ap (λ y. made ++ y) (sym (text_at_chunk w x chunk after c)) ∙ before
 
 -- if no octets are left, what is made is the whole text
 pub all_made : (w : ℕ) (made all x : List ℕ) → made ++ text_with w (parts_of x) ≡ all → x ≡ [] → made ≡ all

@@ -1,10 +1,8 @@
 -- Faults: the octets around one, that there is only one, and its size.
-use Rattle.std.proofs.Common.{◌≡◌, ℕ, ◌+◌, ◌-◌, ◌<◌, ◌≤◌, List, [], ◌∷◌, ◌++◌, map, length, take, drop}
-use Rattle.std.proofs.Common.{refl, arith, inl, inr, ap, sym, ◌∙◌, subst, append_assoc, length-append}
-use Rattle.std.proofs.Common.{length-drop, Option, Some}
+use Rattle.std.proofs.Common.{◌≡◌, ℕ, ◌+◌, ◌-◌, ◌<◌, ◌≤◌, List, [], ◌∷◌, ◌++◌, map, length, take, drop, refl, arith}
+use Rattle.std.proofs.Common.{inl, inr, ap, sym, ◌∙◌, subst, append_assoc, length-append, length-drop, Option, Some}
 use Rattle.std.specs.Prelude.{unwrap_or}
-use Rattle.std.proofs.lemmas.List.{take_all, length-map, append_cancel_left, take_at}
-use Rattle.std.proofs.lemmas.List.{drop_at}
+use Rattle.std.proofs.lemmas.List.{take_all, length-map, append_cancel_left, take_at, drop_at}
 use Rattle.octseq_utf8.specs.Fault.{Fault, IsFaultSize, IsFault, fault_end}
 use Rattle.octseq_utf8.specs.Parts.{Part, Char, Bad}
 use Rattle.octseq_utf8.specs.Reading.{parts_of}
@@ -111,11 +109,7 @@ one_fault {x} {fault} {other} f g =
     let size : fault.size ≡ other.size = same_size g.bad g.after fault.size other.size long g.size in
     λ i. record { place = place i; size = size i }
 
-sized : (bad after : List ℕ) (n : ℕ) → IsFaultSize bad after (Some n) → n ≡ length bad
-sized bad after n h = grind arith
-
 -- a fault that has a size has one to three octets
 pub fault_small : {octets : List ℕ} {place n : ℕ} → IsFault octets (record { place = place; size = Some n })
     → (1 ≤ n) × (n ≤ 3)
-fault_small {n = n} f =
-    let long = sized f.bad f.after n f.size in (omega (arith, bad_some f.first), omega (arith, bad_length f.first))
+fault_small f = let size = f.size in grind (arith, bad_some f.first, bad_length f.first)

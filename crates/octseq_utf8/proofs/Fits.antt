@@ -2,9 +2,8 @@
 use Rattle.std.proofs.Common.{◌≡◌, ◌≢◌, ℕ, ◌+◌, ◌<◌, ◌≤◌, List, [], ◌∷◌, ◌++◌, length, get_or, take, drop, refl}
 use Rattle.std.proofs.Common.{arith, ◌⊎◌, inl, inr, ap, sym, ◌∙◌, length-append, length-take}
 use Rattle.std.proofs.Math.ListN.{get_or-append}
-use Rattle.std.proofs.Math.Seq.{take-append_seam, drop-append_seam}
 use Rattle.std.proofs.lemmas.Bool.Decides.{nat_tests}
-use Rattle.std.proofs.lemmas.List.{get_or-take}
+use Rattle.std.proofs.lemmas.List.{get_or-take, take_at, drop_at}
 use Rattle.std.specs.Int.{IsInRange}
 use Rattle.octseq_utf8.specs.Encoding.{IsEncoding, row_00_7F, row_C2_DF, row_E0, row_E1_EC}
 use Rattle.octseq_utf8.specs.Encoding.{row_ED, row_EE_EF, row_F0, row_F1_F3, row_F4}
@@ -90,15 +89,11 @@ fits_more p r k f =
 pub fits_less : (p r : List ℕ) (k : ℕ) → k ≤ length p → Fits (p ++ r) k → Fits p k
 fits_less p r k w f = grind (arith, get_left p r 0, get_left p r 1, get_left p r 2, get_left p r 3)
 
--- the whole has the same octet as its first n octets at each place before their end
-pub get_take : (x : List ℕ) (n i : ℕ) → i < n → get_or (take n x) i 0 ≡ get_or x i 0
-get_take x n i h = get_or-take n x i 0 h
-
 -- the octets that fit do so by themselves, and require the same width
 pub fits_take : (x : List ℕ) (k : ℕ) → Fits x k → (length (take k x) ≡ k) × Fits (take k x) (length (take k x))
     × (width_of (get_or (take k x) 0 0) ≡ width_of (get_or x 0 0))
 fits_take x k f = let long : length (take k x) ≡ k = length-take k x ∙ omega arith in
-    grind (arith, get_take x k 0, get_take x k 1, get_take x k 2, get_take x k 3)
+    grind (arith, get_or-take k x 0 0, get_or-take k x 1 0, get_or-take k x 2 0, get_or-take k x 3 0)
 
 -- fewer octets fit too
 pub fits_fewer : (x : List ℕ) (j k : ℕ) → 1 ≤ j → j ≤ k → Fits x k → Fits x j
@@ -112,10 +107,8 @@ encodings_begin_alike {e} {f} r s p q h =
     let b = fits_all q in
     let same = ap (λ x. get_or x 0 0) h in
     let long : length e ≡ length f = grind (arith, get_left e r 0, get_left f s 0) in (
-      sym (take-append_seam e r) ∙ ap (λ x. take (length e) x) h ∙ ap (λ n. take n (f ++ s)) long
-          ∙ take-append_seam f s,
-      sym (drop-append_seam e r) ∙ ap (λ x. drop (length e) x) h ∙ ap (λ n. drop n (f ++ s)) long
-          ∙ drop-append_seam f s,
+      sym (take_at e r _ long) ∙ ap (take (length f)) h ∙ take_at f s _ refl,
+      sym (drop_at e r _ long) ∙ ap (drop (length f)) h ∙ drop_at f s _ refl,
     )
 
 -- Beginnings: octets that fit and are fewer than the first one requires.

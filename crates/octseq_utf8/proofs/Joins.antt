@@ -29,7 +29,8 @@ pub parts_fault : {x cs : List ℕ} → Spells x cs → (p r : List ℕ) → IsB
 parts_fault {x} {cs} s p r b = parts_front s (p ++ r) ∙ ap (λ ps. map Char cs ++ ps) (parts_bad p r b)
 
 -- the text of characters is their octets
-pub text-chars : (w : ℕ) (cs : List ℕ) (ps : List Part) → text_with w (map Char cs ++ ps) ≡ octets_of cs ++ text_with w ps
+pub text-chars : (w : ℕ) (cs : List ℕ) (ps : List Part) → text_with w (map Char cs ++ ps) ≡ octets_of cs
+    ++ text_with w ps
 text-chars w [] ps = refl
 text-chars w (c ∷ cs) ps = ap (λ y. encoding_of c ++ y) (text-chars w cs ps)
     ∙ sym (append_assoc (encoding_of c) (octets_of cs) (text_with w ps))

@@ -5,7 +5,6 @@ pub mod Texts
 pub mod Fits
 pub mod Splitting
 pub mod Joins
-pub mod Fronts
 pub mod Masks
 pub mod Ascii
 pub mod Faults

@@ -1,9 +1,8 @@
 -- Four octets in a word, the first one lowest. A mask of the word is a mask of each octet, and the masked octet gives
 -- its range; so what the code tests of the word puts each octet in the range that a row of the table requires. Only
 -- this direction is needed: what no mask accepts is read octet by octet.
-use Rattle.std.proofs.Common.{◌≡◌, ◌≢◌, ℕ, zero, suc, ◌+◌, ◌*◌, ◌/◌, ◌%◌, ◌^◌, ◌-◌, ◌<◌, ◌≤◌, List, [], ◌∷◌, ◌++◌}
-use Rattle.std.proofs.Common.{ap, ◌∙◌, arith, bit_and, bit_or, take, drop, length, get_or}
-use Rattle.std.proofs.Common.{Fits, w8}
+use Rattle.std.proofs.Common.{◌≡◌, ◌≢◌, ℕ, zero, suc, ◌+◌, ◌*◌, ◌/◌, ◌%◌, ◌^◌, ◌-◌, ◌<◌, ◌≤◌, List, [], ◌∷◌, ◌++◌, ap}
+use Rattle.std.proofs.Common.{◌∙◌, arith, bit_and, bit_or, take, drop, length, get_or, Fits, w8}
 use Rattle.std.specs.Int.{IsInRange, w32, to_le_bytes, from_le_bytes}
 use lib.Lanes.{Each1}
 use Rattle.std.proofs.lemmas.Bool.Decides.{nat_tests}

@@ -60,7 +60,7 @@ at_spelled x cs place old now n more at room spelled some few passed = record {
 }
 
 -- one more encoding
-pub at_more : (x : List ℕ) (place old now len : ℕ) → IsAt x place old now → IsAtFront (drop place x) (Encoding len)
+at_more : (x : List ℕ) (place old now len : ℕ) → IsAt x place old now → IsAtFront (drop place x) (Encoding len)
     → IsAt x (place + len) old (now + 1)
 at_more x place old now len at (within, e) =
     let long : (1 ≤ len) × (len ≤ 4) = omega (arith, length_of e, length-take len (drop place x)) in
@@ -68,7 +68,7 @@ at_more x place old now len at (within, e) =
     long.0 (omega arith)
 
 -- an encoding at the front of a word of four octets
-pub word_front : (x four : List ℕ) (place len : ℕ) → place + 4 ≤ length x → four ≡ take 4 (drop place x) → len ≤ 4
+word_front : (x four : List ℕ) (place len : ℕ) → place + 4 ≤ length x → four ≡ take 4 (drop place x) → len ≤ 4
     → IsEncoding (take len four) → IsAtFront (drop place x) (Encoding len)
 word_front x four place len room same few e =
     (omega (arith, length-drop place x), subst IsEncoding (ap (take len) same ∙ take-take len 4 (drop place x) few) e)
@@ -79,24 +79,23 @@ pub octet_front : (x : List ℕ) (place : ℕ) → place < length x → get_or x
 octet_front x place lt low =
     (omega (arith, length-drop place x), rw (drop-cons x place 0 lt) (row_00_7F {a = get_or x place 0} (omega arith)))
 
--- a lane of octets below 80: each spells its character
-
 -- octets that are all below 80 spell one character for each octet
-pub spells_low : (x : List ℕ) → All (λ o. o < 0x80) x → Spells x (map (λ o. number_of (o ∷ [])) x)
+spells_low : (x : List ℕ) → All (λ o. o < 0x80) x → Spells x (map (λ o. number_of (o ∷ [])) x)
 spells_low [] low = spells_nothing
 spells_low (a ∷ x) low =
     spells-append (spells_one (row_00_7F {a = a} (omega (arith, All-head (λ o. o < 0x80) a x low))))
     (spells_low x (All-tail (λ o. o < 0x80) a x low))
 
 -- octets that are all below 80 are passed in at most one turn each, and at most sixteen of them in a turn
-pub at_low : (x : List ℕ) (place old now n more : ℕ) → IsAt x place old now → place + n ≤ length x
+at_low : (x : List ℕ) (place old now n more : ℕ) → IsAt x place old now → place + n ≤ length x
     → All (λ o. o < 0x80) (take n (drop place x)) → more ≤ n → n ≤ 16 * more → IsAt x (place + n) old (now + more)
 at_low x place old now n more at room low few passed =
-    at_spelled x _ place old now n more at room (spells_low (take n (drop place x)) low)
-    (omega (arith, length-map (take n (drop place x)) (λ o. number_of (o ∷ [])), length-chunk place n x room)) few passed
+    let octets : List ℕ = take n (drop place x) in
+    at_spelled x _ place old now n more at room (spells_low octets low)
+    (omega (arith, length-map octets (λ o. number_of (o ∷ [])), length-chunk place n x room)) few passed
 
--- the end
-pub at_end : (x : List ℕ) (place old now : ℕ) → IsAt x place old now → length x ≤ place
+-- a search that reaches the end has passed well-formed octets, with at most one turn for each character
+at_end : (x : List ℕ) (place old now : ℕ) → IsAt x place old now → length x ≤ place
     → IsWellFormed x × (now ≤ old + length (chars x))
 at_end x place old now at past =
     let s : Spells x at.characters = subst (λ z. Spells z at.characters) (take_all place x past) at.spelled in
@@ -105,7 +104,7 @@ at_end x place old now at past =
 -- what is found after a place is found in the whole
 
 -- if the octets from the finder's place on are well formed, so are all of them, and their characters join
-pub well_formed_after : (x : List ℕ) (place old now : ℕ) → IsAt x place old now → IsWellFormed (drop place x)
+well_formed_after : (x : List ℕ) (place old now : ℕ) → IsAt x place old now → IsWellFormed (drop place x)
     → IsWellFormed x × (chars x ≡ chars (take place x) ++ chars (drop place x))
 well_formed_after x place old now at w =
     let before : IsWellFormed (take place x) = (at.characters, at.spelled) in
@@ -113,7 +112,7 @@ well_formed_after x place old now at w =
     (subst IsWellFormed whole (well_formed-append _ _ before w), ap chars (sym whole) ∙ chars-append _ _ before w)
 
 -- if the well-formed rest takes at most one turn for each character, so does the whole
-pub turns_after : (x : List ℕ) (place old mid now : ℕ) → IsAt x place old mid → IsWellFormed (drop place x)
+turns_after : (x : List ℕ) (place old mid now : ℕ) → IsAt x place old mid → IsWellFormed (drop place x)
     → now ≤ mid + length (chars (drop place x)) → now ≤ old + length (chars x)
 turns_after x place old mid now at w turns =
     omega (
@@ -126,17 +125,16 @@ turns_after x place old mid now at w turns =
 
 -- the fault of the octets from the finder's place on is the fault of the whole, within the turns that the whole allows
 pub fault_after : (x : List ℕ) (place old mid now : ℕ) (fault : Fault) → IsAt x place old mid
-    → IsFault (drop place x) fault
-    → now ≤ mid + length (chars (take fault.place (drop place x))) + 1
+    → IsFault (drop place x) fault → now ≤ mid + length (chars (take fault.place (drop place x))) + 1
     → fault_end (drop place x) fault + 16 * mid ≤ 16 * now
     → IsFaultAt x old now (record { place = place + fault.place; size = fault.size })
 fault_after x place old mid now fault at f turns passed =
     let before : IsWellFormed (take place x) = (at.characters, at.spelled) in
     let good : IsWellFormed (take fault.place (drop place x)) =
     subst IsWellFormed (sym (front_is (drop place x) fault f)) f.good in
-    let spelled : chars (take (place + fault.place) x) ≡ at.characters ++ chars (take fault.place (drop place x)) =
-    ap chars (take-add place fault.place x) ∙ chars-append _ _ before good
-    ∙ ap (λ cs. cs ++ chars (take fault.place (drop place x))) (chars_of at.spelled) in
+    let cs : List ℕ = chars (take fault.place (drop place x)) in
+    let spelled : chars (take (place + fault.place) x) ≡ at.characters ++ cs =
+    ap chars (take-add place fault.place x) ∙ chars-append _ _ before good ∙ ap (λ y. y ++ cs) (chars_of at.spelled) in
     let left : length (drop place x) - fault.place ≡ length x - (place + fault.place) =
     omega (arith, length-drop place x) in
     record {
@@ -151,14 +149,13 @@ fault_after x place old mid now fault at f turns passed =
         place = omega (arith, f.place, at.within, length-take place x, length-append (take place x) f.before);
         size = f.size;
       };
-      turns = rw spelled (omega (arith, at.turns, length-append at.characters (chars (take fault.place (drop place x)))));
+      turns = rw spelled (omega (arith, at.turns, length-append at.characters cs));
       passed = omega (arith, at.passed, ap (unwrap_or fault.size) left);
     }
 
 -- a bad part at the finder's place is the fault there, found in one more turn
 pub fault_at : (x : List ℕ) (place old now : ℕ) (size : Option ℕ) → IsAt x place old now
-    → IsAtFront (drop place x) (Bad size)
-    → IsFaultAt x old (now + 1) (record { place = place; size = size })
+    → IsAtFront (drop place x) (Bad size) → IsFaultAt x old (now + 1) (record { place = place; size = size })
 fault_at x place old now size at front =
     let y : List ℕ = drop place x in
     let n : ℕ = unwrap_or size (length y) in
@@ -177,6 +174,8 @@ fault_at x place old now size at front =
       size = front.size;
     }) (omega arith) (omega (arith, front.few, ap (unwrap_or size) all)))
 
+-- the number of octets that are 80 or more
+
 high-append : (x y : List ℕ) → high_count (x ++ y) ≡ high_count x + high_count y
 high-append x y = sum_by-append (λ o. cond (leb 0x80 o) 1 0) x y
 
@@ -187,7 +186,7 @@ high-cons a y = sum_by-cons (λ o. cond (leb 0x80 o) 1 0) a y
 abbrev IsNarrow : List ℕ → Type 0
 IsNarrow e = (length e ≡ 1) × (get_or e 0 0 < 0x80) × (high_count e ≡ 0)
 
-abbrev pub IsWide : List ℕ → Type 0
+abbrev IsWide : List ℕ → Type 0
 IsWide e = (2 ≤ length e) × (2 ≤ high_count e) × (0x80 ≤ get_or e (length e - 1) 0)
 
 narrow_or_wide : {e : List ℕ} → IsEncoding e → IsNarrow e ⊎ IsWide e
@@ -201,7 +200,7 @@ narrow_or_wide (row_F0 {a} {b} {c} {d} p q r s) = inr (grind (arith, nat_tests, 
 narrow_or_wide (row_F1_F3 {a} {b} {c} {d} p q r s) = inr (grind (arith, nat_tests, high-cons))
 narrow_or_wide (row_F4 {a} {b} {c} {d} p q r s) = inr (grind (arith, nat_tests, high-cons))
 
-pub wide_of : {e : List ℕ} → IsEncoding e → 2 ≤ length e → IsWide e
+wide_of : {e : List ℕ} → IsEncoding e → 2 ≤ length e → IsWide e
 wide_of {e} h some = let one = narrow_or_wide h in grind arith
 
 -- so well-formed octets have either none of 80 or more, or at least two, and have no more characters than octets
@@ -249,7 +248,7 @@ pub record Passes (x : List ℕ) (from place old now : ℕ) : Type 0 where
 
 pub passes_on : {x : List ℕ} {from place further old now later : ℕ} → Passes x from place old now → place ≤ further
     → Step x place now further later → Passes x from further old later
-passes_on p le step = record { past = omega (arith, p.past); passed = λ start before. step start (p.passed start before) }
+passes_on p le step = record { past = omega (arith, p.past); passed = λ start s. step start (p.passed start s) }
 
 -- the same place and turns in other words
 step_at : {x : List ℕ} {place now further other later then : ℕ} → Step x place now further later → further ≡ other
@@ -375,7 +374,7 @@ first_high (a ∷ before) rest h =
 
 -- if fewer than sixteen octets are left
 module _ (x : List ℕ) (place old mid : ℕ) (s : IsSearching x place old mid) (last : length x - 15 ≤ place) where
-  pub few_to_the_end : (now : ℕ) → IsWellFormed (drop place x) → now ≤ mid + length (chars (drop place x))
+  few_to_the_end : (now : ℕ) → IsWellFormed (drop place x) → now ≤ mid + length (chars (drop place x))
       → FewTurns x old now
   few_to_the_end now (cs, sp) turns =
       let within = s.at.within in
@@ -393,7 +392,7 @@ module _ (x : List ℕ) (place old mid : ℕ) (s : IsSearching x place old mid) 
         append-nil (drop place x),
       )
 
-  pub few_to_a_fault : (now : ℕ) (fault : Fault) → IsFault (drop place x) fault
+  few_to_a_fault : (now : ℕ) (fault : Fault) → IsFault (drop place x) fault
       → now ≤ mid + length (chars (take fault.place (drop place x))) + 1 → FewTurns x old now
   few_to_a_fault now fault f turns =
       let within = s.at.within in
@@ -442,7 +441,7 @@ pub after_word : (x four : List ℕ) (from place old now len : ℕ) → IsAfter 
 after_word x four from place old now len b room same few e =
     after_more x from place old now len b (word_front x four place len room same few e)
 
--- a search that reaches the end has passed well-formed octets, with at most one turn for each character
+-- and so has one that began at a place
 pub after_end : (x : List ℕ) (from place old now : ℕ) → IsAfter x from place old now → length x ≤ place
     → IsWellFormed (drop from x) × (now ≤ old + length (chars (drop from x)))
 after_end x from place old now b past =
@@ -459,8 +458,7 @@ after_fault x from place old now size b front =
 pub low_well_formed : (y : List ℕ) → All (λ o. o < 0x80) y → IsWellFormed y × (length (chars y) ≡ length y)
 low_well_formed y low = (
   (map (λ o. number_of (o ∷ [])) y, spells_low y low),
-  ap length (chars_of (spells_low y low))
-      ∙ length-map y (λ o. number_of (o ∷ [])),
+  ap length (chars_of (spells_low y low)) ∙ length-map y (λ o. number_of (o ∷ [])),
 )
 
 -- What a search of all octets finds.
@@ -469,7 +467,7 @@ Finds x old now r = (IsNone r ↔ IsWellFormed x) × IfSome r (IsFaultAt x old n
     × IfNone r (now ≤ old + length (chars x)) × FewTurns x old now
 
 -- a fault found is a fault
-pub finds_fault : (x : List ℕ) (old now : ℕ) (fault : Fault) → IsFaultAt x old now fault → FewTurns x old now
+finds_fault : (x : List ℕ) (old now : ℕ) (fault : Fault) → IsFaultAt x old now fault → FewTurns x old now
     → Finds x old now (Some fault)
 finds_fault x old now fault f few = ((λ h. absurd (cc), λ w. absurd (fault_refutes f.is_fault w)), f, tt, few)
 
@@ -496,8 +494,7 @@ tail x place old mid now (Some fault) s last none past f turns turns_to passed =
 
 -- the turns of octets that are all below 80
 pub ascii_turns : (x : List ℕ) (place old mid now : ℕ) → IsSearching x place old mid → length x - 15 ≤ place
-    → now ≤ mid + length (drop place x) → All (λ o. o < 0x80) x
-    → now ≤ old + length x / 16 + length x % 16
+    → now ≤ mid + length (drop place x) → All (λ o. o < 0x80) x → now ≤ old + length x / 16 + length x % 16
 ascii_turns x place old mid now s last more low =
     let lanes = s.lanes low in
     let within = s.at.within in

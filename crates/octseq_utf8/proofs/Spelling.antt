@@ -64,12 +64,9 @@ pub begins_all : (es : List (List ℕ)) → AllByRecursion IsEncoding es → beg
 begins_all [] h = refl
 begins_all (e ∷ es) h = begins h.0 (concat es)
 
-encodings_in-nil : encodings_in [] ≡ []
-unfolding encodings_in
-encodings_in-nil = refl
-
 encodings_in-concat : (es : List (List ℕ)) → AllByRecursion IsEncoding es → encodings_in (concat es) ≡ es
-encodings_in-concat [] h = encodings_in-nil
+unfolding encodings_in
+encodings_in-concat [] h = refl
 encodings_in-concat (e ∷ es) h = cut h.0 (concat es) (begins_all es h.1)
     ∙ ap (λ groups. e ∷ groups) (encodings_in-concat es h.1)
 

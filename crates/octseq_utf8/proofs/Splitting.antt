@@ -1,15 +1,21 @@
--- Octets split in exactly one way, as the finder reads them.
+-- Octets split in exactly one way, as the finder reads them, and what is at the front of them.
 use Rattle.std.proofs.Common.{◌≡◌, ℕ, zero, suc, ◌-◌, ◌<◌, ◌≤◌, List, [], ◌∷◌, ◌++◌, length, get_or, take, drop, refl}
-use Rattle.std.proofs.Common.{arith, ◌⊎◌, inl, inr, ⊎_elim, ap, sym, ◌∙◌, subst, length-append, length-take, length-drop}
+use Rattle.std.proofs.Common.{arith, ◌⊎◌, inl, inr, ⊎_elim, ap, sym, ◌∙◌, subst, length-append, length-take}
+use Rattle.std.proofs.Common.{length-drop, ◌≢◌, false, true, Option, Some, None}
 use Rattle.std.proofs.Math.Seq.{take-append_seam, drop-append_seam}
-use Rattle.std.proofs.lemmas.List.{take-append-drop}
+use Rattle.std.proofs.lemmas.List.{take-append-drop, drop_all}
 use Rattle.std.proofs.lemmas.Bool.Decides.{nat_tests}
 use Rattle.octseq_utf8.specs.Encoding.{IsEncoding, number_of}
-use Rattle.octseq_utf8.specs.Parts.{IsFront, IsBeginning, IsBadPart, Part, Char}
-use Rattle.octseq_utf8.specs.Parts.{Bad, Splits, nothing, encoding, bad_part}
-use Rattle.octseq_utf8.specs.Reading.{width, fitting, part_len, first_part, parts_after, parts_of}
+use Rattle.octseq_utf8.specs.Parts.{IsFront, IsBeginning, IsBadPart, Part, Char, Bad, Splits, nothing, encoding}
+use Rattle.octseq_utf8.specs.Parts.{bad_part}
+use Rattle.octseq_utf8.specs.Reading.{width, fitting, part_len, first_part, parts_after, parts_of, width_of}
+use Rattle.octseq_utf8.specs.Reading.{least_second, greatest_second, fitting_by}
 use Rattle.octseq_utf8.proofs.Fits.{fits_all, from_fits, fits_more, fits_take, get_left, beginning_fits, beginning_from}
 use Rattle.octseq_utf8.proofs.Fits.{width_le, beginning_short, fitting_fits, fitting_within, fitting_wide, fits_fitting}
+use Rattle.std.specs.Int.{is_in_range}
+use Rattle.octseq_utf8.specs.Fault.{IsFaultSize}
+use Rattle.octseq_utf8.specs.FirstPart.{IsBadFront, IsAtFront}
+use Rattle.octseq_utf8.specs.declared.finder.FirstPart.TheVariants.{Encoding, Bad as BadFront}
 
 -- all of the width fits
 abbrev IsWhole : List ℕ → Type 0
@@ -45,18 +51,16 @@ parts_after-drop (suc n) [] = refl
 parts_after-drop zero (b ∷ bs) = refl
 parts_after-drop (suc n) (b ∷ bs) = parts_after-drop n bs
 
-drop_one_less : (n b : ℕ) (bs : List ℕ) → 1 ≤ n → drop n (b ∷ bs) ≡ drop (n - 1) bs
-drop_one_less zero b bs h = absurd (omega arith)
-drop_one_less (suc n) b bs h = let same : n ≡ suc n - 1 = omega arith in ap (λ k. drop k bs) same
+parts_within : (n b : ℕ) (bs : List ℕ) → 1 ≤ n → parts_after (n - 1) bs ≡ parts_of (drop n (b ∷ bs))
+parts_within zero b bs h = absurd (omega arith)
+parts_within (suc n) b bs h =
+    let same : suc n - 1 ≡ n = omega arith in ap (λ k. parts_after k bs) same ∙ parts_after-drop n bs
 
 -- the parts of nonempty octets are the first part followed by the parts of what is after it
 pub parts_step : (x : List ℕ) → 1 ≤ length x → parts_of x ≡ first_part x ∷ parts_of (drop (part_len x) x)
 unfolding parts_after
 parts_step [] h = absurd (omega arith)
-parts_step (b ∷ bs) h =
-    let rest = parts_after-drop (part_len (b ∷ bs) - 1) bs in
-    let less = drop_one_less (part_len (b ∷ bs)) b bs (part_len_within (b ∷ bs) h).0 in
-    cc
+parts_step (b ∷ bs) h = ap (λ ps. first_part (b ∷ bs) ∷ ps) (parts_within _ b bs (part_len_within (b ∷ bs) h).0)
 
 -- no octets, no parts
 pub parts_nil : parts_of [] ≡ []
@@ -159,8 +163,7 @@ bad_only x p b = go (whole_or x)
     some = let s = bad_some b in omega arith
 
     long : IsShort x → (IsBeginning p × ((q : List ℕ) → IsFront q x → IsBeginning q → length q ≤ length p))
-        ⊎ ((length p ≡ 1) × ((q : List ℕ) → IsFront q x → ¬ IsBeginning q))
-        → length p ≡ part_len x
+        ⊎ ((length p ≡ 1) × ((q : List ℕ) → IsFront q x → ¬ IsBeginning q)) → length p ≡ part_len x
     long (inl z) (inl g) = absurd (omega (arith, beginning_fitting x p b.front g.0))
     long (inl z) (inr g) = omega (arith, fitting_wide x)
     long (inr z) (inl g) =
@@ -216,3 +219,77 @@ splits_within (suc k) (b ∷ bs) h = subst (Splits (b ∷ bs)) (sym (parts_step 
 -- octets split into the parts that are read from them
 pub splits : (x : List ℕ) → Splits x (parts_of x)
 splits x = splits_within (length x) x (omega arith)
+
+-- What is at the front of octets, by how many fit.
+
+-- all of the width fits
+pub front_encoding : (x : List ℕ) → 0 < length x → width x ≢ 0 → fitting x ≡ width x → IsAtFront x (Encoding (width x))
+front_encoding x some lead same =
+    let n : part_len x ≡ width x = omega arith in
+    let whole = whole_encoding x some (omega arith) same in
+    (omega (arith, fitting_within x some), subst (λ k. IsEncoding (take k x)) n whole)
+
+-- no encoding is at the front, so the first part is bad
+front_bad : (x : List ℕ) → 0 < length x → IsShort x → (size : Option ℕ) (n : ℕ) → n ≡ part_len x
+    → IsFaultSize (take n x) (drop n x) size → IsBadFront x size n
+front_bad x some short size n e s = record {
+  within = omega (arith, part_len_within x some);
+  few = grind (arith, fitting_wide x, width_le (get_or x 0 0));
+  bad = subst (λ k. IsBadPart x (take k x)) (sym e) (bad_of x some short);
+  size = s;
+}
+
+-- the bad part isn't a beginning that reaches the end
+front_sized : (x : List ℕ) → 0 < length x → IsShort x → (n : ℕ) → n ≡ part_len x
+    → ¬ (IsBeginning (take n x) × (drop n x ≡ [])) → IsAtFront x (BadFront (Some n))
+front_sized x some short n e more =
+    front_bad x some short (Some n) n e
+    (inr (ap Some (omega (arith, length-take n x, part_len_within x some)), more))
+
+-- no encoding begins with the first octet
+pub front_lead : (x : List ℕ) → 0 < length x → width x ≡ 0 → IsAtFront x (BadFront (Some 1))
+front_lead x some none =
+    front_sized x some (inl none) 1 (omega (arith, fitting_wide x))
+    (λ b. omega (arith, beginning_fitting x _ (front_of x 1) b.0))
+
+-- the octets end within an encoding
+pub front_cut : (x : List ℕ) → 0 < length x → width x ≢ 0 → fitting x ≢ width x → fitting x ≡ length x
+    → IsAtFront x (BadFront None)
+front_cut x some lead short whole =
+    let less : fitting x < width x = omega (arith, fitting_wide x) in
+    front_bad x some (inr less) None (length x) (omega arith)
+    (inl (
+      refl,
+      subst (λ k. IsBeginning (take k x)) whole (fitting_beginning x some (omega arith) less),
+      drop_all (length x) x (omega arith),
+    ))
+
+-- the next octet is one that the encoding can't have there
+pub front_other : (x : List ℕ) → 0 < length x → width x ≢ 0 → fitting x ≢ width x → fitting x ≢ length x
+    → IsAtFront x (BadFront (Some (fitting x)))
+front_other x some lead short more =
+    front_sized x some (inr (omega (arith, fitting_wide x))) (fitting x)
+    (omega (arith, fitting_fits x some (omega arith)))
+    (λ b. absurd (more (omega (arith, length-drop (fitting x) x, ap length b.1, fitting_within x some))))
+
+-- if the second octet is not a continuation, at most one octet fits, and that is less than the first one requires
+fitting_one : (x : List ℕ) → 0x80 ≤ get_or x 0 0 → is_in_range 0x80 0xBF (get_or x 1 0) ≡ false
+    → IsShort x × (fitting x ≤ 1)
+unfolding width_of least_second greatest_second fitting_by
+fitting_one x high second = grind (arith, nat_tests)
+
+-- and the first octet, 80 or more, is the bad part
+pub front_second : (x : List ℕ) → 1 < length x → 0x80 ≤ get_or x 0 0 → is_in_range 0x80 0xBF (get_or x 1 0) ≡ false
+    → IsAtFront x (BadFront (Some 1))
+front_second x more high second =
+    let one = fitting_one x high second in
+    front_sized x (omega arith) one.0 1 (omega arith) (λ b. omega (arith, length-drop 1 x, ap length b.1))
+
+width_stray : (a : ℕ) → is_in_range 0x80 0xBF a ≡ true → width_of a ≡ 0
+unfolding width_of
+width_stray a h = grind (arith, nat_tests)
+
+-- an octet of 80 to BF at the front is the bad part
+pub front_stray : (x : List ℕ) → 0 < length x → is_in_range 0x80 0xBF (get_or x 0 0) ≡ true
+    → IsAtFront x (BadFront (Some 1))
+front_stray x some stray = front_lead x some (width_stray (get_or x 0 0) stray)

@@ -27,8 +27,7 @@ loop-at-preserved c = record {
 }
 
 -- what must be shown of the returned fault
-owed : (c : goal.After-new)
-    → IsFaultAt (drop c.args.from c.args.octets.now) c.args.turns.now c.tick.new.self
+owed : (c : goal.After-new) → IsFaultAt (drop c.args.from c.args.octets.now) c.args.turns.now c.tick.new.self
     (fault_from c.args.from c.new.result)
 owed c = rw (c.new.ensures, c.tick.ensures) (after_fault _ _ _ _ _ _ c.loop-at.invariant.after c.in-Bad.ensures)
 

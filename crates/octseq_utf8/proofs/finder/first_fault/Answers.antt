@@ -51,8 +51,8 @@ all : (c : goal.After-fault_by_parts)
     → Finds c.args.octets.now c.args.turns.now c.fault_by_parts.new.turns c.fault_by_parts.result
 all c =
     let last = c.fault_by_parts.ensures in
-    tail _ c.loop-at.at _ c.loop-at.turns _ c.fault_by_parts.result c.loop-at.invariant (omega arith) last.none last.place
-    last.fault last.turns last.turns_to_fault last.passed_to_fault
+    tail _ c.loop-at.at _ c.loop-at.turns _ c.fault_by_parts.result c.loop-at.invariant (omega arith) last.none
+    last.place last.fault last.turns last.turns_to_fault last.passed_to_fault
 
 pub returns-clause-none : goal.returns-clause-none
 returns-clause-none c = (all c).0

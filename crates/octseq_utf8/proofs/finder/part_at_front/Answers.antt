@@ -1,5 +1,5 @@
 use Rattle.std.proofs.Common.{arith}
-use Rattle.octseq_utf8.proofs.Fronts.{front_encoding, front_lead, front_cut, front_other, front_second}
+use Rattle.octseq_utf8.proofs.Splitting.{front_encoding, front_lead, front_cut, front_other, front_second}
 use Rattle.octseq_utf8.proofs.finder.part_at_front.Goals as goal
 
 pub returns-then-not-is_continuation : goal.returns-then-not-is_continuation

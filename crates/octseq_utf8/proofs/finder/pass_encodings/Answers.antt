@@ -2,7 +2,8 @@ use Rattle.std.proofs.Common.{arith}
 use Rattle.octseq_utf8.specs.declared.finder.FirstPart.TheVariants.{Encoding, Bad}
 use Rattle.octseq_utf8.proofs.Search.{at_place, front_some, passes_on, front_wide, search_encoding, search_fault}
 use Rattle.octseq_utf8.proofs.Search.{search_octet, search_two_twos, search_word}
-use Rattle.octseq_utf8.proofs.finder.pass_encodings.Goals.{else-octets-at-lt128-via-then-octets-at-lt128+else-octets-at-lt128-2, else-octets-at-lt128-via-else-octets-at-lt128}
+use Rattle.octseq_utf8.proofs.finder.pass_encodings.Goals.{else-octets-at-lt128-via-then-octets-at-lt128+else-octets-at-lt128-2}
+use Rattle.octseq_utf8.proofs.finder.pass_encodings.Goals.{else-octets-at-lt128-via-else-octets-at-lt128}
 use Rattle.octseq_utf8.proofs.finder.pass_encodings.Goals as goal
 
 -- an octet below 80 between encodings

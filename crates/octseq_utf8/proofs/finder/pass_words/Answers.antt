@@ -6,8 +6,8 @@ use Rattle.octseq_utf8.proofs.finder.pass_words.Goals as goal
 pub loop-at-preserved-then-octets-at-lt128 : goal.loop-at-preserved-then-octets-at-lt128
 loop-at-preserved-then-octets-at-lt128 c =
     rw c.tick.ensures
-    (after_more _ _ _ _ _ 1 c.loop-at.invariant
-    (octet_front c.args.octets.now c.loop-at.at (omega (arith, c.saturating_sub-words.ensures)) c.if-octets-at-lt128.true))
+    (after_more _ _ _ _ _ 1 c.loop-at.invariant (octet_front c.args.octets.now c.loop-at.at
+    (omega (arith, c.saturating_sub-words.ensures)) c.if-octets-at-lt128.true))
 
 pub loop-at-preserved-then-begins_two : goal.loop-at-preserved-then-begins_two
 loop-at-preserved-then-begins_two c =

@@ -1,4 +1,5 @@
-use Rattle.std.proofs.Common.{◌≡◌, ℕ, ◌+◌, ◌-◌, ◌≤◌, List, [], length, take, drop, arith, ap, refl, length-take, length-drop}
+use Rattle.std.proofs.Common.{◌≡◌, ℕ, ◌+◌, ◌-◌, ◌≤◌, List, [], length, take, drop, arith, ap, refl, length-take}
+use Rattle.std.proofs.Common.{length-drop}
 use Rattle.std.proofs.lemmas.Bool.Decides.{nat_tests}
 use Rattle.std.proofs.lemmas.List.{nil_from_length}
 use Rattle.octseq_utf8.specs.Fault.{fault_end}
@@ -40,12 +41,12 @@ pub returns-in-None : goal.returns-in-None
 returns-in-None c =
     let x : List ℕ = c.self.inside.rest.now in
     let good = c.in-None.ensures.none.0 refl in
+    let empty = c.is_empty.ensures in
     rw (← c.self.view_is, nothing_after x)
     (record {
       gives = rw c.last_chunk.ensures
-          (chunk_at_end x (λ none. grind (arith, nat_tests, c.is_empty.ensures, c.if-is_empty.false, ap length none)) good);
-      turns = turned x _ _ _
-          (omega (arith, c.in-None.ensures.turns, parts_well_formed x good, ap length parts_nil));
+          (chunk_at_end x (λ none. grind (arith, nat_tests, empty, c.if-is_empty.false, ap length none)) good);
+      turns = turned x _ _ _ (omega (arith, c.in-None.ensures.turns, parts_well_formed x good, ap length parts_nil));
       passed = omega (arith, c.in-None.ensures.passed);
       kept = omega (arith, c.in-None.ensures.passed);
     })
