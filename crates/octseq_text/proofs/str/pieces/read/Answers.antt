@@ -1,5 +1,4 @@
-use Rattle.std.proofs.Common.{◌-◌, ◌++◌, length, take, drop, arith, ap, refl, sym, subst, ◌∙◌}
-use Rattle.std.proofs.Common.{length-take, length-drop}
+use Rattle.std.proofs.Common.{◌-◌, ◌++◌, take, arith, ap, refl, sym, subst, ◌∙◌}
 use Rattle.std.proofs.lemmas.Result.{err_from_is_err_and, IfOk-weaker}
 use Rattle.octseq_utf8.specs.Encoding.{encoding_of}
 use Rattle.octseq_utf8.proofs.Faults.{rest_of}
@@ -126,21 +125,3 @@ returns-in_ok-append_replacement-in-Invalid-clause-turns g c =
     let turn = c.in-Invalid.ensures.turns in
     let turns = c.settle-in-Invalid.ensures.turns in
     omega (arith, parts, turn, turns)
-
-pub returns-in_ok-append_replacement-in-Invalid-clause-passed : goal.returns-in_ok-append_replacement-in-Invalid-clause-passed
-returns-in_ok-append_replacement-in-Invalid-clause-passed g c =
-    let made = rw c.as_slice-2.ensures.content at c.in-Invalid.ensures.completed in
-    let few = made.1 in
-    let turn = c.in-Invalid.ensures.turns in
-    IfOk-weaker c.settle-in-Invalid.result _ _
-    (λ left passed. omega (
-      arith,
-      few,
-      turn,
-      made.0,
-      passed,
-      length-take (length c.args.piece.now - c.in-Invalid.taken)
-          (drop c.in-Invalid.taken c.args.piece.now),
-      length-drop c.in-Invalid.taken c.args.piece.now,
-    ))
-    c.settle-in-Invalid.ensures.passed
