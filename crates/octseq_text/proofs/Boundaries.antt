@@ -2,7 +2,7 @@
 use Rattle.std.proofs.Common.{◌≡◌, ℕ, zero, suc, ◌+◌, ◌-◌, ◌<◌, ◌≤◌, true, false, List, [], ◌∷◌, ◌++◌, map, length}
 use Rattle.std.proofs.Common.{take, drop, slice_index, refl, arith, ⊎_elim, ap, sym, ◌∙◌, subst, length-append, ◌↔◌}
 use Rattle.std.proofs.lemmas.Bool.{cases_lt}
-use Rattle.std.proofs.lemmas.List.{map-append, drop-append-le, take_all}
+use Rattle.std.proofs.lemmas.List.{map-append, drop-append-le, drop_all, take_all}
 use Rattle.std.proofs.Math.Seq.{take-append_seam, drop-append_seam, drop-append-add}
 use Rattle.std.specs.Int.{is_in_range}
 use Rattle.std.specs.List.{concat, AllByRecursion}
@@ -223,12 +223,6 @@ boundary_here x w n lt = (
 -- from the end on, only the end is a boundary
 pub boundary_end : (x : List ℕ) → IsWellFormed x → (n : ℕ) → length x ≤ n → (n ≡ length x) ↔ IsBoundary x n
 boundary_end x w n ge = (
-  λ e. boundary_from x w n (omega arith) (ap begins_within (drop_past x n ge)),
+  λ e. boundary_from x w n (omega arith) (ap begins_within (drop_all n x ge)),
   λ b. let le = (from_boundary x w n b).0 in omega arith,
 )
-  where
-    drop_past : (y : List ℕ) (k : ℕ) → length y ≤ k → drop k y ≡ []
-    drop_past [] zero h = refl
-    drop_past [] (suc k) h = refl
-    drop_past (b ∷ y) zero h = absurd (omega arith)
-    drop_past (b ∷ y) (suc k) h = drop_past y k (omega arith)

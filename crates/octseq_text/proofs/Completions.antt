@@ -3,7 +3,7 @@ use Rattle.std.proofs.Common.{◌≡◌, ◌≢◌, ℕ, ◌+◌, ◌-◌, ◌<�
 use Rattle.std.proofs.Common.{◌⊎◌, inl, inr, Some, None, arith, ap, sym, ◌∙◌, subst, append_assoc}
 use Rattle.std.proofs.Common.{length-append, length-take, length-drop}
 use Rattle.std.proofs.Math.Seq.{take-append-add}
-use Rattle.std.proofs.lemmas.List.{append-nil, nil_from_length, take-append-drop, take-take}
+use Rattle.std.proofs.lemmas.List.{take_all, take-append-drop, take-take}
 use Rattle.octseq_utf8.specs.Encoding.{IsEncoding, encoding_of}
 use Rattle.octseq_utf8.specs.Fault.{Fault, IsFaultSize, fault_after}
 use Rattle.octseq_utf8.specs.FirstPart.{IsBadFront}
@@ -21,12 +21,6 @@ use Rattle.octseq_text.proofs.Counting.{parts_few}
 use Rattle.octseq_text.proofs.FaultSearching.{settled_here}
 use Rattle.octseq_text.proofs.Piecewise.{beginning_few, read_bad, read_good}
 use Rattle.octseq_text.proofs.Settling.{reads_bad}
-
--- all of a list
-take_most : (n : ℕ) (x : List ℕ) → length x ≤ n → take n x ≡ x
-take_most n x most =
-    let none = nil_from_length (drop n x) (omega (arith, length-drop n x)) in
-    sym (append-nil (take n x)) ∙ ap (λ y. take n x ++ y) (sym none) ∙ take-append-drop n x
 
 -- A beginning and octets of the piece after it, four in all if there are as many.
 module _ (begun piece joined : List ℕ) (begins : IsBeginning begun)
@@ -113,7 +107,7 @@ module _ (begun piece joined : List ℕ) (begins : IsBeginning begun)
       )
 
   open_all : IsFaultSize (take (length joined) joined) (drop (length joined) joined) None → IsBeginning joined
-  open_all (inl unfinished) = subst IsBeginning (take_most (length joined) joined (omega arith)) unfinished.1
+  open_all (inl unfinished) = subst IsBeginning (take_all (length joined) joined (omega arith)) unfinished.1
   open_all (inr closed) = let some = closed.0 in absurd (cc)
 
   -- a bad part that is unfinished is a beginning, with all of the piece
@@ -122,7 +116,7 @@ module _ (begun piece joined : List ℕ) (begins : IsBeginning begun)
       let unfinished = open_all bad.size in
       let few = beginning_few joined unfinished in
       let few_begun = beginning_few begun begins in
-      (is ∙ ap (λ y. begun ++ y) (take_most (4 - length begun) piece (omega (arith, long))), unfinished)
+      (is ∙ ap (λ y. begun ++ y) (take_all (4 - length begun) piece (omega (arith, long))), unfinished)
 
 -- the octets of a completed part, and of the piece after it
 whole_of : (begun piece part : List ℕ) (n : ℕ) → part ≡ begun ++ take n piece → begun ++ piece ≡ part ++ drop n piece

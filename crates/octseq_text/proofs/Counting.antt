@@ -67,7 +67,3 @@ turns_few x fault f =
     let few = spelled_few f.good.1 in
     let same : chars (take fault.place x) ≡ f.good.0 = ap chars (front_is x fault f) ∙ chars_of f.good.1 in
     (omega (arith, ap length same), omega arith)
-
--- the turns that passed octets are no fewer than before
-pub turns_kept : (passed old new : ℕ) → passed + 16 * old ≤ 16 * new → old ≤ new
-turns_kept passed old new h = omega arith

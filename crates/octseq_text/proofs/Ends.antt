@@ -1,6 +1,6 @@
 -- The last character of well-formed octets, read from the end.
 use Rattle.std.proofs.Common.{◌≡◌, ℕ, ◌+◌, ◌-◌, ◌*◌, ◌<◌, ◌≤◌, List, [], ◌∷◌, ◌++◌, length, take, get_or}
-use Rattle.std.proofs.Common.{slice_index, refl, arith, ap, sym, ◌∙◌, subst, length-append, append_assoc}
+use Rattle.std.proofs.Common.{◌⊎◌, inl, inr, slice_index, refl, arith, ap, sym, ◌∙◌, subst, length-append, append_assoc}
 use Rattle.std.proofs.lemmas.List.{append-nil, get_or-append-add}
 use Rattle.std.proofs.Math.Seq.{take-append_seam}
 use Rattle.std.specs.Int.{IsInRange}
@@ -81,29 +81,35 @@ octet x before e i k whole long some =
     ap (λ j. get_or x j 0) n ∙ ap (λ y. get_or y (length before + i) 0) whole ∙ get_or-append-add before e i 0
 
 -- The last encoding by its width, and its octets by their places from the end.
-data Width (x e : List ℕ) : Type 0 where
-  width_1 : length e ≡ 1 → from_end x 1 < 0x80 → number_of e ≡ from_end x 1 → Width x e
-  width_2 : length e ≡ 2 → 2 ≤ length x → 0xC0 ≤ from_end x 2 → 0x80 ≤ from_end x 1
-      → number_of e ≡ (from_end x 2 - 0xC0) * 64 + (from_end x 1 - 0x80) → Width x e
-  width_3 : length e ≡ 3 → 3 ≤ length x → 0xE0 ≤ from_end x 3 → IsInRange 0x80 0xBF (from_end x 2) → 0x80 ≤ from_end x 1
-      → number_of e ≡ (from_end x 3 - 0xE0) * 4096 + (from_end x 2 - 0x80) * 64 + (from_end x 1 - 0x80) → Width x e
-  width_4 : length e ≡ 4 → 4 ≤ length x → 0xF0 ≤ from_end x 4 → IsInRange 0x80 0xBF (from_end x 3)
-      → IsInRange 0x80 0xBF (from_end x 2) → 0x80 ≤ from_end x 1
-      → number_of e ≡ (from_end x 4 - 0xF0) * 262144 + (from_end x 3 - 0x80) * 4096 + (from_end x 2 - 0x80) * 64
-      + (from_end x 1 - 0x80) → Width x e
+abbrev Width : List ℕ → List ℕ → Type 0
+Width x e = ((length e ≡ 1) × (from_end x 1 < 0x80) × (number_of e ≡ from_end x 1))
+    ⊎ (((length e ≡ 2) × (2 ≤ length x) × (0xC0 ≤ from_end x 2) × (0x80 ≤ from_end x 1)
+    × (number_of e ≡ (from_end x 2 - 0xC0) * 64 + (from_end x 1 - 0x80)))
+    ⊎ (((length e ≡ 3) × (3 ≤ length x) × (0xE0 ≤ from_end x 3) × (0x80 ≤ from_end x 2) × (from_end x 2 ≤ 0xBF)
+    × (0x80 ≤ from_end x 1)
+    × (number_of e ≡ (from_end x 3 - 0xE0) * 4096 + (from_end x 2 - 0x80) * 64 + (from_end x 1 - 0x80)))
+    ⊎ ((length e ≡ 4) × (4 ≤ length x) × (0xF0 ≤ from_end x 4) × (0x80 ≤ from_end x 3) × (from_end x 3 ≤ 0xBF)
+    × (0x80 ≤ from_end x 2) × (from_end x 2 ≤ 0xBF) × (0x80 ≤ from_end x 1)
+    × (number_of e ≡ (from_end x 4 - 0xF0) * 262144 + (from_end x 3 - 0x80) * 4096 + (from_end x 2 - 0x80) * 64
+    + (from_end x 1 - 0x80)))))
 
 one : (x before : List ℕ) (a : ℕ) → x ≡ before ++ a ∷ [] → a < 0x80 → Width x (a ∷ [])
 one x before a whole p =
     let a' = octet x before (a ∷ []) 0 1 whole refl (omega arith) in
-    width_1 refl (omega arith) (number_of_1 a ∙ sym a')
+    inl (refl, omega arith, number_of_1 a ∙ sym a')
 
 two : (x before : List ℕ) (a b : ℕ) → x ≡ before ++ a ∷ b ∷ [] → 0xC0 ≤ a → 0x80 ≤ b → Width x (a ∷ b ∷ [])
 two x before a b whole p q =
     let n = ap length whole in
     let a' = octet x before (a ∷ b ∷ []) 0 2 whole refl (omega arith) in
     let b' = octet x before (a ∷ b ∷ []) 1 1 whole refl (omega arith) in
-    width_2 refl (omega (arith, length-append before (a ∷ b ∷ []))) (omega arith) (omega arith)
-    (number_of_2 a b _ (omega arith))
+    inr (inl (
+      refl,
+      omega (arith, length-append before (a ∷ b ∷ [])),
+      omega arith,
+      omega arith,
+      number_of_2 a b _ (omega arith),
+    ))
 
 three : (x before : List ℕ) (a b c : ℕ) → x ≡ before ++ a ∷ b ∷ c ∷ [] → 0xE0 ≤ a → IsInRange 0x80 0xBF b → 0x80 ≤ c
     → Width x (a ∷ b ∷ c ∷ [])
@@ -112,8 +118,15 @@ three x before a b c whole p q r =
     let a' = octet x before (a ∷ b ∷ c ∷ []) 0 3 whole refl (omega arith) in
     let b' = octet x before (a ∷ b ∷ c ∷ []) 1 2 whole refl (omega arith) in
     let c' = octet x before (a ∷ b ∷ c ∷ []) 2 1 whole refl (omega arith) in
-    width_3 refl (omega (arith, length-append before (a ∷ b ∷ c ∷ []))) (omega arith) (omega arith, omega arith)
-    (omega arith) (number_of_3 a b c _ (omega arith))
+    inr (inr (inl (
+      refl,
+      omega (arith, length-append before (a ∷ b ∷ c ∷ [])),
+      omega arith,
+      omega arith,
+      omega arith,
+      omega arith,
+      number_of_3 a b c _ (omega arith),
+    )))
 
 four : (x before : List ℕ) (a b c d : ℕ) → x ≡ before ++ a ∷ b ∷ c ∷ d ∷ [] → 0xF0 ≤ a → IsInRange 0x80 0xBF b
     → IsInRange 0x80 0xBF c → 0x80 ≤ d → Width x (a ∷ b ∷ c ∷ d ∷ [])
@@ -123,8 +136,17 @@ four x before a b c d whole p q r s =
     let b' = octet x before (a ∷ b ∷ c ∷ d ∷ []) 1 3 whole refl (omega arith) in
     let c' = octet x before (a ∷ b ∷ c ∷ d ∷ []) 2 2 whole refl (omega arith) in
     let d' = octet x before (a ∷ b ∷ c ∷ d ∷ []) 3 1 whole refl (omega arith) in
-    width_4 refl (omega (arith, length-append before (a ∷ b ∷ c ∷ d ∷ []))) (omega arith) (omega arith, omega arith)
-    (omega arith, omega arith) (omega arith) (number_of_4 a b c d _ (omega arith))
+    inr (inr (inr (
+      refl,
+      omega (arith, length-append before (a ∷ b ∷ c ∷ d ∷ [])),
+      omega arith,
+      omega arith,
+      omega arith,
+      omega arith,
+      omega arith,
+      omega arith,
+      number_of_4 a b c d _ (omega arith),
+    )))
 
 width_of_last : (x before : List ℕ) {e : List ℕ} → x ≡ before ++ e → IsEncoding e → Width x e
 width_of_last x before w (row_00_7F {a} p) = one x before a w (omega arith)
@@ -151,79 +173,40 @@ module _ (x : List ℕ) (w : IsWellFormed x) (some : 0 < length x) (p : ℕ) (is
   width = width_of_last x last.before last.whole last.encoding
 
   pub ends_1 : p < 0x80 → EndsIn 1 x p
-  ends_1 low = by_width width
-    where
-      by_width : Width x last.last → EndsIn 1 x p
-      by_width (width_1 k a n) = ends_in last 1 p k (n ∙ sym is_p)
-      by_width (width_2 k l a b n) = absurd (omega arith)
-      by_width (width_3 k l a b c n) = absurd (omega arith)
-      by_width (width_4 k l a b c d n) = absurd (omega arith)
+  ends_1 low = let w = width in ends_in last 1 p (grind arith) (grind arith)
 
   pub more_1 : 0x80 ≤ p → 2 ≤ length x
-  more_1 high = by_width width
-    where
-      by_width : Width x last.last → 2 ≤ length x
-      by_width (width_1 k a n) = absurd (omega arith)
-      by_width (width_2 k l a b n) = l
-      by_width (width_3 k l a b c n) = omega arith
-      by_width (width_4 k l a b c d n) = omega arith
+  more_1 high = let w = width in grind arith
 
   module _ (high : 0x80 ≤ p) (q : ℕ) (is_q : q ≡ from_end x 2) where
     pub ends_2 : 0xC0 ≤ q → EndsIn 2 x ((q - 0xC0) * 64 + (p - 0x80))
-    ends_2 leads = by_width width
-      where
-        by_width : Width x last.last → EndsIn 2 x ((q - 0xC0) * 64 + (p - 0x80))
-        by_width (width_1 k a n) = absurd (omega arith)
-        by_width (width_2 k l a b n) = ends_in last 2 _ k (n ∙ (omega arith))
-        by_width (width_3 k l a b c n) = absurd (omega arith)
-        by_width (width_4 k l a b c d n) = absurd (omega arith)
+    ends_2 leads = let w = width in ends_in last 2 _ (grind arith) (grind arith)
 
     pub more_2 : q < 0xC0 → (3 ≤ length x) × (0x80 ≤ q)
-    more_2 inside = by_width width
-      where
-        by_width : Width x last.last → (3 ≤ length x) × (0x80 ≤ q)
-        by_width (width_1 k a n) = absurd (omega arith)
-        by_width (width_2 k l a b n) = absurd (omega arith)
-        by_width (width_3 k l a b c n) = (l, omega arith)
-        by_width (width_4 k l a b c d n) = (omega arith, omega arith)
+    more_2 inside = let w = width in (grind arith, grind arith)
 
     module _ (inside : q < 0xC0) (r : ℕ) (is_r : r ≡ from_end x 3) where
       abbrev number_3 : ℕ
       number_3 = (r - 0xE0) * 4096 + (q - 0x80) * 64 + (p - 0x80)
 
       pub ends_3 : 0xE0 ≤ r → IsScalar number_3 × EndsIn 3 x number_3
-      ends_3 leads = by_width width
-        where
-          by_width : Width x last.last → IsScalar number_3 × EndsIn 3 x number_3
-          by_width (width_1 k a n) = absurd (omega arith)
-          by_width (width_2 k l a b n) = absurd (omega arith)
-          by_width (width_3 k l a b c n) = let same : number_of last.last ≡ number_3 = n ∙ omega arith in
-              (scalar last _ same, ends_in last 3 _ k same)
-          by_width (width_4 k l a b c d n) = absurd (omega arith)
+      ends_3 leads =
+          let w = width in
+          let same : number_of last.last ≡ number_3 = grind arith in
+          (scalar last _ same, ends_in last 3 _ (grind arith) same)
 
       pub more_3 : r < 0xE0 → (4 ≤ length x) × (0x80 ≤ r)
-      more_3 inside_too = by_width width
-        where
-          by_width : Width x last.last → (4 ≤ length x) × (0x80 ≤ r)
-          by_width (width_1 k a n) = absurd (omega arith)
-          by_width (width_2 k l a b n) = absurd (omega arith)
-          by_width (width_3 k l a b c n) = absurd (omega arith)
-          by_width (width_4 k l a b c d n) = (l, omega arith)
+      more_3 inside_too = let w = width in (grind arith, grind arith)
 
       module _ (inside_too : r < 0xE0) (s : ℕ) (is_s : s ≡ from_end x 4) where
         abbrev number_4 : ℕ
         number_4 = (s - 0xF0) * 262144 + (r - 0x80) * 4096 + (q - 0x80) * 64 + (p - 0x80)
 
         pub ends_4 : (0xF0 ≤ s) × IsScalar number_4 × EndsIn 4 x number_4
-        ends_4 = by_width width
-          where
-            by_width : Width x last.last → (0xF0 ≤ s) × IsScalar number_4 × EndsIn 4 x number_4
-            by_width (width_1 k a n) = absurd (omega arith)
-            by_width (width_2 k l a b n) = absurd (omega arith)
-            by_width (width_3 k l a b c n) = absurd (omega arith)
-            by_width (width_4 k l a b c d n) =
-                let same : number_of last.last ≡ number_4 = n ∙ omega arith in
-                (omega arith, scalar last _ same, ends_in last 4 _ k same)
+        ends_4 =
+            let w = width in
+            let same : number_of last.last ≡ number_4 = grind arith in
+            (grind arith, scalar last _ same, ends_in last 4 _ (grind arith) same)
 
 -- a text without its last character
 

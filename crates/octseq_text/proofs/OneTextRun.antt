@@ -1,7 +1,8 @@
 -- If no request for memory is refused, a list of commands has one result.
-use Rattle.std.proofs.Common.{◌≡◌, ◌≢◌, ℕ, Bool, true, false, IsTrue, ◌↔◌, ◌⊎◌, inl, inr, ⊎_elim, List, [], ◌∷◌}
+use Rattle.std.proofs.Common.{◌≡◌, ◌≢◌, ℕ, Bool, false, ◌⊎◌, inl, inr, ⊎_elim, List, [], ◌∷◌}
 use Rattle.std.proofs.Common.{◌++◌, length, Option, Some, None, refl, arith, ap, sym, ◌∙◌, subst, length-append}
 use Rattle.std.proofs.lemmas.Bool.{cases_lt}
+use Rattle.std.proofs.lemmas.Bool.Decides.{same_from_decides}
 use Rattle.octseq_core.proofs.Limits.{within_not_past}
 use Rattle.octseq_core.specs.Limit.{IsWithin, IsPast}
 use Rattle.octseq_utf8.specs.Encoding.{encoding_of}
@@ -12,6 +13,7 @@ use Rattle.octseq_text.specs.declared.str.commands.Command.TheVariants as comman
 use Rattle.octseq_text.specs.declared.str.commands.Reply.{Reply}
 use Rattle.octseq_text.specs.declared.str.commands.Reply.TheVariants as reply
 use Rattle.octseq_utf8.proofs.Numbers.{encoding_some}
+use Rattle.octseq_text.proofs.Settling.{snoc_same, snoc_some}
 
 -- a reply and the characters after it are the same as others
 abbrev Same : Reply → List ℕ → Reply → List ℕ → Type 0
@@ -78,31 +80,11 @@ one_cut b n r s x y (inl p) (inr q) = absurd (q.2 x (p.1.1 q.1))
 one_cut b n r s x y (inr p) (inl q) = absurd (p.2 y (q.1.1 p.1))
 one_cut b n r s x y (inr p) (inr q) = (p.0 ∙ sym q.0, p.3 ∙ sym q.3)
 
--- a list ends with one element
-
-one_last : (xs ys : List ℕ) (c d : ℕ) → xs ++ c ∷ [] ≡ ys ++ d ∷ [] → (xs ≡ ys) × (c ≡ d)
-one_last [] [] c d e = (refl, cc)
-one_last [] (y ∷ []) c d e = cc
-one_last [] (y ∷ z ∷ ys) c d e = cc
-one_last (x ∷ []) [] c d e = cc
-one_last (x ∷ z ∷ xs) [] c d e = cc
-one_last (x ∷ xs) (y ∷ ys) c d e = let t = one_last xs ys c d (cc) in let rest = t.0 in (cc, t.1)
-
-not_nothing : (xs : List ℕ) (c : ℕ) → xs ++ c ∷ [] ≡ [] → ⊥
-not_nothing [] c e = cc
-not_nothing (x ∷ xs) c e = cc
-
 one_pop : (b : List ℕ) (p q : Option ℕ) (x y : List ℕ) → Pops b p x → Pops b q y → (p ≡ q) × (x ≡ y)
-one_pop b (Some c) (Some d) x y e f = let t = one_last x y c d (sym e ∙ f) in (ap Some t.1, t.0)
-one_pop b (Some c) None x y e f = absurd (not_nothing x c (sym e ∙ f.0))
-one_pop b None (Some d) x y e f = absurd (not_nothing y d (sym f ∙ e.0))
+one_pop b (Some c) (Some d) x y e f = let t = snoc_same x y c d (sym e ∙ f) in (ap Some t.1, t.0)
+one_pop b (Some c) None x y e f = absurd (snoc_some x c (sym e ∙ f.0))
+one_pop b None (Some d) x y e f = absurd (snoc_some y d (sym f ∙ e.0))
 one_pop b None None x y e f = (refl, e.1 ∙ sym f.1)
-
-one_truth : (Fact : Type 0) (p q : Bool) → (IsTrue p ↔ Fact) → (IsTrue q ↔ Fact) → p ≡ q
-one_truth Fact true true a c = refl
-one_truth Fact false false a c = refl
-one_truth Fact true false a c = let h = c.1 (a.0 refl) in cc
-one_truth Fact false true a c = let h = a.1 (c.0 refl) in cc
 
 one_step : (limit : Option ℕ) (asks other : Bool) (b : List ℕ) (c : Command) (r s : Reply) (x y : List ℕ)
     → TextStep limit asks b c r x → TextStep limit other b c s y
@@ -117,7 +99,7 @@ one_step limit asks other b command.Pop r s x y (c, e, p) (d, f, q) kept also_ke
     (e ∙ ap (λ z. reply.Popped z) t.0 ∙ sym f, t.1)
 one_step limit asks other b command.Len r s x y p q kept also_kept = (p.0 ∙ sym q.0, p.1 ∙ sym q.1)
 one_step limit asks other b (command.Is t) r s x y (c, e, p, u) (d, f, q, v) kept also_kept =
-    (e ∙ ap (λ z. reply.Is z) (one_truth _ c d p q) ∙ sym f, u ∙ sym v)
+    (e ∙ ap (λ z. reply.Is z) (same_from_decides c d p q) ∙ sym f, u ∙ sym v)
 
 -- if memory is never refused, a list of commands on a text has one list of replies, and leaves one text
 pub one_run : (limit : Option ℕ) (asks other : Bool) (b : List ℕ) (commands : List Command) (rs ss : List Reply)

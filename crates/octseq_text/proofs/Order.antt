@@ -1,6 +1,6 @@
 -- The order of well-formed octets is the order of their characters.
 use Rattle.std.proofs.Common.{◌≡◌, ℕ, ◌+◌, ◌/◌, ◌%◌, ◌≤◌, ◌<◌, List, [], ◌∷◌}
-use Rattle.std.proofs.Common.{◌++◌, refl, sym, ◌∙◌, ap, arith, ⊎_elim, nat_eq}
+use Rattle.std.proofs.Common.{◌++◌, length, refl, sym, ◌∙◌, ap, arith, ⊎_elim, nat_eq}
 use Rattle.std.proofs.Math.Nat.{div-div-eq-div-mul}
 use Rattle.std.proofs.lemmas.Bool.{cases_lt, cases_order}
 use Rattle.std.proofs.lemmas.Bool.Decides.{nat_tests}
@@ -12,7 +12,7 @@ use Rattle.std.specs.declared.cmp.Ordering.{Ordering}
 use Rattle.std.specs.declared.cmp.Ordering.TheVariants.{Less, Equal, Greater}
 use Rattle.octseq_utf8.specs.Encoding.{encoding_of}
 use Rattle.octseq_utf8.specs.Text.{IsWellFormed, chars, octets_of}
-use Rattle.octseq_utf8.proofs.Numbers.{encoding_of_1, encoding_of_2, encoding_of_3, encoding_of_4}
+use Rattle.octseq_utf8.proofs.Numbers.{encoding_some, encoding_of_1, encoding_of_2, encoding_of_3, encoding_of_4}
 use Rattle.octseq_utf8.proofs.Texts.{octets_of-chars}
 
 nat_cmp_less : (a b : ℕ) → a < b → nat_cmp a b ≡ Less
@@ -116,19 +116,16 @@ first_decides c d y z =
     ∙ sym (ap (λ o. ordering_then o (slice_cmp nat_cmp y z)) (nat_cmp_greater c d g))))
     (cases_order c d)
 
--- no encoding is empty
-nothing_before : (d : ℕ) (z : List ℕ) → slice_cmp nat_cmp [] (encoding_of d ++ z) ≡ Less
-nothing_before d z =
-    ⊎_elim (λ d1. rw (encoding_of_1 d d1) refl) (λ d2.
-    ⊎_elim (λ d3. rw (encoding_of_2 d d2 d3) refl) (λ d3.
-    ⊎_elim (λ d4. rw (encoding_of_3 d d3 d4) refl) (λ d4. rw (encoding_of_4 d d4) refl) (cases_lt d 0x1_0000))
-    (cases_lt d 0x800)) (cases_lt d 0x80)
+-- nothing is before what isn't empty
+nothing_before : (e z : List ℕ) → 1 ≤ length e → slice_cmp nat_cmp [] (e ++ z) ≡ Less
+nothing_before [] z some = absurd (omega arith)
+nothing_before (a ∷ e) z some = refl
 
 octets_order : (cs ds : List ℕ) → slice_cmp nat_cmp (octets_of cs) (octets_of ds) ≡ slice_cmp nat_cmp cs ds
 octets_order [] [] = refl
-octets_order [] (d ∷ ds) = nothing_before d (octets_of ds)
+octets_order [] (d ∷ ds) = nothing_before (encoding_of d) (octets_of ds) (encoding_some d)
 octets_order (c ∷ cs) [] = nat_list_cmp_total.antisymm (encoding_of c ++ octets_of cs) []
-    ∙ ap ordering_reverse (nothing_before c (octets_of cs))
+    ∙ ap ordering_reverse (nothing_before (encoding_of c) (octets_of cs) (encoding_some c))
 octets_order (c ∷ cs) (d ∷ ds) = first_decides c d (octets_of cs) (octets_of ds) ∙ ap (ordering_then (nat_cmp c d))
     (octets_order cs ds)
 

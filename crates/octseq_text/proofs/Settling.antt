@@ -57,20 +57,17 @@ nil_from_splits (bad_part b s) e = absurd (cc)
 nil_splits : {x : List ℕ} {parts : List Part} → Splits x parts → x ≡ [] → parts ≡ []
 nil_splits {x} {parts} s e = only_parts s ∙ ap parts_of e ∙ parts_nil
 
--- a list with a last part isn't empty
-pub snoc_some : (ps : List Part) (a : Part) → ps ++ a ∷ [] ≡ [] → ⊥
+-- a list with a last element isn't empty
+pub snoc_some : {A : Type 0} (xs : List A) (a : A) → xs ++ a ∷ [] ≡ [] → ⊥
 snoc_some [] a h = cc
-snoc_some (b ∷ ps) a h = cc
+snoc_some (b ∷ xs) a h = cc
 
-snoc_same : (ps qs : List Part) (a b : Part) → ps ++ a ∷ [] ≡ qs ++ b ∷ [] → (ps ≡ qs) × (a ≡ b)
+-- and has one front, and one last element
+pub snoc_same : {A : Type 0} (xs ys : List A) (a b : A) → xs ++ a ∷ [] ≡ ys ++ b ∷ [] → (xs ≡ ys) × (a ≡ b)
 snoc_same [] [] a b h = (refl, cc)
-snoc_same [] (c ∷ qs) a b h = let e : qs ++ b ∷ [] ≡ [] = cc in absurd (snoc_some qs b e)
-snoc_same (c ∷ ps) [] a b h = let e : ps ++ a ∷ [] ≡ [] = cc in absurd (snoc_some ps a e)
-snoc_same (c ∷ ps) (d ∷ qs) a b h =
-    let first : c ≡ d = cc in
-    let rest : ps ++ a ∷ [] ≡ qs ++ b ∷ [] = cc in
-    let same = snoc_same ps qs a b rest in
-    (ap (λ y. y ∷ ps) first ∙ ap (λ y. d ∷ y) same.0, same.1)
+snoc_same [] (c ∷ ys) a b h = absurd (snoc_some ys b (cc))
+snoc_same (c ∷ xs) [] a b h = absurd (snoc_some xs a (cc))
+snoc_same (c ∷ xs) (d ∷ ys) a b h = let same = snoc_same xs ys a b (cc) in let rest = same.0 in (cc, same.1)
 
 none_or_last : (ps : List Part) → (ps ≡ []) ⊎ ((front : List Part) × (last : Part) × (ps ≡ front ++ last ∷ []))
 none_or_last [] = inl refl

@@ -1,29 +1,17 @@
-use Rattle.std.proofs.Common.{◌≡◌, ℕ, List, [], ◌++◌, length, ap, ◌∙◌, subst, append_assoc}
-use Rattle.std.proofs.Common.{Result, Ok, Err, OnOk, OnErr}
+use Rattle.std.proofs.Common.{◌++◌, length, ap, ◌∙◌, subst, append_assoc}
 use Rattle.std.proofs.Math.Nat.{le_refl, le_trans}
 use Rattle.std.proofs.lemmas.List.{append-nil}
 use Rattle.std.proofs.lemmas.Result.{err_from_is_err_and}
 use Rattle.octseq_core.specs.Limit.{IsPast}
 use Rattle.octseq_utf8.specs.Chunk.{chunk_text, mark_of}
-use Rattle.octseq_utf8.specs.Parts.{IsFront, text_with}
+use Rattle.octseq_utf8.specs.Parts.{text_with}
 use Rattle.octseq_utf8.specs.Reading.{parts_of}
 use Rattle.octseq_utf8.proofs.Bridge.{encode-is}
 use Rattle.octseq_utf8.proofs.ByChunk.{grown, all_made}
 use Rattle.octseq_utf8.proofs.Splitting.{splits}
-use Rattle.octseq_text.proofs.Counting.{turns_left, none_turned, passed_on, passed_all, passed_none, fewer_left}
+use Rattle.octseq_text.proofs.Counting.{turns_left, passed_on, passed_none}
 use Rattle.octseq_text.proofs.Replacing.{added, chunk_short, front_then, grown_short}
 use Rattle.octseq_text.proofs.str.lossy.append_chunks.Goals as goal
-
--- what always holds, holds if the result is Ok
-IfOk-any : {T E : Type 0} (r : Result T E) (P : Type 0) → P → OnOk r P
-IfOk-any (Ok x) P p = p
-IfOk-any (Err e) P p = tt
-
--- a front stays if an error left the content unchanged
-front_kept : {T E : Type 0} (r : Result T E) (a b c : List ℕ) → IsFront a b → OnErr r (c ≡ b)
-    → OnErr r (IsFront a c)
-front_kept (Ok x) a b c front same = tt
-front_kept (Err e) a b c front same = (front.0, same ∙ front.1)
 
 pub returns-in_err-append_chunk-clause-short : goal.returns-in_err-append_chunk-clause-short
 returns-in_err-append_chunk-clause-short g c =
@@ -80,13 +68,6 @@ loop-chunk-preserved g c =
       octets = c.as_octets-octets-in-Some.ensures;
     }
 
-pub append_chunk-requires : goal.append_chunk-requires
-append_chunk-requires g c = ([], rw (append-nil _) (c.as_bytes.ensures.value ∙ c.valid.ensures))
-
-pub append_chunk-requires-in-Some : goal.append_chunk-requires-in-Some
-append_chunk-requires-in-Some g c =
-    (c.in-Some.chunk.invalid ++ c.next_counted.new.self, c.loop-chunk.invariant.octets ∙ c.in-Some.ensures.gives.whole)
-
 pub returns-in_err-append_chunk-2-clause-front : goal.returns-in_err-append_chunk-2-clause-front
 returns-in_err-append_chunk-2-clause-front g c =
     let exit = c.from_residual-in_err-append_chunk-2 in
@@ -123,53 +104,8 @@ returns-clause-turns g c =
 
 -- the rest of the clauses
 
-pub loop-chunk-smaller : goal.loop-chunk-smaller
-loop-chunk-smaller g c = fewer_left _ _ _ c.in-Some.ensures.gives
-
-pub returns-in_err-append_chunk-clause-front : goal.returns-in_err-append_chunk-clause-front
-returns-in_err-append_chunk-clause-front g c =
-    let p = err_from_is_err_and c.from_residual.result c.from_residual.ensures.1 in
-    rw p.1 c.in_err-append_chunk.ensures.front
-
-pub returns-in_err-append_chunk-clause-borrows : goal.returns-in_err-append_chunk-clause-borrows
-returns-in_err-append_chunk-clause-borrows g c = c.in_err-append_chunk.ensures.borrows
-
-pub returns-in_err-append_chunk-clause-turns : goal.returns-in_err-append_chunk-clause-turns
-returns-in_err-append_chunk-clause-turns g c = none_turned _ _
-
-pub returns-in_err-append_chunk-clause-kept : goal.returns-in_err-append_chunk-clause-kept
-returns-in_err-append_chunk-clause-kept g c = le_refl _
-
-pub returns-in_err-append_chunk-2-clause-borrows : goal.returns-in_err-append_chunk-2-clause-borrows
-returns-in_err-append_chunk-2-clause-borrows g c =
-    c.in_err-append_chunk-2.ensures.borrows ∙ c.loop-chunk.invariant.borrows
-
-pub returns-in_err-append_chunk-2-clause-kept : goal.returns-in_err-append_chunk-2-clause-kept
-returns-in_err-append_chunk-2-clause-kept g c = le_trans c.loop-chunk.invariant.kept c.in-Some.ensures.kept
-
-pub returns-clause-front : goal.returns-clause-front
-returns-clause-front g c = front_kept _ _ _ _ c.loop-chunk.invariant.front c.append_stage.ensures.err
-
 pub returns-clause-short : goal.returns-clause-short
 returns-clause-short g c =
     let made = all_made c.args.replacement _ _ c.loop-chunk.rest c.loop-chunk.invariant.text
     c.in_default.ensures.gives.0 in
     rw (← made) c.append_stage.ensures.short
-
-pub returns-clause-within : goal.returns-clause-within
-returns-clause-within g c = c.append_stage.ensures.within
-
-pub returns-clause-memory : goal.returns-clause-memory
-returns-clause-memory g c = c.append_stage.ensures.memory
-
-pub returns-clause-borrows : goal.returns-clause-borrows
-returns-clause-borrows g c = c.append_stage.ensures.borrows ∙ c.loop-chunk.invariant.borrows
-
-pub returns-clause-passed : goal.returns-clause-passed
-returns-clause-passed g c =
-    IfOk-any c.append_stage.result _
-    (passed_all _ _ _ _ c.in_default.ensures.gives.1
-    (passed_on _ _ _ _ _ _ c.loop-chunk.invariant.passed c.in_default.ensures.passed))
-
-pub returns-clause-kept : goal.returns-clause-kept
-returns-clause-kept g c = le_trans c.loop-chunk.invariant.kept c.in_default.ensures.kept

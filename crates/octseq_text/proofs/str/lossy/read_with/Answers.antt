@@ -1,6 +1,6 @@
-use Rattle.std.proofs.Common.{ℕ, ◌+◌, ◌*◌, Option, List, ◌≡◌, ◌≤◌, [], ◌++◌, length, arith, ⊎_elim, ap, sym, ◌∙◌, subst, Ok}
-use Rattle.std.proofs.Math.Nat.{le_trans}
-use Rattle.std.proofs.lemmas.Result.{err_from_is_err_and, IfOk-from_err}
+use Rattle.std.specs.Prelude.{◌==◌}
+use Rattle.std.proofs.Common.{Bool, true, false, ℕ, ◌+◌, Option, List, ◌≡◌, [], ◌++◌, length, arith, ap, sym, ◌∙◌, subst}
+use Rattle.std.proofs.lemmas.Result.{err_from_is_err_and}
 use Rattle.octseq_core.specs.Limit.{IsPast, IsWithin}
 use Rattle.octseq_core.proofs.Limits.{within_not_past}
 use Rattle.octseq_utf8.specs.Chunk.{Chunk, IsFirstChunk, chunk_text}
@@ -10,22 +10,24 @@ use Rattle.octseq_utf8.specs.Text.{IsWellFormed}
 use Rattle.octseq_utf8.proofs.Bridge.{from_scalar}
 use Rattle.octseq_utf8.proofs.ByChunk.{whole_text, no_whole_text, text_at_chunk}
 use Rattle.octseq_utf8.proofs.LossyTexts.{text_same, text_well_formed}
-use Rattle.octseq_utf8.proofs.Splitting.{bad_some, splits}
+use Rattle.octseq_utf8.proofs.Splitting.{splits}
 use Rattle.octseq_text.proofs.Piecewise.{none_of, some_of}
 use Rattle.octseq_text.proofs.Replacing.{nothing_added}
 use Rattle.octseq_text.proofs.str.lossy.read_with.Goals as goal
 
 -- octets whose first chunk has a bad part are not well formed
-is_bad : (x read after : List ℕ) (first : Chunk) → read ≡ x → IsFirstChunk read first after
-    → 1 ≤ length first.invalid → ¬ IsWellFormed x
-is_bad x read after first same chunk some good =
-    no_whole_text read first after chunk some (subst IsWellFormed (sym same) good)
+is_bad : (x read after : List ℕ) (first : Chunk) (seen : List ℕ) (test : Bool) → read ≡ x → IsFirstChunk read first after
+    → seen ≡ first.invalid → test ≡ (length seen == 0) → test ≡ false → ¬ IsWellFormed x
+is_bad x read after first seen test same chunk e f t good =
+    no_whole_text read first after chunk (some_of _ seen test e f t) (subst IsWellFormed (sym same) good)
 
 -- octets whose first chunk has none are the text that is read
-is_text : (w : ℕ) (x read after : List ℕ) (first : Chunk) → read ≡ x → IsFirstChunk read first after
-    → length first.invalid ≡ 0 → text_with w (parts_of x) ≡ x
-is_text w x read after first same chunk none =
-    text_same w x (parts_of x) (subst IsWellFormed same (whole_text read first after chunk none)) (splits x)
+is_text : (w : ℕ) (x read after : List ℕ) (first : Chunk) (seen : List ℕ) (test : Bool) → read ≡ x
+    → IsFirstChunk read first after → seen ≡ first.invalid → test ≡ (length seen == 0) → test ≡ true
+    → text_with w (parts_of x) ≡ x
+is_text w x read after first seen test same chunk e f t =
+    text_same w x (parts_of x) (subst IsWellFormed same (whole_text read first after chunk (none_of _ seen test e f t)))
+    (splits x)
 
 -- the text of the first chunk followed by the text of what is after it is the text that is read
 all_text : (w : ℕ) (x read after made : List ℕ) (first : Chunk) → read ≡ x → IsFirstChunk read first after
@@ -39,34 +41,6 @@ none_past : (limit : Option ℕ) (text made : List ℕ) → text ≡ made → Is
     → ¬ IsPast limit (length text)
 none_past limit text made same within past =
     within_not_past limit (length made) within (subst (λ y. IsPast limit (length y)) same past)
-
--- the turns at a chunk are within the parts
-read_turns : (x read after : List ℕ) (old new : ℕ) → read ≡ x
-    → new + length (parts_of after) ≤ old + length (parts_of read) → new ≤ old + length (parts_of x)
-read_turns x read after old new same counted = omega (arith, ap (λ y. length (parts_of y)) same)
-
--- and so are the turns to the end
-more_turns : (x read after : List ℕ) (old mid new : ℕ) → read ≡ x
-    → mid + length (parts_of after) ≤ old + length (parts_of read) → new ≤ mid + length (parts_of after)
-    → new ≤ old + length (parts_of x)
-more_turns x read after old mid new same counted later = omega (arith, ap (λ y. length (parts_of y)) same)
-
--- if nothing is left after a chunk, all is passed
-read_passed : (x read after : List ℕ) (old new : ℕ) → read ≡ x → after ≡ []
-    → length read + 16 * old ≤ 16 * new + length after → length x + 16 * old ≤ 16 * new
-read_passed x read after old new same none passed = omega (arith, ap length same, ap length none)
-
--- and so it is if the rest was passed too
-more_passed : (x read after : List ℕ) (old mid new : ℕ) → read ≡ x
-    → length read + 16 * old ≤ 16 * mid + length after → length after + 16 * mid ≤ 16 * new
-    → length x + 16 * old ≤ 16 * new
-more_passed x read after old mid new same passed later = omega (arith, ap length same)
-
--- after a chunk with no bad part nothing is left
-none_after : (x : List ℕ) (chunk : Chunk) (after : List ℕ) → IsFirstChunk x chunk after
-    → length chunk.invalid ≡ 0 → after ≡ []
-none_after x chunk after c none =
-    ⊎_elim (λ h. h.1) (λ bad. let some = (bad_some bad).0 in absurd (omega arith)) c.bad
 
 -- no octets
 
@@ -83,62 +57,61 @@ returns-in-None-clause-past g c = λ past.
 
 pub returns-in-None-clause-turns : goal.returns-in-None-clause-turns
 returns-in-None-clause-turns g c =
-    read_turns _ _ _ _ _ (c.chunks-chunks.ensures ∙ c.as_ref-content.ensures.value)
-    (c.in-None.ensures.turns _ _ (splits _) (splits _))
+    omega (
+      arith,
+      ap (λ y. length (parts_of y)) (c.chunks-chunks.ensures ∙ c.as_ref-content.ensures.value),
+      c.in-None.ensures.turns _ _ (splits _) (splits _),
+    )
 
 -- no bad part
 
 pub returns-then-is_empty-clause-text : goal.returns-then-is_empty-clause-text
 returns-then-is_empty-clause-text g c =
-    let none = none_of c.in-Some.first.invalid c.invalid.result.now c.is_empty.result c.invalid.ensures c.is_empty.ensures
-    c.if-is_empty.true in
-    rw c.from_utf8_unchecked-then-is_empty.ensures (sym (is_text c.args.replacement _ _ _ c.in-Some.first
-    (c.chunks-chunks.ensures ∙ c.as_ref-content.ensures.value) c.in-Some.ensures.gives none))
+    rw c.from_utf8_unchecked-then-is_empty.ensures (sym (is_text c.args.replacement _ _ _ c.in-Some.first c.invalid.result.now c.is_empty.result
+    (c.chunks-chunks.ensures ∙ c.as_ref-content.ensures.value) c.in-Some.ensures.gives c.invalid.ensures c.is_empty.ensures c.if-is_empty.true))
 
 pub returns-then-is_empty-clause-past : goal.returns-then-is_empty-clause-past
 returns-then-is_empty-clause-past g c = λ past.
-    let none = none_of c.in-Some.first.invalid c.invalid.result.now c.is_empty.result c.invalid.ensures c.is_empty.ensures
-    c.if-is_empty.true in
-    let same = is_text c.args.replacement _ _ _ c.in-Some.first
-    (c.chunks-chunks.ensures ∙ c.as_ref-content.ensures.value) c.in-Some.ensures.gives none in
+    let same = is_text c.args.replacement _ _ _ c.in-Some.first c.invalid.result.now c.is_empty.result
+    (c.chunks-chunks.ensures ∙ c.as_ref-content.ensures.value) c.in-Some.ensures.gives c.invalid.ensures c.is_empty.ensures c.if-is_empty.true in
     absurd (none_past g.B.AsOctets.limit _ _ same c.as_ref-content.ensures.within past)
 
 pub returns-then-is_empty-clause-turns : goal.returns-then-is_empty-clause-turns
 returns-then-is_empty-clause-turns g c =
-    read_turns _ _ _ _ _ (c.chunks-chunks.ensures ∙ c.as_ref-content.ensures.value)
-    (c.in-Some.ensures.turns _ _ (splits _) (splits _))
+    omega (
+      arith,
+      ap (λ y. length (parts_of y)) (c.chunks-chunks.ensures ∙ c.as_ref-content.ensures.value),
+      c.in-Some.ensures.turns _ _ (splits _) (splits _),
+    )
 
 -- a bad part, and no room for a builder
 
 pub returns-in_err-made-in-Some-clause-same : goal.returns-in_err-made-in-Some-clause-same
 returns-in_err-made-in-Some-clause-same g c = λ good.
-    let some = some_of c.in-Some.first.invalid c.invalid.result.now c.is_empty.result c.invalid.ensures c.is_empty.ensures
-    c.if-is_empty.false in
-    absurd (is_bad _ _ _ c.in-Some.first (c.chunks-chunks.ensures ∙ c.as_ref-content.ensures.value)
-    c.in-Some.ensures.gives some good)
+    absurd (is_bad _ _ _ c.in-Some.first c.invalid.result.now c.is_empty.result (c.chunks-chunks.ensures ∙ c.as_ref-content.ensures.value)
+    c.in-Some.ensures.gives c.invalid.ensures c.is_empty.ensures c.if-is_empty.false good)
 
 pub returns-in_err-made-in-Some-clause-memory : goal.returns-in_err-made-in-Some-clause-memory
-returns-in_err-made-in-Some-clause-memory g c = λ refused.
-    let some = some_of c.in-Some.first.invalid c.invalid.result.now c.is_empty.result c.invalid.ensures c.is_empty.ensures
-    c.if-is_empty.false in (
-      c.in_err-made-in-Some.ensures.memory,
-      is_bad _ _ _ c.in-Some.first (c.chunks-chunks.ensures ∙ c.as_ref-content.ensures.value)
-          c.in-Some.ensures.gives some,
-    )
+returns-in_err-made-in-Some-clause-memory g c = λ refused. (
+  c.in_err-made-in-Some.ensures.memory,
+  is_bad _ _ _ c.in-Some.first c.invalid.result.now c.is_empty.result (c.chunks-chunks.ensures ∙ c.as_ref-content.ensures.value)
+      c.in-Some.ensures.gives c.invalid.ensures c.is_empty.ensures c.if-is_empty.false,
+)
 
 pub returns-in_err-made-in-Some-clause-turns : goal.returns-in_err-made-in-Some-clause-turns
 returns-in_err-made-in-Some-clause-turns g c =
-    read_turns _ _ _ _ _ (c.chunks-chunks.ensures ∙ c.as_ref-content.ensures.value)
-    (c.in-Some.ensures.turns _ _ (splits _) (splits _))
+    omega (
+      arith,
+      ap (λ y. length (parts_of y)) (c.chunks-chunks.ensures ∙ c.as_ref-content.ensures.value),
+      c.in-Some.ensures.turns _ _ (splits _) (splits _),
+    )
 
 -- a bad part, and no room for the text
 
 pub returns-in_err-append_chunks-in-Some-clause-same : goal.returns-in_err-append_chunks-in-Some-clause-same
 returns-in_err-append_chunks-in-Some-clause-same g c = λ good.
-    let some = some_of c.in-Some.first.invalid c.invalid.result.now c.is_empty.result c.invalid.ensures c.is_empty.ensures
-    c.if-is_empty.false in
-    absurd (is_bad _ _ _ c.in-Some.first (c.chunks-chunks.ensures ∙ c.as_ref-content.ensures.value)
-    c.in-Some.ensures.gives some good)
+    absurd (is_bad _ _ _ c.in-Some.first c.invalid.result.now c.is_empty.result (c.chunks-chunks.ensures ∙ c.as_ref-content.ensures.value)
+    c.in-Some.ensures.gives c.invalid.ensures c.is_empty.ensures c.if-is_empty.false good)
 
 pub returns-in_err-append_chunks-in-Some-clause-short : goal.returns-in_err-append_chunks-in-Some-clause-short
 returns-in_err-append_chunks-in-Some-clause-short g c =
@@ -153,16 +126,18 @@ pub returns-in_err-append_chunks-in-Some-clause-memory : goal.returns-in_err-app
 returns-in_err-append_chunks-in-Some-clause-memory g c =
     let exit = c.from_residual-in_err-append_chunks-in-Some in
     let p = err_from_is_err_and exit.result exit.ensures.1 in
-    let some = some_of c.in-Some.first.invalid c.invalid.result.now c.is_empty.result c.invalid.ensures c.is_empty.ensures
-    c.if-is_empty.false in
-    let bad = is_bad _ _ _ c.in-Some.first (c.chunks-chunks.ensures ∙ c.as_ref-content.ensures.value)
-    c.in-Some.ensures.gives some in
+    let bad = is_bad _ _ _ c.in-Some.first c.invalid.result.now c.is_empty.result (c.chunks-chunks.ensures ∙ c.as_ref-content.ensures.value)
+    c.in-Some.ensures.gives c.invalid.ensures c.is_empty.ensures c.if-is_empty.false in
     rw (p.1, p.2) (λ h. (c.in_err-append_chunks-in-Some.ensures.memory h, bad))
 
 pub returns-in_err-append_chunks-in-Some-clause-turns : goal.returns-in_err-append_chunks-in-Some-clause-turns
 returns-in_err-append_chunks-in-Some-clause-turns g c =
-    more_turns _ _ _ _ _ _ (c.chunks-chunks.ensures ∙ c.as_ref-content.ensures.value)
-    (c.in-Some.ensures.turns _ _ (splits _) (splits _)) c.in_err-append_chunks-in-Some.ensures.turns
+    omega (
+      arith,
+      ap (λ y. length (parts_of y)) (c.chunks-chunks.ensures ∙ c.as_ref-content.ensures.value),
+      c.in-Some.ensures.turns _ _ (splits _) (splits _),
+      c.in_err-append_chunks-in-Some.ensures.turns,
+    )
 
 -- a bad part, and room for the text
 
@@ -183,10 +158,8 @@ returns-in_ok-append_chunks-in-Some-clause-text g c =
 
 pub returns-in_ok-append_chunks-in-Some-clause-same : goal.returns-in_ok-append_chunks-in-Some-clause-same
 returns-in_ok-append_chunks-in-Some-clause-same g c = λ good.
-    let some = some_of c.in-Some.first.invalid c.invalid.result.now c.is_empty.result c.invalid.ensures c.is_empty.ensures
-    c.if-is_empty.false in
-    absurd (is_bad _ _ _ c.in-Some.first (c.chunks-chunks.ensures ∙ c.as_ref-content.ensures.value)
-    c.in-Some.ensures.gives some good)
+    absurd (is_bad _ _ _ c.in-Some.first c.invalid.result.now c.is_empty.result (c.chunks-chunks.ensures ∙ c.as_ref-content.ensures.value)
+    c.in-Some.ensures.gives c.invalid.ensures c.is_empty.ensures c.if-is_empty.false good)
 
 pub returns-in_ok-append_chunks-in-Some-clause-past : goal.returns-in_ok-append_chunks-in-Some-clause-past
 returns-in_ok-append_chunks-in-Some-clause-past g c = λ past.
@@ -198,21 +171,14 @@ returns-in_ok-append_chunks-in-Some-clause-past g c = λ past.
 
 pub returns-in_ok-append_chunks-in-Some-clause-turns : goal.returns-in_ok-append_chunks-in-Some-clause-turns
 returns-in_ok-append_chunks-in-Some-clause-turns g c =
-    more_turns _ _ _ _ _ _ (c.chunks-chunks.ensures ∙ c.as_ref-content.ensures.value)
-    (c.in-Some.ensures.turns _ _ (splits _) (splits _)) c.in_ok-append_chunks-in-Some.ensures.turns
+    omega (
+      arith,
+      ap (λ y. length (parts_of y)) (c.chunks-chunks.ensures ∙ c.as_ref-content.ensures.value),
+      c.in-Some.ensures.turns _ _ (splits _) (splits _),
+      c.in_ok-append_chunks-in-Some.ensures.turns,
+    )
 
 -- the rest of the clauses
-
-pub returns-in-None-clause-same : goal.returns-in-None-clause-same
-returns-in-None-clause-same g c = λ good. ap (λ made. Ok made) c.from_utf8_unchecked.ensures
-
-pub returns-in-None-clause-passed : goal.returns-in-None-clause-passed
-returns-in-None-clause-passed g c =
-    read_passed _ _ _ _ _ (c.chunks-chunks.ensures ∙ c.as_ref-content.ensures.value) c.in-None.ensures.gives.1
-    c.in-None.ensures.passed
-
-pub returns-in-None-clause-kept : goal.returns-in-None-clause-kept
-returns-in-None-clause-kept g c = c.in-None.ensures.kept
 
 pub from_utf8_unchecked-requires-then-is_empty : goal.from_utf8_unchecked-requires-then-is_empty
 from_utf8_unchecked-requires-then-is_empty g c =
@@ -220,54 +186,3 @@ from_utf8_unchecked-requires-then-is_empty g c =
     c.if-is_empty.true in
     subst IsWellFormed (c.chunks-chunks.ensures ∙ c.as_ref-content.ensures.value)
     (whole_text _ c.in-Some.first _ c.in-Some.ensures.gives none)
-
-pub returns-then-is_empty-clause-same : goal.returns-then-is_empty-clause-same
-returns-then-is_empty-clause-same g c = λ good. ap (λ made. Ok made) c.from_utf8_unchecked-then-is_empty.ensures
-
-pub returns-then-is_empty-clause-passed : goal.returns-then-is_empty-clause-passed
-returns-then-is_empty-clause-passed g c =
-    let none = none_of c.in-Some.first.invalid c.invalid.result.now c.is_empty.result c.invalid.ensures c.is_empty.ensures
-    c.if-is_empty.true in
-    read_passed _ _ _ _ _ (c.chunks-chunks.ensures ∙ c.as_ref-content.ensures.value)
-    (none_after _ c.in-Some.first _ c.in-Some.ensures.gives none) c.in-Some.ensures.passed
-
-pub returns-then-is_empty-clause-kept : goal.returns-then-is_empty-clause-kept
-returns-then-is_empty-clause-kept g c = c.in-Some.ensures.kept
-
-pub returns-in_err-made-in-Some-clause-short : goal.returns-in_err-made-in-Some-clause-short
-returns-in_err-made-in-Some-clause-short g c =
-    let p = err_from_is_err_and c.from_residual.result c.from_residual.ensures.1 in
-    rw (p.1, p.2) (λ refused. absurd refused)
-
-pub returns-in_err-made-in-Some-clause-past : goal.returns-in_err-made-in-Some-clause-past
-returns-in_err-made-in-Some-clause-past g c = λ past. c.from_residual.ensures.0
-
-pub returns-in_err-made-in-Some-clause-kept : goal.returns-in_err-made-in-Some-clause-kept
-returns-in_err-made-in-Some-clause-kept g c = c.in-Some.ensures.kept
-
-pub returns-in_err-append_chunks-in-Some-clause-text : goal.returns-in_err-append_chunks-in-Some-clause-text
-returns-in_err-append_chunks-in-Some-clause-text g c =
-    IfOk-from_err c.from_residual-in_err-append_chunks-in-Some.result _
-    c.from_residual-in_err-append_chunks-in-Some.ensures.0
-
-pub returns-in_err-append_chunks-in-Some-clause-passed : goal.returns-in_err-append_chunks-in-Some-clause-passed
-returns-in_err-append_chunks-in-Some-clause-passed g c =
-    IfOk-from_err c.from_residual-in_err-append_chunks-in-Some.result _
-    c.from_residual-in_err-append_chunks-in-Some.ensures.0
-
-pub returns-in_err-append_chunks-in-Some-clause-past : goal.returns-in_err-append_chunks-in-Some-clause-past
-returns-in_err-append_chunks-in-Some-clause-past g c =
-    λ past. c.from_residual-in_err-append_chunks-in-Some.ensures.0
-
-pub returns-in_err-append_chunks-in-Some-clause-kept : goal.returns-in_err-append_chunks-in-Some-clause-kept
-returns-in_err-append_chunks-in-Some-clause-kept g c =
-    le_trans c.in-Some.ensures.kept c.in_err-append_chunks-in-Some.ensures.kept
-
-pub returns-in_ok-append_chunks-in-Some-clause-passed : goal.returns-in_ok-append_chunks-in-Some-clause-passed
-returns-in_ok-append_chunks-in-Some-clause-passed g c =
-    more_passed _ _ _ _ _ _ (c.chunks-chunks.ensures ∙ c.as_ref-content.ensures.value) c.in-Some.ensures.passed
-    c.in_ok-append_chunks-in-Some.ensures.passed
-
-pub returns-in_ok-append_chunks-in-Some-clause-kept : goal.returns-in_ok-append_chunks-in-Some-clause-kept
-returns-in_ok-append_chunks-in-Some-clause-kept g c =
-    le_trans c.in-Some.ensures.kept c.in_ok-append_chunks-in-Some.ensures.kept

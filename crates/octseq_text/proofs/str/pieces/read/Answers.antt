@@ -1,5 +1,4 @@
-use Rattle.std.proofs.Common.{◌-◌, ◌++◌, length, take, drop, arith, ap, refl, sym, subst, ◌∙◌}
-use Rattle.std.proofs.Common.{length-take, length-drop}
+use Rattle.std.proofs.Common.{◌-◌, ◌++◌, arith, ap, refl, sym, subst, ◌∙◌}
 use Rattle.std.proofs.lemmas.Result.{err_from_is_err_and, IfOk-weaker}
 use Rattle.octseq_utf8.specs.Encoding.{encoding_of}
 use Rattle.octseq_utf8.proofs.Faults.{rest_of}
@@ -12,76 +11,68 @@ use Rattle.octseq_text.proofs.str.pieces.read.Goals as goal
 
 pub returns-in-Incomplete-clause-turns : goal.returns-in-Incomplete-clause-turns
 returns-in-Incomplete-clause-turns g c =
-    let unfinished = c.in-Incomplete.ensures.completed in
-    let same = c.as_slice-2.ensures.content in
-    let one = open_parts c.args.end.now.content c.args.piece.now c.in-Incomplete.end.content (unfinished.0 ∙ ap (λ y. y ++ c.args.piece.now) same) unfinished.1 in
-    let turn = c.in-Incomplete.ensures.turns in
-    omega (arith, one, turn)
+    let unfinished = rw c.as_slice-2.ensures.content at c.in-Incomplete.ensures.completed in
+    omega (
+      arith,
+      open_parts c.args.end.now.content c.args.piece.now c.in-Incomplete.end.content
+          unfinished.0 unfinished.1,
+      c.in-Incomplete.ensures.turns,
+    )
 
 pub returns-in-Incomplete-clause-passed : goal.returns-in-Incomplete-clause-passed
 returns-in-Incomplete-clause-passed g c =
-    let unfinished = c.in-Incomplete.ensures.completed in
-    let few = open_few c.as_slice-2.result.now c.args.piece.now c.in-Incomplete.end.content unfinished.0 unfinished.1 in
-    let turn = c.in-Incomplete.ensures.turns in
-    omega (arith, few, turn)
+    let unfinished = rw c.as_slice-2.ensures.content at c.in-Incomplete.ensures.completed in
+    omega (
+      arith,
+      open_few c.args.end.now.content c.args.piece.now c.in-Incomplete.end.content
+          unfinished.0 unfinished.1,
+      c.in-Incomplete.ensures.turns,
+    )
 
 -- a character
 
 pub returns-in_err-append_slice-in-Character-clause-short : goal.returns-in_err-append_slice-in-Character-clause-short
 returns-in_err-append_slice-in-Character-clause-short g c =
     let a = g.B.AsOctets.content c.args.text.now in
-    let made = c.in-Character.ensures.completed in
-    let same = c.as_slice-2.ensures.content in
-    let is = made.1 ∙ ap (λ y. y ++ take c.in-Character.taken c.args.piece.now) same in
+    let made = rw c.as_slice-2.ensures.content at c.in-Character.ensures.completed in
     let p = err_from_is_err_and c.from_residual.result c.from_residual.ensures.1 in
     rw (p.1, p.2)
     (λ h. too_long g.B.AsOctets.limit c.in-Character.encoding.content c.as_slice-in-Character.result.now
     c.as_slice-in-Character.ensures.content (read_none _ a)
-    (character_read _ _ _ _ c.in-Character.taken is made.2 refl a)
+    (character_read _ _ _ _ c.in-Character.taken made.1 made.2 refl a)
     (c.in_err-append_slice-in-Character.ensures.appended.short.0 h))
 
 pub returns-in_err-append_slice-in-Character-clause-turns : goal.returns-in_err-append_slice-in-Character-clause-turns
 returns-in_err-append_slice-in-Character-clause-turns g c =
-    let made = c.in-Character.ensures.completed in
-    let same = c.as_slice-2.ensures.content in
-    let is = made.1 ∙ ap (λ y. y ++ take c.in-Character.taken c.args.piece.now) same in
-    let parts = character_parts _ _ _ _ c.in-Character.taken is made.2 refl in
-    let turn = c.in-Character.ensures.turns in
-    omega (arith, parts, turn)
+    let made = rw c.as_slice-2.ensures.content at c.in-Character.ensures.completed in
+    let parts = character_parts _ _ _ _ c.in-Character.taken made.1 made.2 refl in
+    omega (arith, parts, c.in-Character.ensures.turns)
 
 pub returns-in_ok-append_slice-in-Character-clause-read : goal.returns-in_ok-append_slice-in-Character-clause-read
 returns-in_ok-append_slice-in-Character-clause-read g c =
     let a = g.B.AsOctets.content c.args.text.now in
-    let made = c.in-Character.ensures.completed in
-    let same = c.as_slice-2.ensures.content in
-    let is = made.1 ∙ ap (λ y. y ++ take c.in-Character.taken c.args.piece.now) same in
+    let made = rw c.as_slice-2.ensures.content at c.in-Character.ensures.completed in
     let grown = c.in_ok-append_slice-in-Character.ensures.appended.ok
     ∙ ap (λ y. a ++ y) c.as_slice-in-Character.ensures.content in
-    let first = character_read _ _ _ _ c.in-Character.taken is made.2 (rest_of c.args.piece.now c.in-Character.taken) a in
+    let first = character_read _ _ _ _ c.in-Character.taken made.1 made.2 (rest_of c.args.piece.now c.in-Character.taken) a in
     let first = subst (IsRead _ _ a) (sym grown) first in
     IfOk-weaker c.settle-in-Character.result _ _ (λ left read. read_then first read) c.settle-in-Character.ensures.read
 
 pub returns-in_ok-append_slice-in-Character-clause-short : goal.returns-in_ok-append_slice-in-Character-clause-short
 returns-in_ok-append_slice-in-Character-clause-short g c =
     let a = g.B.AsOctets.content c.args.text.now in
-    let made = c.in-Character.ensures.completed in
-    let same = c.as_slice-2.ensures.content in
-    let is = made.1 ∙ ap (λ y. y ++ take c.in-Character.taken c.args.piece.now) same in
+    let made = rw c.as_slice-2.ensures.content at c.in-Character.ensures.completed in
     let grown = c.in_ok-append_slice-in-Character.ensures.appended.ok
     ∙ ap (λ y. a ++ y) c.as_slice-in-Character.ensures.content in
-    let first = character_read _ _ _ _ c.in-Character.taken is made.2 (rest_of c.args.piece.now c.in-Character.taken) a in
+    let first = character_read _ _ _ _ c.in-Character.taken made.1 made.2 (rest_of c.args.piece.now c.in-Character.taken) a in
     let first = subst (IsRead _ _ a) (sym grown) first in
     λ h. too_long_then first (c.settle-in-Character.ensures.short h)
 
 pub returns-in_ok-append_slice-in-Character-clause-turns : goal.returns-in_ok-append_slice-in-Character-clause-turns
 returns-in_ok-append_slice-in-Character-clause-turns g c =
-    let made = c.in-Character.ensures.completed in
-    let same = c.as_slice-2.ensures.content in
-    let is = made.1 ∙ ap (λ y. y ++ take c.in-Character.taken c.args.piece.now) same in
-    let parts = character_parts _ _ _ _ c.in-Character.taken is made.2 (rest_of c.args.piece.now c.in-Character.taken) in
-    let turn = c.in-Character.ensures.turns in
-    let turns = c.settle-in-Character.ensures.turns in
-    omega (arith, parts, turn, turns)
+    let made = rw c.as_slice-2.ensures.content at c.in-Character.ensures.completed in
+    let parts = character_parts _ _ _ _ c.in-Character.taken made.1 made.2 (rest_of c.args.piece.now c.in-Character.taken) in
+    omega (arith, parts, c.in-Character.ensures.turns, c.settle-in-Character.ensures.turns)
 
 -- a bad part
 
@@ -100,8 +91,7 @@ pub returns-in_err-append_replacement-in-Invalid-clause-turns : goal.returns-in_
 returns-in_err-append_replacement-in-Invalid-clause-turns g c =
     let made = rw c.as_slice-2.ensures.content at c.in-Invalid.ensures.completed in
     let parts = invalid_parts _ _ _ c.in-Invalid.taken made.0 made.2 refl in
-    let turn = c.in-Invalid.ensures.turns in
-    omega (arith, parts, turn)
+    omega (arith, parts, c.in-Invalid.ensures.turns)
 
 pub returns-in_ok-append_replacement-in-Invalid-clause-read : goal.returns-in_ok-append_replacement-in-Invalid-clause-read
 returns-in_ok-append_replacement-in-Invalid-clause-read g c =
@@ -123,24 +113,4 @@ pub returns-in_ok-append_replacement-in-Invalid-clause-turns : goal.returns-in_o
 returns-in_ok-append_replacement-in-Invalid-clause-turns g c =
     let made = rw c.as_slice-2.ensures.content at c.in-Invalid.ensures.completed in
     let parts = invalid_parts _ _ _ c.in-Invalid.taken made.0 made.2 (rest_of c.args.piece.now c.in-Invalid.taken) in
-    let turn = c.in-Invalid.ensures.turns in
-    let turns = c.settle-in-Invalid.ensures.turns in
-    omega (arith, parts, turn, turns)
-
-pub returns-in_ok-append_replacement-in-Invalid-clause-passed : goal.returns-in_ok-append_replacement-in-Invalid-clause-passed
-returns-in_ok-append_replacement-in-Invalid-clause-passed g c =
-    let made = rw c.as_slice-2.ensures.content at c.in-Invalid.ensures.completed in
-    let few = made.1 in
-    let turn = c.in-Invalid.ensures.turns in
-    IfOk-weaker c.settle-in-Invalid.result _ _
-    (λ left passed. omega (
-      arith,
-      few,
-      turn,
-      made.0,
-      passed,
-      length-take (length c.args.piece.now - c.in-Invalid.taken)
-          (drop c.in-Invalid.taken c.args.piece.now),
-      length-drop c.in-Invalid.taken c.args.piece.now,
-    ))
-    c.settle-in-Invalid.ensures.passed
+    omega (arith, parts, c.in-Invalid.ensures.turns, c.settle-in-Invalid.ensures.turns)

@@ -1,12 +1,11 @@
-use Rattle.std.proofs.Common.{rules, ◌≡◌, ◌≤◌, length, refl, arith, ap, sym, ◌∙◌, subst}
+use Rattle.std.proofs.Common.{rules, ◌≡◌, ◌≤◌, length, refl, arith, ap, sym, ◌∙◌}
 use Rattle.std.proofs.Math.Nat.{le_refl, le_trans}
 use Rattle.std.proofs.lemmas.Result.{err_from_is_err_and}
 use Rattle.octseq_utf8.specs.Encoding.{encoding_of}
 use Rattle.octseq_utf8.proofs.Splitting.{splits}
-use Rattle.octseq_text.proofs.Counting.{turns_left, passed_on, passed_all, passed_none, fewer_left}
+use Rattle.octseq_text.proofs.Counting.{turns_left, passed_on, passed_none}
 use Rattle.octseq_text.proofs.Piecewise.{read_none, read_then, read_more, read_valid, read_chunk, read_invalid}
 use Rattle.octseq_text.proofs.Piecewise.{read_to_end, too_long, beginning_few, not_so}
-use Rattle.octseq_text.specs.Progress.{IsRead}
 use Rattle.octseq_text.proofs.CharacterAppends.{within_appended}
 use Rattle.octseq_text.proofs.str.pieces.settle.Goals as goal
 
@@ -113,14 +112,6 @@ loop-chunk-init g c = rw c.chunks-chunks.ensures (record {
   kept = le_refl _;
 })
 
--- fewer octets are left after each chunk
-
-pub loop-chunk-smaller-in-Continue-branch-2 : goal.loop-chunk-smaller-in-Continue-branch-2
-loop-chunk-smaller-in-Continue-branch-2 g c = fewer_left _ _ _ c.in-Some.ensures.gives
-
-pub loop-chunk-smaller : goal.loop-chunk-smaller
-loop-chunk-smaller g c = fewer_left _ _ _ c.in-Some.ensures.gives
-
 -- what must be shown after a refusal
 
 pub returns-in_err-append_slice-clause-turns : goal.returns-in_err-append_slice-clause-turns
@@ -128,67 +119,21 @@ returns-in_err-append_slice-clause-turns g c =
     turns_left _ _ _
     (le_trans (c.in-Some.ensures.turns _ _ (splits _) (splits _)) c.loop-chunk.invariant.turns)
 
-pub returns-in_err-append_slice-clause-kept : goal.returns-in_err-append_slice-clause-kept
-returns-in_err-append_slice-clause-kept g c = le_trans c.loop-chunk.invariant.kept c.in-Some.ensures.kept
-
 pub returns-in_err-append_replacement-clause-turns : goal.returns-in_err-append_replacement-clause-turns
 returns-in_err-append_replacement-clause-turns g c =
     turns_left _ _ _
     (le_trans (c.in-Some.ensures.turns _ _ (splits _) (splits _)) c.loop-chunk.invariant.turns)
 
-pub returns-in_err-append_replacement-clause-kept : goal.returns-in_err-append_replacement-clause-kept
-returns-in_err-append_replacement-clause-kept g c = le_trans c.loop-chunk.invariant.kept c.in-Some.ensures.kept
-
 -- the rest of the clauses, if the octets end within a character
-
-pub returns-then-is_incomplete-clause-open_end : goal.returns-then-is_incomplete-clause-open_end
-returns-then-is_incomplete-clause-open_end g c =
-    let cut = sym c.is_incomplete.ensures ∙ c.if-is_incomplete.true in
-    rw (c.open_end.ensures, c.invalid.ensures) (λ some. (c.in-Some.ensures.gives.cut.0 cut).0)
-
-pub returns-then-is_incomplete-clause-within : goal.returns-then-is_incomplete-clause-within
-returns-then-is_incomplete-clause-within g c =
-    within_appended g.B.AsOctets.limit (g.B.AsOctets.content c.append_slice.new.self)
-    (g.B.AsOctets.content c.loop-chunk.text) c.as_bytes.result.now c.in_ok-append_slice.ensures.appended.ok
-    (λ p. c.in_ok-append_slice.ensures.appended.short.1 p)
-
-pub returns-then-is_incomplete-clause-passed : goal.returns-then-is_incomplete-clause-passed
-returns-then-is_incomplete-clause-passed g c =
-    let cut = sym c.is_incomplete.ensures ∙ c.if-is_incomplete.true in
-    passed_all _ _ _ _ (c.in-Some.ensures.gives.cut.0 cut).1
-    (passed_on _ _ _ _ _ _ c.loop-chunk.invariant.passed c.in-Some.ensures.passed)
 
 pub returns-then-is_incomplete-clause-turns : goal.returns-then-is_incomplete-clause-turns
 returns-then-is_incomplete-clause-turns g c =
     turns_left _ _ _
     (le_trans (c.in-Some.ensures.turns _ _ (splits _) (splits _)) c.loop-chunk.invariant.turns)
 
-pub returns-then-is_incomplete-clause-kept : goal.returns-then-is_incomplete-clause-kept
-returns-then-is_incomplete-clause-kept g c = le_trans c.loop-chunk.invariant.kept c.in-Some.ensures.kept
-
 -- and at the end
-
-pub returns-clause-read : goal.returns-clause-read
-returns-clause-read g c =
-    rw c.new.ensures
-    (subst (λ y. IsRead c.args.octets.now y (g.B.AsOctets.content c.args.text.now)
-    (g.B.AsOctets.content c.loop-chunk.text)) c.in_default.ensures.gives.0 c.loop-chunk.invariant.read)
-
-pub returns-clause-open_end : goal.returns-clause-open_end
-returns-clause-open_end g c = λ some. absurd (some (ap (λ made. made.content) c.new.ensures))
-
-pub returns-clause-within : goal.returns-clause-within
-returns-clause-within g c = c.loop-chunk.invariant.within
 
 pub returns-clause-turns : goal.returns-clause-turns
 returns-clause-turns g c =
     turns_left _ _ _
     (le_trans (c.in_default.ensures.turns _ _ (splits _) (splits _)) c.loop-chunk.invariant.turns)
-
-pub returns-clause-passed : goal.returns-clause-passed
-returns-clause-passed g c =
-    passed_all _ _ _ _ c.in_default.ensures.gives.1
-    (passed_on _ _ _ _ _ _ c.loop-chunk.invariant.passed c.in_default.ensures.passed)
-
-pub returns-clause-kept : goal.returns-clause-kept
-returns-clause-kept g c = le_trans c.loop-chunk.invariant.kept c.in_default.ensures.kept

@@ -1,11 +1,10 @@
-use Rattle.std.proofs.Common.{◌≡◌, ℕ, ◌+◌, Option, Bool, true, false, List, [], ◌++◌, length, arith, ap, sym, ◌∙◌, subst}
+use Rattle.std.proofs.Common.{◌≡◌, ℕ, ◌+◌, Option, Bool, true, false, List, ◌++◌, length, arith, ap, sym, ◌∙◌, subst}
 use Rattle.std.proofs.Common.{append_assoc, length-append, Result, Ok, Err, OnOk, OnErr}
 use Rattle.std.specs.Prelude.{is_ok}
 use Rattle.std.proofs.lemmas.List.{append-nil}
 use Rattle.std.proofs.lemmas.Result.{err_from_is_err_and, IfOk-weaker}
 use Rattle.octseq_core.specs.Limit.{IsPast}
 use Rattle.octseq_core.proofs.Limits.{past_more}
-use Rattle.octseq_utf8.specs.Parts.{IsFront}
 use Rattle.octseq_text.proofs.str.staged.append_staged.Goals as goal
 
 -- what a test for Ok shows
@@ -29,13 +28,6 @@ past_with limit content kept staged octets same past =
     ))
     past
 
--- an append keeps a front, whatever its result
-front_appended : {T E : Type 0} (r : Result T E) (front old new octets : List ℕ) → IsFront front old
-    → OnOk r (new ≡ old ++ octets) → OnErr r (new ≡ old) → IsFront front new
-front_appended (Ok x) front old new octets f ok err =
-    (f.0 ++ octets, ok ∙ ap (λ y. y ++ octets) f.1 ∙ append_assoc front f.0 octets)
-front_appended (Err x) front old new octets f ok err = (f.0, err ∙ f.1)
-
 -- the octets are staged
 
 pub returns-then-is_ok-clause-text : goal.returns-then-is_ok-clause-text
@@ -45,13 +37,7 @@ returns-then-is_ok-clause-text g c =
     c.if-is_ok.true in
     ap (λ y. content ++ y) staged ∙ sym (append_assoc content c.args.staged.now.content c.args.octets.now)
 
-pub returns-then-is_ok-clause-front : goal.returns-then-is_ok-clause-front
-returns-then-is_ok-clause-front g c = ([], sym (append-nil _))
-
 -- the staged octets are refused
-
-pub returns-in_err-append_stage-clause-front : goal.returns-in_err-append_stage-clause-front
-returns-in_err-append_stage-clause-front g c = ([], c.in_err-append_stage.ensures.err ∙ sym (append-nil _))
 
 pub returns-in_err-append_stage-clause-short : goal.returns-in_err-append_stage-clause-short
 returns-in_err-append_stage-clause-short g c =
@@ -61,9 +47,6 @@ returns-in_err-append_stage-clause-short g c =
     rw (p.1, p.2)
     (λ h. past_with g.B.AsOctets.limit (g.B.AsOctets.content c.args.builder.now) c.append_short.new.builder.content
     c.args.staged.now.content c.args.octets.now same (c.in_err-append_stage.ensures.short h))
-
-pub returns-in_err-append_stage-clause-borrows : goal.returns-in_err-append_stage-clause-borrows
-returns-in_err-append_stage-clause-borrows g c = c.in_err-append_stage.ensures.borrows
 
 -- the staged octets are appended, and then the octets
 
@@ -79,12 +62,6 @@ returns-clause-text g c =
     ∙ ap (λ y. y ++ c.args.octets.now) all)
     c.append_slice.ensures.appended.ok
 
-pub returns-clause-front : goal.returns-clause-front
-returns-clause-front g c =
-    front_appended c.append_slice.result _ _ _ c.args.octets.now
-    (c.append_short.new.builder.content, c.in_ok-append_stage.ensures.text) c.append_slice.ensures.appended.ok
-    c.append_slice.ensures.appended.err
-
 pub returns-clause-short : goal.returns-clause-short
 returns-clause-short g c =
     let content = g.B.AsOctets.content c.args.builder.now in
@@ -94,9 +71,3 @@ returns-clause-short g c =
     let long = ap (λ y. length y + length c.args.octets.now) all
     ∙ sym (length-append (content ++ c.args.staged.now.content) c.args.octets.now) in
     λ h. subst (λ n. IsPast g.B.AsOctets.limit n) long (c.append_slice.ensures.appended.short.0 h)
-
-pub returns-clause-memory : goal.returns-clause-memory
-returns-clause-memory g c = c.append_slice.ensures.appended.memory
-
-pub returns-clause-borrows : goal.returns-clause-borrows
-returns-clause-borrows g c = c.append_slice.ensures.borrows ∙ c.in_ok-append_stage.ensures.borrows

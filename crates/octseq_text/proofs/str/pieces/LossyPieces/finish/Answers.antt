@@ -1,8 +1,8 @@
-use Rattle.std.proofs.Common.{length, refl, ap, sym, ◌∙◌, subst, Err}
+use Rattle.std.proofs.Common.{length, ap, sym, ◌∙◌, subst}
 use Rattle.std.proofs.lemmas.Result.{err_from_is_err_and}
 use Rattle.octseq_core.specs.Limit.{IsPast}
 use Rattle.octseq_text.proofs.Piecewise.{finish_text, finish_well_formed, finish_too_long}
-use Rattle.octseq_text.proofs.Piecewise.{not_met, same_refusal, memory_met}
+use Rattle.octseq_text.proofs.Piecewise.{not_met}
 use Rattle.octseq_core.proofs.Limits.{within_not_past}
 use Rattle.octseq_text.proofs.str.pieces.LossyPieces.finish.Goals as goal
 
@@ -37,30 +37,7 @@ returns-in-Some-clause-short g c =
     rw (← c.self.view_is)
     (λ h octets parts s t. absurd (not_met c.self.inside.refusal c.in-Some.refusal s.fine c.in-Some.is))
 
-pub returns-in-Some-clause-past : goal.returns-in-Some-clause-past
-returns-in-Some-clause-past g c = λ octets parts s t p. refl
-
-pub returns-in-Some-clause-memory : goal.returns-in-Some-clause-memory
-returns-in-Some-clause-memory g c =
-    memory_met c.self.inside.refusal c.in-Some.refusal g.B.AsOctets.asks c.self.invariant.memory c.in-Some.is
-
-pub returns-in-Some-clause-again : goal.returns-in-Some-clause-again
-returns-in-Some-clause-again g c =
-    rw (← c.self.view_is)
-    (λ refusal e. ap (λ r. Err r) (same_refusal c.self.inside.refusal c.in-Some.refusal refusal c.in-Some.is e))
-
 -- if none was
-
-pub returns-in_err-append_end-clause-past : goal.returns-in_err-append_end-clause-past
-returns-in_err-append_end-clause-past g c = λ octets parts s t p. c.from_residual.ensures.0
-
-pub returns-in_err-append_end-clause-again : goal.returns-in_err-append_end-clause-again
-returns-in_err-append_end-clause-again g c =
-    rw (← c.self.view_is) (λ refusal e. absurd (not_met c.self.inside.refusal refusal c.in_default.is e))
-
-pub returns-clause-again : goal.returns-clause-again
-returns-clause-again g c =
-    rw (← c.self.view_is) (λ refusal e. absurd (not_met c.self.inside.refusal refusal c.in_default.is e))
 
 pub returns-clause-well_formed : goal.returns-clause-well_formed
 returns-clause-well_formed g c =
