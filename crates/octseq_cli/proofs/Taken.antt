@@ -2,12 +2,11 @@
 use Rattle.std.proofs.Common.{◌≡◌, ◌+◌, ◌∷◌, ◌++◌, ◌∙◌, ℕ, Bool, true, false, List, [], length, Option}
 use Rattle.std.proofs.Common.{refl, sym, ap, append_assoc, append-nil, arith}
 use Rattle.std.proofs.Math.Bool.{and-true, and_assoc}
-use Rattle.std.specs.Io.KnownBytes.{Consumes}
 use Rattle.std.specs.List.{AllByRecursion, flat_map}
 use Rattle.std.specs.Prelude.{◌&&◌}
 use Rattle.octseq.specs.Code.{HasFront, IsCode}
-use Rattle.octseq_cli.proofs.Steps.{Done, Follows, IsTaken, Makes, both_steps, last_step, taken_more}
-use Rattle.octseq_cli.specs.Frames.{HavePieces, IsNoted, IsStreamOut, IsWholeOut, ends_as}
+use Rattle.octseq_cli.proofs.Steps.{Done, Follows, IsTaken, Makes, both_steps, last_step}
+use Rattle.octseq_cli.specs.Frames.{HavePieces, IsStreamOut, IsWholeOut, ends_as}
 use Rattle.octseq_cli.specs.declared.status.Status.{Status}
 
 -- what is made of octets and their number: whether they are valid, the output, and the note
@@ -214,24 +213,3 @@ pub record IsStreamed (Fits : List ℕ → Type 0) (code : List ℕ → List ℕ
   pub laws : IsLawful Fits code IsPiece IsEnd
   pub taken : IsTaken (IsStreamOut Fits code IsPiece IsEnd) (IsRest Fits code IsPiece IsEnd (count + 1) all) given left
       before now noted reported true is_noted false
-
-module _ {Fits : List ℕ → Type 0} {code : List ℕ → List ℕ} {IsPiece IsEnd : MakesPieces}
-    {given left before now noted reported : Option (List ℕ)} {count : ℕ} {all is_noted : Bool}
-    (so_far : IsStreamed Fits code IsPiece IsEnd given left before now noted reported count all is_noted)
-    {rest after line : Option (List ℕ)} (c d is_fine : Bool) (octets written note : List ℕ) where
-  -- one more frame
-  pub frame_taken : Fits octets → Consumes left rest (code octets) → IsPiece (count + 1) octets is_fine written note
-      → IsNoted true c written now after → IsNoted is_noted d note reported line
-      → IsTaken (IsStreamOut Fits code IsPiece IsEnd) (IsRest Fits code IsPiece IsEnd (count + 1 + 1) (all && is_fine))
-      given rest before after noted line c d false
-  frame_taken fits consumed piece =
-      taken_more so_far.taken c d consumed
-      (frame_step so_far.laws (count + 1) all is_fine octets written note fits piece)
-
-  -- the rest after the last frame
-  pub end_taken : Consumes left rest octets → IsEnd (count + 1) octets is_fine written note
-      → IsNoted true c written now after → IsNoted is_noted d note reported line
-      → IsTaken (IsStreamOut Fits code IsPiece IsEnd) (Done (ends_as (all && is_fine))) given rest before after noted
-      line c d true
-  end_taken consumed ends =
-      taken_more so_far.taken c d consumed (end_step so_far.laws (count + 1) all is_fine octets written note ends)
