@@ -1,8 +1,6 @@
 pub mod Answering
 pub mod Ends
-pub mod Framing
 pub mod Naming
-pub mod Pieces
-pub mod Reporting
+pub mod Steps
 pub mod Taken
 pub mod Writing

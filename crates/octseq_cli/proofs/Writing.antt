@@ -1,16 +1,10 @@
 -- An output is written until all of it is, or a write fails.
-use Rattle.std.proofs.Common.{◌≡◌, ℕ, List, ◌++◌, length, take, drop, Option, Some, None, sym, ap, ◌∙◌, append_assoc}
+use Rattle.std.proofs.Common.{◌≡◌, ℕ, List, ◌++◌, length, take, drop, Option, sym, ap, ◌∙◌, append_assoc}
+use Rattle.std.proofs.KnownBytes.{Appends-trans}
 use Rattle.std.proofs.lemmas.List.{take-append-drop, length-drop}
 use Rattle.std.proofs.Math.Seq.{take-length}
 use Rattle.std.specs.Io.KnownBytes.{Appends}
 use Rattle.std.specs.Prelude.{slice_range}
-
-appends_more : (before mid after : Option (List ℕ)) (xs ys : List ℕ) → Appends before mid xs → Appends mid after ys
-    → Appends before after (xs ++ ys)
-appends_more None mid after xs ys first second = tt
-appends_more (Some a) None after xs ys first second = absurd first
-appends_more (Some a) (Some b) None xs ys first second = absurd second
-appends_more (Some a) (Some b) (Some c) xs ys first second = second ∙ ap (λ l. l ++ ys) first ∙ append_assoc a xs ys
 
 -- A front of the output was written, and this is left of it.
 pub record IsWritten (before now : Option (List ℕ)) (output rest : List ℕ) : Type 0 where
@@ -31,5 +25,5 @@ written_more before mid after output rest n so_far appended =
           so_far.whole
           ∙ ap (λ r. so_far.front ++ r) (sym (take-append-drop n rest) ∙ ap (λ r. take n rest ++ r) (sym left))
           ∙ sym (append_assoc so_far.front (take n rest) (slice_range rest n (length rest)));
-      written = appends_more before mid after so_far.front (take n rest) so_far.written appended;
+      written = Appends-trans before mid after so_far.front (take n rest) so_far.written appended;
     }

@@ -31,15 +31,12 @@ no_record (n ∷ octets) part more (inr short) e =
 pub one_reading : (parts others : List (List ℕ)) (x y : List ℕ) → IsRest x → IsRest y
     → records_of parts ++ x ≡ records_of others ++ y → (parts ≡ others) × (x ≡ y)
 one_reading [] [] x y h k e = (refl, e)
-one_reading [] (b ∷ others) x y h k e =
-    no_record x b (records_of others ++ y) h (e ∙ ap (λ r. length b ∷ r) (append_assoc b (records_of others) y))
-one_reading (a ∷ parts) [] x y h k e =
-    no_record y a (records_of parts ++ x) k (sym e ∙ ap (λ r. length a ∷ r) (append_assoc a (records_of parts) x))
+one_reading [] (b ∷ others) x y h k e = no_record x b (records_of others ++ y) h (rw append_assoc at e)
+one_reading (a ∷ parts) [] x y h k e = no_record y a (records_of parts ++ x) k (sym (rw append_assoc at e))
 one_reading (a ∷ parts) (b ∷ others) x y h k e =
     let long : length a ≡ length b = cc in
     let after : (a ++ records_of parts) ++ x ≡ (b ++ records_of others) ++ y = cc in
-    let both = halves a b (records_of parts ++ x) (records_of others ++ y) long
-    (sym (append_assoc a (records_of parts) x) ∙ after ∙ append_assoc b (records_of others) y) in
+    let both = halves a b (records_of parts ++ x) (records_of others ++ y) long (rw (append_assoc, append_assoc) at after) in
     let rest = one_reading parts others x y h k both.1 in
     (ap (λ p. p ∷ parts) both.0 ∙ ap (λ ps. b ∷ ps) rest.0, rest.1)
 
@@ -129,16 +126,8 @@ lines_more (p ∷ parts) lines part line (first, more, h, hs, e) has = (
 pub read_more : (input before after part line output made : List ℕ) → IsReadTo input before output
     → before ≡ length part ∷ part ++ after → HasText part line
     → made ≡ output ++ (line ++ codes "\n") → IsReadTo input after made
-read_more input before after part line output made so_far front has e =
-    let L : List ℕ → Type 0 = HasLines (so_far.parts ++ part ∷ []) in
-    let record_of : List ℕ → List ℕ = λ part. length part ∷ part in
-    let joined : records_of (so_far.parts ++ part ∷ []) ≡ records_of so_far.parts ++ (length part ∷ part) =
-    flat_map-append record_of so_far.parts (part ∷ [])
-    ∙ ap (λ x. records_of so_far.parts ++ (length part ∷ x)) (append-nil part) in
-    record {
-      parts = so_far.parts ++ part ∷ [];
-      whole =
-          so_far.whole ∙ ap (λ x. records_of so_far.parts ++ x) front
-          ∙ sym (append_assoc (records_of so_far.parts) (length part ∷ part) after) ∙ ap (λ x. x ++ after) (sym joined);
-      lines = subst L (sym e) (lines_more so_far.parts output part line so_far.lines has);
-    }
+read_more input before after part line output made so_far front has e = record {
+  parts = so_far.parts ++ part ∷ [];
+  whole = rw (so_far.whole, front) (simp (flat_map-append, append_assoc, append-nil));
+  lines = rw e (lines_more so_far.parts output part line so_far.lines has);
+}

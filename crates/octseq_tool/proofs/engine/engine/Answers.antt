@@ -1,6 +1,6 @@
 use Rattle.std.proofs.Common.{◌≡◌, List, Option, Some, None, [], refl}
 use Rattle.std.specs.Prelude.{IfSome, unwrap_or}
-use Rattle.octseq_tool.proofs.Feeding.{whole_of}
+use Rattle.std.proofs.KnownBytes.{Consumes-all}
 use Rattle.octseq_tool.specs.declared.engine.Status.TheVariants.{Usage}
 use Rattle.octseq_tool.proofs.engine.engine.Goals as goal
 
@@ -43,7 +43,7 @@ returns-clause-ran g c =
       input = answer.ok.input;
       output = c.as_slice.result.now;
       named = c.in-Some.ensures;
-      whole = whole_of _ _ _ answer.ok.consumed answer.end;
+      whole = Consumes-all _ _ _ [] _ answer.ok.consumed answer.end refl;
       made = rw c.as_slice.ensures.value answer.ok.made;
       written = c.in_ok-write_all-2.ensures.ok;
     }
