@@ -33,22 +33,13 @@ within_encoding {e} p n y some lt =
     ap begins_within (drop-append-le n e y (omega arith)) ∙ ap (λ z. begins_within (drop n z ++ y)) l.whole
     ∙ within_after l.first l.more l.within n y some (omega arith)
 
--- Encodings in two groups, of which the first is n octets.
-record IsCut (es : List (List ℕ)) (n : ℕ) : Type 0 where
-  front : List (List ℕ)
-  back : List (List ℕ)
-  joined : es ≡ front ++ back
-  long : length (concat front) ≡ n
+-- encodings are in two groups, of which the first is n octets
+abbrev IsCut : List (List ℕ) → ℕ → Type 0
+IsCut es n = (front : List (List ℕ)) × (back : List (List ℕ)) × (es ≡ front ++ back) × (length (concat front) ≡ n)
 
 cut_after : (e : List ℕ) (es : List (List ℕ)) (n : ℕ) → length e ≤ n → IsCut es (n - length e) → IsCut (e ∷ es) n
 cut_after e es n ge c =
-    let long = c.long in
-    record {
-      front = e ∷ c.front;
-      back = c.back;
-      joined = ap (λ z. e ∷ z) c.joined;
-      long = omega (arith, length-append e (concat c.front));
-    }
+    (e ∷ c.0, c.1, ap (λ z. e ∷ z) c.2, omega (arith, c.3, length-append e (concat c.0)))
 
 drop_after : (e y : List ℕ) (n : ℕ) → length e ≤ n → drop n (e ++ y) ≡ drop (n - length e) y
 drop_after e y n ge =
@@ -57,7 +48,7 @@ drop_after e y n ge =
 
 cut_where : (es : List (List ℕ)) → AllByRecursion IsEncoding es → (n : ℕ) → n ≤ length (concat es)
     → begins_within (drop n (concat es)) ≡ false → IsCut es n
-cut_where [] h n le begins = record { front = []; back = []; joined = refl; long = omega arith }
+cut_where [] h n le begins = ([], [], refl, omega arith)
 cut_where (e ∷ es) h n le begins =
     ⊎_elim
     (λ some. ⊎_elim
@@ -65,7 +56,7 @@ cut_where (e ∷ es) h n le begins =
     (λ ge. cut_after e es n ge (cut_where es h.1 (n - length e) (omega (arith, length-append e (concat es)))
     (sym (ap begins_within (drop_after e (concat es) n ge)) ∙ begins)))
     (cases_lt n (length e)))
-    (λ none. record { front = []; back = e ∷ es; joined = refl; long = omega arith })
+    (λ none. ([], e ∷ es, refl, omega arith))
     (cases_lt 0 n)
 
 each_in_front : (es fs : List (List ℕ)) → AllByRecursion IsEncoding (es ++ fs) → AllByRecursion IsEncoding es
@@ -82,36 +73,25 @@ pub boundary_from : (x : List ℕ) → IsWellFormed x → (n : ℕ) → n ≤ le
 boundary_from x (cs, s) n le begins =
     let c = cut_where s.encodings s.each n (subst (λ y. n ≤ length y) (sym s.joined) le)
     (subst (λ y. begins_within (drop n y) ≡ false) (sym s.joined) begins) in
-    let each = each_in_front c.front c.back (subst (AllByRecursion IsEncoding) c.joined s.each) in (
-      map number_of c.front,
+    let each = each_in_front c.0 c.1 (subst (AllByRecursion IsEncoding) c.2 s.each) in (
+      map number_of c.0,
       record {
-        rest = map number_of c.back;
-        joined = chars_of s ∙ sym s.numbers ∙ ap (map number_of) c.joined ∙ map-append number_of c.front c.back;
-        long = ap length (octets_of_numbers c.front each) ∙ c.long;
+        rest = map number_of c.1;
+        joined = chars_of s ∙ sym s.numbers ∙ ap (map number_of) c.2 ∙ map-append number_of c.0 c.1;
+        long = ap length (octets_of_numbers c.0 each) ∙ c.3;
       },
     )
 
--- Encodings in two groups by their characters.
-record IsInTwo (es : List (List ℕ)) (front rest : List ℕ) : Type 0 where
-  first : List (List ℕ)
-  second : List (List ℕ)
-  joined : es ≡ first ++ second
-  numbers : map number_of first ≡ front
-  others : map number_of second ≡ rest
-
-in_two : (es : List (List ℕ)) (front rest : List ℕ) → map number_of es ≡ front ++ rest → IsInTwo es front rest
-in_two es [] rest h = record { first = []; second = es; joined = refl; numbers = refl; others = h }
+-- encodings are in two groups by their characters
+in_two : (es : List (List ℕ)) (front rest : List ℕ) → map number_of es ≡ front ++ rest
+    → (first : List (List ℕ)) × (second : List (List ℕ)) × (es ≡ first ++ second) × (map number_of first ≡ front)
+    × (map number_of second ≡ rest)
+in_two es [] rest h = ([], es, refl, refl, h)
 in_two [] (c ∷ front) rest h = absurd (cc)
 in_two (e ∷ es) (c ∷ front) rest h =
     let t = in_two es front rest (cc) in
-    let numbers = t.numbers in
-    record {
-      first = e ∷ t.first;
-      second = t.second;
-      joined = ap (λ z. e ∷ z) t.joined;
-      numbers = cc;
-      others = t.others;
-    }
+    let numbers = t.3 in
+    (e ∷ t.0, t.1, ap (λ z. e ∷ z) t.2, cc, t.4)
 
 -- Octets in two parts by their characters.
 pub record AreInTwo (x front rest : List ℕ) : Type 0 where
@@ -125,23 +105,15 @@ pub record AreInTwo (x front rest : List ℕ) : Type 0 where
 pub are_in_two : {x front rest : List ℕ} → Spells x (front ++ rest) → AreInTwo x front rest
 are_in_two {x} {front} {rest} s =
     let t = in_two s.encodings front rest s.numbers in
-    let each = subst (AllByRecursion IsEncoding) t.joined s.each in
+    let each = subst (AllByRecursion IsEncoding) t.2 s.each in
+    let first = each_in_front t.0 t.1 each in
+    let second = each_in_back t.0 t.1 each in
     record {
-      before = concat t.first;
-      after = concat t.second;
-      whole = sym s.joined ∙ ap concat t.joined ∙ concat-append t.first t.second;
-      spells_before = record {
-        encodings = t.first;
-        each = each_in_front t.first t.second each;
-        joined = refl;
-        numbers = t.numbers;
-      };
-      spells_after = record {
-        encodings = t.second;
-        each = each_in_back t.first t.second each;
-        joined = refl;
-        numbers = t.others;
-      };
+      before = concat t.0;
+      after = concat t.1;
+      whole = sym s.joined ∙ ap concat t.2 ∙ concat-append t.0 t.1;
+      spells_before = record { encodings = t.0; each = first; joined = refl; numbers = t.3 };
+      spells_after = record { encodings = t.1; each = second; joined = refl; numbers = t.4 };
     }
 
 -- the octets before and after a boundary are texts

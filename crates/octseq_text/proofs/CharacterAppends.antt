@@ -1,6 +1,7 @@
 -- The effect on the characters of a call on octets.
 use Rattle.std.proofs.Common.{◌≡◌, ℕ, ◌+◌, Bool, true, Option, List, ◌++◌, length, Result}
 use Rattle.std.proofs.Common.{Ok, Err, OnOk, OnErr, ◌↔◌, ap, sym, ◌∙◌, subst, length-append}
+use Rattle.std.proofs.lemmas.Result.{on_ok_weaker}
 use Rattle.octseq_core.proofs.Limits.{within_if_not_past}
 use Rattle.octseq_core.specs.Limit.{IsWithin, IsPast}
 use Rattle.octseq_core.specs.Refusal.{IsShort, IsMemory, append_error}
@@ -38,10 +39,6 @@ appends_with limit asks (Err (Short s)) new old more ok err short memory charact
 appends_with limit asks (Err Memory) new old more ok err short memory characters =
     (within_if_not_past limit _ (λ p. short.1 p), memory tt, ap chars err)
 
-on_ok : {T E : Type 0} (r : Result T E) (P Q : Type 0) → (P → Q) → OnOk r P → OnOk r Q
-on_ok (Ok x) P Q f p = f p
-on_ok (Err e) P Q f p = tt
-
 -- an append of well-formed octets to well-formed octets, done or refused, is an append of their characters
 pub appends : (limit : Option ℕ) (asks : Bool) (r : Result (Unit {0}) AppendError) (new old more : List ℕ)
     → OnOk r (new ≡ old ++ more) → OnErr r (new ≡ old)
@@ -52,4 +49,5 @@ appends limit asks r new old more ok err short memory v w =
     let long : length old + length more ≡ length (octets_of (chars old ++ chars more)) =
     sym (ap length (octets_of-append old more v w) ∙ length-append old more) in
     appends_with limit asks r new old more ok err (rw (← long) short) memory
-    (on_ok r _ _ (λ e. ap chars e ∙ chars-append old more v w))
+    (on_ok_weaker {P = new ≡ old ++ more} {Q = chars new ≡ chars old ++ chars more} r
+    (λ e. ap chars e ∙ chars-append old more v w))

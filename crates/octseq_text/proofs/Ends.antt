@@ -1,5 +1,5 @@
 -- The last character of well-formed octets, read from the end.
-use Rattle.std.proofs.Common.{◌≡◌, ℕ, ◌+◌, ◌-◌, ◌*◌, ◌<◌, ◌≤◌, List, [], ◌∷◌, ◌++◌, length, take, get_or}
+use Rattle.std.proofs.Common.{◌≡◌, ◌≢◌, ℕ, ◌+◌, ◌-◌, ◌*◌, ◌<◌, ◌≤◌, List, [], ◌∷◌, ◌++◌, length, take, get_or}
 use Rattle.std.proofs.Common.{◌⊎◌, inl, inr, slice_index, refl, arith, ap, sym, ◌∙◌, subst, length-append, append_assoc}
 use Rattle.std.proofs.lemmas.List.{append-nil, get_or-append-add}
 use Rattle.std.proofs.Math.Seq.{take-append_seam}
@@ -165,9 +165,9 @@ width_of_last x before w (row_F4 {a} {b} {c} {d} p q r s) =
 
 -- the last encoding, read from the end: p, q, r and s are the last four octets
 
-module _ (x : List ℕ) (w : IsWellFormed x) (some : 0 < length x) (p : ℕ) (is_p : p ≡ from_end x 1) where
+module _ (x : List ℕ) (w : IsWellFormed x) (some : length x ≢ 0) {p : ℕ} (is_p : p ≡ from_end x 1) where
   last : Ending x
-  last = ending x w some
+  last = ending x w (omega arith)
 
   width : Width x last.last
   width = width_of_last x last.before last.whole last.encoding
@@ -178,14 +178,14 @@ module _ (x : List ℕ) (w : IsWellFormed x) (some : 0 < length x) (p : ℕ) (is
   pub more_1 : 0x80 ≤ p → 2 ≤ length x
   more_1 high = let w = width in grind arith
 
-  module _ (high : 0x80 ≤ p) (q : ℕ) (is_q : q ≡ from_end x 2) where
+  module _ (high : 0x80 ≤ p) {q : ℕ} (is_q : q ≡ from_end x 2) where
     pub ends_2 : 0xC0 ≤ q → EndsIn 2 x ((q - 0xC0) * 64 + (p - 0x80))
     ends_2 leads = let w = width in ends_in last 2 _ (grind arith) (grind arith)
 
     pub more_2 : q < 0xC0 → (3 ≤ length x) × (0x80 ≤ q)
     more_2 inside = let w = width in (grind arith, grind arith)
 
-    module _ (inside : q < 0xC0) (r : ℕ) (is_r : r ≡ from_end x 3) where
+    module _ (inside : q < 0xC0) {r : ℕ} (is_r : r ≡ from_end x 3) where
       abbrev number_3 : ℕ
       number_3 = (r - 0xE0) * 4096 + (q - 0x80) * 64 + (p - 0x80)
 
@@ -198,7 +198,7 @@ module _ (x : List ℕ) (w : IsWellFormed x) (some : 0 < length x) (p : ℕ) (is
       pub more_3 : r < 0xE0 → (4 ≤ length x) × (0x80 ≤ r)
       more_3 inside_too = let w = width in (grind arith, grind arith)
 
-      module _ (inside_too : r < 0xE0) (s : ℕ) (is_s : s ≡ from_end x 4) where
+      module _ (inside_too : r < 0xE0) {s : ℕ} (is_s : s ≡ from_end x 4) where
         abbrev number_4 : ℕ
         number_4 = (s - 0xF0) * 262144 + (r - 0x80) * 4096 + (q - 0x80) * 64 + (p - 0x80)
 

@@ -6,9 +6,7 @@ use Rattle.std.proofs.Common.{sym, ◌∙◌, subst, append_assoc, length-append
 use Rattle.std.proofs.lemmas.Bool.{eqb-true}
 use Rattle.std.proofs.lemmas.List.{append-nil, nil_from_length}
 use Rattle.octseq_core.specs.Limit.{IsWithin, IsPast}
-use Rattle.octseq_core.specs.Refusal.{Refusal, Is, append_error}
 use Rattle.octseq_core.specs.declared.builder.AppendError.{AppendError}
-use Rattle.octseq_core.specs.declared.builder.AppendError.TheVariants.{Short, Memory}
 use Rattle.octseq_utf8.specs.Chunk.{Chunk, IsFirstChunk}
 use Rattle.octseq_utf8.specs.Encoding.{encoding_of}
 use Rattle.octseq_utf8.specs.Parts.{IsBeginning, IsBadPart, Part, Char, Bad, Splits, nothing, text}
@@ -224,22 +222,6 @@ not_met met refusal none some = let no : None ≡ Some refusal = sym none ∙ so
 pub same_refusal : (met : Option AppendError) (refusal other : AppendError) → met ≡ Some refusal → met ≡ Some other
     → refusal ≡ other
 same_refusal met refusal other e f = let same : Some refusal ≡ Some other = sym e ∙ f in cc
-
--- memory was refused only if the type requests it
-pub memory_met : (met : Option AppendError) (refusal : AppendError) (asks : Bool) → (met ≡ Some Memory → asks ≡ true)
-    → met ≡ Some refusal → Is Refusal.memory (append_error refusal) → asks ≡ true
-memory_met met (Short short) asks memory e h = absurd h
-memory_met met Memory asks memory e h = memory e
-
--- a reading that met a refusal is sound
-pub sound_met : (limit : Option ℕ) (asks : Bool) (held : Held) (refusal : AppendError) → held.refusal ≡ Some refusal
-    → (Is Refusal.memory (append_error refusal) → asks ≡ true) → IsSound limit asks held
-sound_met limit asks held refusal met memory = record {
-  has_read = λ none. absurd (not_met held.refusal refusal none met);
-  within = λ none. absurd (not_met held.refusal refusal none met);
-  memory = λ m. memory (subst (λ r. Is Refusal.memory (append_error r)) (same_refusal held.refusal Memory refusal m met)
-      tt);
-}
 
 within_none : (limit : Option ℕ) → IsWithin limit 0
 within_none (Some n) = omega arith

@@ -153,10 +153,6 @@ last_bad (bad_part {parts = parts} b s) (a ∷ front) q h = let rest : parts ≡
 char_not_bad : (c : ℕ) (q : List ℕ) → Char c ≢ Bad q
 char_not_bad c q h = cc
 
--- any octets split into parts
-pub splitting : (x : List ℕ) → (parts : List Part) × Splits x parts
-splitting x = (parts_of x, splits x)
-
 settling_by : (x : List ℕ) (parts : List Part) → Splits x parts
     → (parts ≡ []) ⊎ ((front : List Part) × (last : Part) × (parts ≡ front ++ last ∷ []))
     → (settled : List Part) × (end : List ℕ) × Settles x settled end

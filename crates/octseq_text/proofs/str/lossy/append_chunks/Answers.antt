@@ -1,5 +1,5 @@
-use Rattle.std.proofs.Common.{◌++◌, length, ap, ◌∙◌, subst, append_assoc}
-use Rattle.std.proofs.Math.Nat.{le_refl, le_trans}
+use Rattle.std.proofs.Common.{arith, ◌++◌, length, ap, ◌∙◌, subst, append_assoc}
+use Rattle.std.proofs.Math.Nat.{le_refl}
 use Rattle.std.proofs.lemmas.List.{append-nil}
 use Rattle.std.proofs.lemmas.Result.{err_from_is_err_and}
 use Rattle.octseq_core.specs.Limit.{IsPast}
@@ -9,7 +9,6 @@ use Rattle.octseq_utf8.specs.Reading.{parts_of}
 use Rattle.octseq_utf8.proofs.Bridge.{encode-is}
 use Rattle.octseq_utf8.proofs.ByChunk.{grown, all_made}
 use Rattle.octseq_utf8.proofs.Splitting.{splits}
-use Rattle.octseq_text.proofs.Counting.{turns_left, passed_on, passed_none}
 use Rattle.octseq_text.proofs.Replacing.{added, chunk_short, front_then, grown_short}
 use Rattle.octseq_text.proofs.str.lossy.append_chunks.Goals as goal
 
@@ -43,7 +42,7 @@ loop-chunk-init g c =
       front = c.in_ok-append_chunk.ensures.front;
       borrows = c.in_ok-append_chunk.ensures.borrows;
       turns = le_refl _;
-      passed = passed_none _ _;
+      passed = omega arith;
       kept = le_refl _;
       octets = c.as_octets-octets.ensures;
     }
@@ -62,9 +61,9 @@ loop-chunk-preserved g c =
           one;
       front = front_then _ _ _ i.front c.in_ok-append_chunk-2.ensures.front;
       borrows = c.in_ok-append_chunk-2.ensures.borrows ∙ i.borrows;
-      turns = le_trans (c.in-Some.ensures.turns _ _ (splits _) (splits _)) i.turns;
-      passed = passed_on _ _ _ _ _ _ i.passed c.in-Some.ensures.passed;
-      kept = le_trans i.kept c.in-Some.ensures.kept;
+      turns = omega (arith, c.in-Some.ensures.turns _ _ (splits _) (splits _));
+      passed = omega arith;
+      kept = omega arith;
       octets = c.as_octets-octets-in-Some.ensures;
     }
 
@@ -90,7 +89,7 @@ returns-in_err-append_chunk-2-clause-short g c =
 
 pub returns-in_err-append_chunk-2-clause-turns : goal.returns-in_err-append_chunk-2-clause-turns
 returns-in_err-append_chunk-2-clause-turns g c =
-    turns_left _ _ _ (le_trans (c.in-Some.ensures.turns _ _ (splits _) (splits _)) c.loop-chunk.invariant.turns)
+    omega (arith, c.in-Some.ensures.turns _ _ (splits _) (splits _))
 
 pub returns-clause-text : goal.returns-clause-text
 returns-clause-text g c =
@@ -100,12 +99,4 @@ returns-clause-text g c =
 
 pub returns-clause-turns : goal.returns-clause-turns
 returns-clause-turns g c =
-    turns_left _ _ _ (le_trans (c.in_default.ensures.turns _ _ (splits _) (splits _)) c.loop-chunk.invariant.turns)
-
--- the rest of the clauses
-
-pub returns-clause-short : goal.returns-clause-short
-returns-clause-short g c =
-    let made = all_made c.args.replacement _ _ c.loop-chunk.rest c.loop-chunk.invariant.text
-    c.in_default.ensures.gives.0 in
-    rw (← made) c.append_stage.ensures.short
+    omega (arith, c.in_default.ensures.turns _ _ (splits _) (splits _))

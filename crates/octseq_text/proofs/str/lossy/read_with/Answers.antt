@@ -177,12 +177,3 @@ returns-in_ok-append_chunks-in-Some-clause-turns g c =
       c.in-Some.ensures.turns _ _ (splits _) (splits _),
       c.in_ok-append_chunks-in-Some.ensures.turns,
     )
-
--- the rest of the clauses
-
-pub from_utf8_unchecked-requires-then-is_empty : goal.from_utf8_unchecked-requires-then-is_empty
-from_utf8_unchecked-requires-then-is_empty g c =
-    let none = none_of c.in-Some.first.invalid c.invalid.result.now c.is_empty.result c.invalid.ensures c.is_empty.ensures
-    c.if-is_empty.true in
-    subst IsWellFormed (c.chunks-chunks.ensures ∙ c.as_ref-content.ensures.value)
-    (whole_text _ c.in-Some.first _ c.in-Some.ensures.gives none)

@@ -2,7 +2,6 @@ use Rattle.std.proofs.Common.{length, ap, sym, ◌∙◌, subst}
 use Rattle.std.proofs.lemmas.Result.{err_from_is_err_and}
 use Rattle.octseq_core.specs.Limit.{IsPast}
 use Rattle.octseq_text.proofs.Piecewise.{finish_text, finish_well_formed, finish_too_long}
-use Rattle.octseq_text.proofs.Piecewise.{not_met}
 use Rattle.octseq_core.proofs.Limits.{within_not_past}
 use Rattle.octseq_text.proofs.str.pieces.LossyPieces.finish.Goals as goal
 
@@ -29,18 +28,3 @@ returns-clause-past g c = λ octets parts s t p.
     absurd (within_not_past g.B.AsOctets.limit _ c.in_ok-append_end.ensures.within
     (subst (λ y. IsPast g.B.AsOctets.limit (length y)) (sym (returns-clause-text g c octets parts s t)
     ∙ ap g.B.AsOctets.content c.from_utf8_unchecked.ensures) p))
-
--- if a refusal was met before
-
-pub returns-in-Some-clause-short : goal.returns-in-Some-clause-short
-returns-in-Some-clause-short g c =
-    rw (← c.self.view_is)
-    (λ h octets parts s t. absurd (not_met c.self.inside.refusal c.in-Some.refusal s.fine c.in-Some.is))
-
--- if none was
-
-pub returns-clause-well_formed : goal.returns-clause-well_formed
-returns-clause-well_formed g c =
-    let has_read = c.self.invariant.has_read c.in_default.is in
-    rw c.from_utf8_unchecked.ensures
-    (finish_well_formed _ has_read.0 _ has_read.1 c.in_ok-append_end.ensures.none c.in_ok-append_end.ensures.some)
