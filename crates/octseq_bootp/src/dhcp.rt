@@ -3,8 +3,8 @@
 use octseq::compose::ComposeError;
 use octseq::{Array, AsOctets, Parser};
 use octseq_format::{
-    Case, Counted, Either, Fields, Format, Octets, Of, Optional, Others, Repeated, Rest, Tagged, U8,
-    U16Be, U32Be, Walk,
+    Case, Counted, Either, Fields, Format, Octets, Of, Optional, Others, Repeated, Rest, Tagged,
+    U8, U16Be, U32Be,
 };
 use std::alloc::Global;
 
@@ -22,7 +22,10 @@ pub enum DhcpOption<R: AsOctets + Copy> {
 impl<R: AsOctets + Copy> Fields<R> for DhcpOption<R> {
     ghost use Rattle.octseq_bootp.specs.Dhcp.{option_fields};
 
-    type Format = Tagged<u8, Case<0, Octets<0>, Case<255, Octets<0>, Others<Counted<u8, Rest, 0>>>>>;
+    type Format = Tagged<
+        u8,
+        Case<0, Octets<0>, Case<255, Octets<0>, Others<Counted<u8, Rest, 0>>>>,
+    >;
 
     ghost fields = { option_fields };
 
@@ -58,11 +61,17 @@ pub type Bootp<R> = (
 );
 
 /// Reads a packet, and writes it again.
-pub fn again(alloc: Global, octets: &[u8]) -> Option<Array<1500>> {
-    let Ok(packet) = <Bootp<&[u8]> as Format<&[u8]>>::parse_whole(octets) else {
+pub fn again<R: AsOctets + Copy>(alloc: Global, octets: R) -> Option<Array<1500>> {
+    let Ok(packet) = <Bootp<R> as Format<R>>::parse_whole(octets) else {
         return None;
     };
-    let written: Result<Array<1500>, ComposeError> =
-        <Bootp<&[u8]> as Format<&[u8]>>::compose_whole(alloc, &packet);
+    let written: Result<Array<1500>, ComposeError> = <Bootp<R> as Format<R>>::compose_whole(
+        alloc, &packet,
+    );
     written.ok()
+}
+
+/// Reads a packet, and writes it again.
+pub fn slice_again(alloc: Global, octets: &[u8]) -> Option<Array<1500>> {
+    again::<&[u8]>(alloc, octets)
 }
