@@ -1,14 +1,12 @@
-//! A DHCP packet.
+//! DHCP: packets of RFC 2131, 2, with the options of RFC 2132.
 
-use octseq::compose::ComposeError;
-use octseq::{Array, AsOctets, Parser};
+use octseq::{AsOctets, Parser};
 use octseq_format::{
     Case, Counted, Either, Fields, Format, Octets, Of, Optional, Others, Repeated, Rest, Tagged,
     U8, U16Be, U32Be,
 };
-use std::alloc::Global;
 
-/// An option of a DHCP packet.
+/// An option.
 #[derive(Clone, Copy, Debug, Drop)]
 pub enum DhcpOption<R: AsOctets + Copy> {
     /// Padding.
@@ -20,7 +18,7 @@ pub enum DhcpOption<R: AsOctets + Copy> {
 }
 
 impl<R: AsOctets + Copy> Fields<R> for DhcpOption<R> {
-    ghost use Rattle.octseq_bootp.specs.Dhcp.{option_fields};
+    ghost use Rattle.octseq_formats.specs.Dhcp.{option_fields};
 
     type Format = Tagged<
         u8,
@@ -46,10 +44,13 @@ impl<R: AsOctets + Copy> Fields<R> for DhcpOption<R> {
     }
 }
 
-/// The options after the magic cookie, or anything after another number.
+/// Options after the magic cookie 63 82 53 63, or anything after another number.
 pub type Vendor<R> = Tagged<u32, Case<0x63825363, Repeated<Of<DhcpOption<R>>>, Others<Rest>>>;
 
-/// A packet.
+/// A packet: operation, hardware type, length of hardware addresses, hops; transaction, seconds, flags; the addresses of
+/// client, yours, server and relay; the client's hardware address, the server's name, the name of a file, and options.
+///
+/// Octets after the option `End` are read as options too: in most packets they are padding.
 pub type Bootp<R> = (
     (U8, U8, U8, U8),
     (U32Be, U16Be, U16Be),
@@ -59,19 +60,3 @@ pub type Bootp<R> = (
     Octets<128>,
     Optional<Vendor<R>>,
 );
-
-/// Reads a packet, and writes it again.
-pub fn again<R: AsOctets + Copy>(alloc: Global, octets: R) -> Option<Array<1500>> {
-    let Ok(packet) = <Bootp<R> as Format<R>>::parse_whole(octets) else {
-        return None;
-    };
-    let written: Result<Array<1500>, ComposeError> = <Bootp<R> as Format<R>>::compose_whole(
-        alloc, &packet,
-    );
-    written.ok()
-}
-
-/// Reads a packet, and writes it again.
-pub fn slice_again(alloc: Global, octets: &[u8]) -> Option<Array<1500>> {
-    again::<&[u8]>(alloc, octets)
-}
