@@ -9,7 +9,7 @@ use Rattle.octseq_text.specs.Pieces.{Settles, open_end, no_end}
 use Rattle.octseq_text.specs.Progress.{IsOpenEnd, IsRead}
 use Rattle.octseq_utf8.specs.Parts.{IsBeginning, Part, text}
 use Rattle.octseq_c.proofs.Placed.{placed_more}
-use Rattle.octseq_c.proofs.Wholes.{whole_text}
+use Rattle.octseq_c.proofs.Wholes.{one_lossy_text, whole_text}
 use Rattle.octseq_c.specs.LossyText.{IsLossyText, IsSettledText, IsState, end_text, held}
 use Rattle.octseq_c.specs.Puts.{Fills}
 use Rattle.octseq_c.specs.Settled.{IsMeasured, IsPastSize}
@@ -50,6 +50,11 @@ pub lossy_past_end : {x end : List ℕ} {n : ℕ} → IsMeasured x 0 n end → (
     → ¬ (n + length written < 2 ^ 64) → (made : List ℕ) × IsLossyText x made × (2 ^ 64 - 1 < length made)
 lossy_past_end m written e past =
     (text m.settled ++ written, lossy_made m written e, omega (arith, past, lossy_len m written))
+
+pub lossy_fits : {x end : List ℕ} {n : ℕ} → IsMeasured x 0 n end → (written : List ℕ) → written ≡ end_text end
+    → n + length written < 2 ^ 64 → ¬ ((made : List ℕ) × IsLossyText x made × (2 ^ 64 - 1 < length made))
+lossy_fits m written e few =
+    fits (one_lossy_text _) (text m.settled ++ written) (lossy_made m written e) (omega (arith, few, lossy_len m written))
 
 -- the text of what is settled
 

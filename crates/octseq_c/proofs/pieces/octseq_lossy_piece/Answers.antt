@@ -5,6 +5,8 @@ use Rattle.octseq_c.proofs.Reported.{state_left}
 use Rattle.octseq_c.proofs.Puts.{puts_ok, puts_no_room, puts_none, reported, not_reported}
 use Rattle.octseq_c.proofs.pieces.octseq_lossy_piece.Goals as goal
 
+-- the text is too long
+
 pub returns-in_default-measure-clause-puts : goal.returns-in_default-measure-clause-puts
 returns-in_default-measure-clause-puts c = λ is. puts_none _ 5 (λ e. omega arith) (λ e. omega arith) (one_settled_text _)
 
@@ -13,18 +15,6 @@ returns-in_default-measure-clause-too_long c =
     let read = rw c.in-Some.ensures.some at (c.split.ensures _ c.completed-completed.ensures) in
     reported 5 (c.in-Some.ensures.variant.0 refl, both_past read c.in_default-measure.ensures.past)
 
-pub returns-then-extent-out-clause-too_long : goal.returns-then-extent-out-clause-too_long
-returns-then-extent-out-clause-too_long c =
-    let read = rw c.in-Some.ensures.some at (c.split.ensures _ c.completed-completed.ensures) in
-    not_reported 1 5 (λ e. omega arith) (λ p. both_fit read c.in-Some-measure.ensures.measured p.1)
-
-pub returns-clause-too_long : goal.returns-clause-too_long
-returns-clause-too_long c =
-    let read = rw c.in-Some.ensures.some at (c.split.ensures _ c.completed-completed.ensures) in
-    not_reported 0 5 (λ e. omega arith) (λ p. both_fit read c.in-Some-measure.ensures.measured p.1)
-
--- the text is too long
-
 -- there is no room
 
 pub returns-then-extent-out-clause-puts : goal.returns-then-extent-out-clause-puts
@@ -32,6 +22,11 @@ returns-then-extent-out-clause-puts c =
     let read = rw c.in-Some.ensures.some at (c.split.ensures _ c.completed-completed.ensures) in
     let both = both_text read c.in-Some-measure.ensures.measured in
     λ is. puts_no_room _ (one_settled_text _) _ both.0 (omega (arith, both.1)) both.1
+
+pub returns-then-extent-out-clause-too_long : goal.returns-then-extent-out-clause-too_long
+returns-then-extent-out-clause-too_long c =
+    let read = rw c.in-Some.ensures.some at (c.split.ensures _ c.completed-completed.ensures) in
+    not_reported 1 5 (λ e. omega arith) (λ p. both_fit read c.in-Some-measure.ensures.measured p.1)
 
 -- it was written
 
@@ -56,3 +51,8 @@ returns-clause-state c =
     let read = rw c.in-Some.ensures.some at (c.split.ensures _ c.completed-completed.ensures) in
     λ ok. state_left c.holding.result (both_settle read c.in-Some-measure.ensures.measured.settles) c.holding.ensures.len
     c.holding.ensures.held
+
+pub returns-clause-too_long : goal.returns-clause-too_long
+returns-clause-too_long c =
+    let read = rw c.in-Some.ensures.some at (c.split.ensures _ c.completed-completed.ensures) in
+    not_reported 0 5 (λ e. omega arith) (λ p. both_fit read c.in-Some-measure.ensures.measured p.1)

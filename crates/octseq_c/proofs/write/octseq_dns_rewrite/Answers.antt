@@ -5,10 +5,6 @@ use Rattle.octseq_c.proofs.OneRewriting.{moved_can, moved_contents, no_memory, n
 use Rattle.octseq_c.proofs.Puts.{not_reported, puts_copied, puts_none}
 use Rattle.octseq_c.proofs.write.octseq_dns_rewrite.Goals as goal
 
-pub returns-in-Err-Immovable-clause-puts : goal.returns-in-Err-Immovable-clause-puts
-returns-in-Err-Immovable-clause-puts c =
-    puts_none (IsRewritten c.args.octets.now) 4 (λ e. omega arith) (λ e. omega arith) (one_rewriting c.args.octets.now)
-
 -- ---- it was written
 
 is_rewritten : (c : goal.After-slice_known-in-Ok-rewritten-1) → IsRewritten c.args.octets.now c.as_slice.result.now
@@ -49,6 +45,10 @@ returns-in-Ok-rewritten-clause-too_long c = λ made is. (
 
 -- ---- its data can't be moved
 
+pub returns-in-Err-Immovable-clause-puts : goal.returns-in-Err-Immovable-clause-puts
+returns-in-Err-Immovable-clause-puts c =
+    puts_none (IsRewritten c.args.octets.now) 4 (λ e. omega arith) (λ e. omega arith) (one_rewriting c.args.octets.now)
+
 pub returns-in-Err-Immovable-clause-too_long : goal.returns-in-Err-Immovable-clause-too_long
 returns-in-Err-Immovable-clause-too_long c = λ made is.
     let same = said_once c.args.octets.now _ _ _ _ _ _ _ _ _ _ is.message c.in-Ok.ensures.message in
@@ -83,6 +83,8 @@ returns-in-Err-Short-clause-too_long c = λ made is. (
 pub unreachable-requires : goal.unreachable-requires
 unreachable-requires c =
     absurd (no_memory c.in-Err-Memory.field-0 c.in-Err-Memory.field-0-is (λ ok. cc) c.in-Err-Memory.ensures.only)
+
+-- ---- it isn't a message
 
 pub returns-in-Err-clause-puts : goal.returns-in-Err-clause-puts
 returns-in-Err-clause-puts c =
