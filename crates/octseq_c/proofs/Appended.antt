@@ -34,10 +34,6 @@ unfolding octets_be
 front_of id flags a0 a1 a2 a3 a4 = a4 ∙ ap (λ x. x ++ (0 ∷ 0 ∷ 0 ∷ 0 ∷ 0 ∷ 0 ∷ []))
     (a3 ∙ ap (λ x. x ++ octets_be 2 1) (a2 ∙ ap (λ x. x ++ octets_be 2 flags) (a1 ∙ ap (λ x. x ++ octets_be 2 id) a0)))
 
-pub front_long : (id flags : ℕ) → length (query_header id flags) ≡ 12
-unfolding octets_be
-front_long id flags = refl
-
 pub two_long : (n : ℕ) → length (octets_be 2 n) ≡ 2
 unfolding octets_be
 two_long n = refl

@@ -16,7 +16,7 @@ use Rattle.octseq_dns_message.proofs.Headers.{one_header}
 use Rattle.octseq_dns_message.proofs.Messages.{said_once}
 use Rattle.octseq_dns_message.specs.declared.header.Header.{Header}
 use Rattle.octseq_dns_message.specs.declared.header.HeaderCounts.{HeaderCounts}
-use Rattle.octseq_c.specs.Made.{IsAnswer, IsAnswerHeader, IsAnswerOf, IsRecordAt, in_section, places_kept}
+use Rattle.octseq_c.specs.Made.{IsAnswer, IsAnswerHeader, IsAnswerOf, IsRecordAt, places_kept}
 use Rattle.octseq_c.specs.declared.rows.Row.{Row}
 
 -- ---- a record
@@ -43,13 +43,10 @@ one_record source row a b is other =
 one_row : (source : List ℕ) (rows : List Row) (written others : List Record) → AllZip (IsRecordAt source) rows written
     → AllZip (IsRecordAt source) rows others → written ≡ others
 one_row source [] [] [] a b = refl
-one_row source [] (x ∷ written) others a b = absurd a
-one_row source [] [] (y ∷ others) a b = absurd b
-one_row source (row ∷ rows) [] others a b = absurd a
-one_row source (row ∷ rows) (x ∷ written) [] a b = absurd b
 one_row source (row ∷ rows) (x ∷ written) (y ∷ others) a b =
     ap (λ x. x ∷ written) (one_record source row x y a.0 b.0) ∙ ap (λ more. y ∷ more)
     (one_row source rows written others a.1 b.1)
+one_row source rows written others a b = absurd (assumption (a, b))
 
 -- ---- a header
 
@@ -101,11 +98,9 @@ module _ (asked : Header) (flags : ℕ) (questions : List entry.Question) (sourc
       let asks = a.questions_are ∙ sym b.questions_are in
       let here = a.records_are in
       let there = b.records_are in
-      let first = one_row source (in_section 1 rows) m.answers n.answers here.answers_are there.answers_are in
-      let second = one_row source (in_section 2 rows) m.authorities n.authorities here.authorities_are
-      there.authorities_are in
-      let third = one_row source (in_section 3 rows) m.additionals n.additionals here.additionals_are
-      there.additionals_are in
+      let first = one_row source _ _ _ here.answers_are there.answers_are in
+      let second = one_row source _ _ _ here.authorities_are there.authorities_are in
+      let third = one_row source _ _ _ here.additionals_are there.additionals_are in
       λ i. of_sections (headers i) (asks i) (first i) (second i) (third i)
 
   -- an answer to octets is an answer to the message that they are

@@ -1,5 +1,5 @@
 -- What calls report about the items that they write.
-use Rattle.std.specs.Prelude.{◌↔◌}
+use Rattle.std.specs.Prelude.{◌↔◌, Result, Ok, Err, IsErr, OnErr}
 use Rattle.std.proofs.Common.{◌≡◌, ◌≢◌, ℕ, ◌<◌, ◌≤◌, List, length, refl, arith}
 use Rattle.octseq_c.specs.Puts.{Fills, Puts}
 
@@ -54,6 +54,11 @@ reported status p = (λ e. p, λ p. refl)
 
 pub not_reported : {P : Type 0} (status other : ℕ) → status ≢ other → ¬ P → (status ≡ other) ↔ P
 not_reported status other n refuted = (λ e. absurd (n e), λ p. absurd (refuted p))
+
+-- what holds if a call fails holds of its error
+pub when_err : {T E P : Type 0} (result : Result T E) → (IsErr result → P) → OnErr result P
+when_err (Ok value) p = tt
+when_err (Err e) p = p refl
 
 -- a call that copies items to the front of a buffer, or none
 pub puts_copied : {A : Type 0} (Is : List A → Type 0) {status count : ℕ} {old new : List A}

@@ -1,9 +1,8 @@
 -- Rows whose records are pushed to a section of a message, one after another.
 use Rattle.std.proofs.Common.{◌≡◌, ℕ, ◌+◌, ◌<◌, ◌≤◌, ◌≢◌, Bool, true, false, cond, eq-eqb, List, [], ◌∷◌, length, drop, get_or, Some}
-use Rattle.std.proofs.Common.{refl, ap, ◌∙◌, subst, arith}
+use Rattle.std.proofs.Common.{ap, ◌∙◌, subst, arith}
 use Rattle.std.proofs.lemmas.Bool.{ne_eqb}
 use Rattle.std.proofs.lemmas.List.{drop_all, drop_more}
-use Rattle.std.specs.List.{AllZip}
 use Rattle.std.specs.Prelude.{nat_eq}
 use Rattle.octseq_dns.specs.Contents.{Message, Record, octets_of, record_entry}
 use Rattle.octseq_dns.specs.State.{State, with_entry}
@@ -44,54 +43,38 @@ module _ (section : ℕ) (rows : List Row) (i : ℕ) (within : i < length rows) 
 -- ---- what becomes of the message
 
 -- What was pushed of rows, and what is left: a message so far, which becomes the whole one by the records that are
--- left.
+-- left. Before the first row it had `first` octets.
 abbrev pub Left : List ℕ → (Message → Record → Message) → Message → List Record → List Row → State → Header
-    → HeaderCounts → Type 0
-Left source more m written rows state header counts =
-    Ahead (IsRecordAt source) (λ _. 0) more places_kept m written rows state header counts 0 0 0
-
--- at first all rows are left
-pub left_first : (source : List ℕ) (more : Message → Record → Message) (m : Message) (written : List Record)
-    (rows : List Row) (state : State) (header : Header) (counts : HeaderCounts) → Writes places_kept m state header counts
-    → AllZip (IsRecordAt source) rows written → Left source more m written rows state header counts
-left_first source more m written rows state header counts is are = record {
-  now = m;
-  rest = written;
-  writes = is;
-  are = are;
-  same = refl;
-  turned = omega arith;
-  took = omega arith;
-}
+    → HeaderCounts → ℕ → Type 0
+Left source more m written rows state header counts first =
+    Ahead (IsRecordAt source) (λ _. 0) more places_kept m written rows state header counts 0 0 first
 
 -- at last none is left
-pub left_none : (source : List ℕ) (more : Message → Record → Message) (m : Message) (written : List Record)
-    (section : ℕ) (rows : List Row) (i : ℕ) (state : State) (header : Header) (counts : HeaderCounts)
-    → length rows ≤ i → Left source more m written (in_section section (drop i rows)) state header counts
+pub left_none : {source : List ℕ} {more : Message → Record → Message} {m : Message} {written : List Record}
+    {state : State} {header : Header} {counts : HeaderCounts} {first : ℕ} (section : ℕ) (rows : List Row) (i : ℕ)
+    → length rows ≤ i → Left source more m written (in_section section (drop i rows)) state header counts first
     → Writes places_kept (all_more more m written) state header counts
-left_none source more m written section rows i state header counts all left =
-    (ahead_none places_kept m written state header counts 0 0 0
-    (subst (λ rows. Left source more m written (in_section section rows) state header counts) (drop_all i rows all) left)).0
+left_none section rows i all left = (ahead_none places_kept _ _ _ _ _ 0 0 _ (rw (drop_all i rows all) at left)).0
 
 module _ {Reaches : HeaderCounts → Type 0} {count : HeaderCounts → ℕ} {counted : HeaderCounts → ℕ → HeaderCounts}
-    {more : Message → Record → Message} (takes : TakesRecords Reaches count counted more) (source : List ℕ) (m : Message)
-    (written : List Record) (row : Row) (rows : List Row) (state : State) (header : Header) (counts : HeaderCounts)
-    (left : Left source more m written (row ∷ rows) state header counts) (one : Record)
+    {more : Message → Record → Message} (takes : TakesRecords Reaches count counted more) {source : List ℕ} {m : Message}
+    {written : List Record} {row : Row} {rows : List Row} {state : State} {header : Header} {counts : HeaderCounts}
+    {first : ℕ} (left : Left source more m written (row ∷ rows) state header counts first) (one : Record)
     (is : IsRecordAt source row one) (reaches : Reaches counts) where
   -- one row is pushed
-  pub left_next : (next : State) (another : Header) (now : HeaderCounts)
+  pub left_next : {next : State} {another : Header} {now : HeaderCounts}
       → ((m : Message) → Writes places_kept m state header counts → Writes places_kept (more m one) next another now)
-      → Left source more m written rows next another now
-  left_next next another now pushed =
+      → Left source more m written rows next another now first
+  left_next {next} {another} {now} pushed =
       let longer = all_longer places_kept takes left.now (one ∷ []) (subst Reaches left.writes.counts_are reaches) in
       let before = ap (λ s. length s.octets) left.writes.state_is in
       let after = ap (λ s. length s.octets) (pushed left.now left.writes).state_is in
-      ahead_next places_kept m written row rows state header counts 0 0 0 left one
+      ahead_next places_kept m written row rows state header counts 0 0 first left one
       (λ other of. one_record source row other one of is) next another now 0 pushed (omega arith)
       (omega (arith, longer, before, after))
 
   -- or the whole message exceeds the limit, as the message with it does
   pub left_past : 65535 < length (with_entry places_kept state (record_entry one)).octets
       → 65535 < length (octets_of places_kept (all_more more m written))
-  left_past past = ahead_past places_kept m written row rows state header counts 0 0 0 left one
+  left_past past = ahead_past places_kept m written row rows state header counts 0 0 first left one
       (λ other of. one_record source row other one of is) (Some 65535) takes reaches past

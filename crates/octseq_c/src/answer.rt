@@ -19,6 +19,7 @@ ghost use Rattle.octseq_c.specs.Status.{status_too_long, status_bad_row};
 
 use crate::data::{data_of, octseq_dns_data_is_typed};
 use crate::header::header_from;
+use crate::message::message_of;
 use crate::names::name_at;
 use crate::room::put;
 use crate::rows::Row;
@@ -54,7 +55,7 @@ pub extern "C" fn octseq_dns_answer(
         ⊎ (result ≡ status_bad_row) ⊎ (result ≡ status_immovable) ⊎ (result ≡ status_too_long) }
     ensures kept { result ≢ status_ok → out.new ≡ out.old }
 {
-    let status = match Message::parse(query) {
+    let status = match message_of(query) {
         Ok(_) if !are_rows(source, rows) => BAD_ROW,
         Ok(_) if !can_move_rows(source, rows) => IMMOVABLE,
         Ok(message) => {

@@ -6,6 +6,7 @@ ghost use Rattle.octseq_dns.specs.Parsed.{header_of, questions_of, answers_of, a
 ghost use Rattle.octseq_c.specs.Rows.{HasHeader, IsSomeMessage};
 ghost use Rattle.octseq_c.specs.Status.{status_ok, status_malformed};
 
+use crate::message::message_of;
 use crate::status::{MALFORMED, OK};
 use octseq_dns::{Flags, Header, Malformed, Message, Opcode, Rcode};
 
@@ -35,7 +36,7 @@ pub extern "C" fn octseq_dns_message_header(octets: &[u8], header: &mut DnsHeade
     ensures only { (result ≡ status_ok) ⊎ (result ≡ status_malformed) }
     ensures kept { result ≢ status_ok → header.new ≡ header.old }
 {
-    match Message::parse(octets) {
+    match message_of(octets) {
         Ok(message) => {
             *header = header_reported(&message);
             OK

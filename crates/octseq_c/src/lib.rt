@@ -6,6 +6,7 @@ mod answer;
 mod data;
 mod header;
 mod lossy;
+mod message;
 mod names;
 mod numbers;
 mod pieces;

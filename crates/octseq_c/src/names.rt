@@ -1,5 +1,5 @@
 //! Domain names: RFC 1035, 3.1.
-ghost use Rattle.std.specs.Prelude.{◌≡◌, ◌≢◌, ◌↔◌, ◌⊎◌, ◌≤◌, ℕ, pos, List, length, IfOk, IsErr, IfSome, IfNone};
+ghost use Rattle.std.specs.Prelude.{◌≡◌, ◌≢◌, ◌↔◌, ◌⊎◌, ◌≤◌, ℕ, pos, List, length, IfOk, OnErr, IfSome, IfNone};
 ghost use Rattle.octseq_dns.specs.Owned.{owned_labels};
 ghost use Rattle.octseq_dns.specs.Wire.{wire};
 ghost use Rattle.octseq.specs.Text.{IsWellFormed};
@@ -127,7 +127,7 @@ fn number_of(order: Ordering) -> i32
 /// Reads the name at a place of the octets.
 pub fn name_at(octets: &[u8], place: usize) -> Result<ParsedName<&[u8]>, Malformed>
     ensures name { IfOk result (λ name. IsNameAt octets.now place (labels_of name)) }
-    ensures malformed { IsErr result → (labels : List (List ℕ)) → ¬ IsNameAt octets.now place labels }
+    ensures malformed { OnErr result ((labels : List (List ℕ)) → ¬ IsNameAt octets.now place labels) }
 {
     let mut parser = Parser::from_ref(octets);
     match parser.seek(place) {

@@ -8,6 +8,7 @@ ghost use Rattle.octseq_c.specs.Puts.{Puts};
 ghost use Rattle.octseq_c.specs.Rows.{AreRowsOf, IsSomeMessage, row_of_question, row_of_record, rows_of};
 ghost use Rattle.octseq_c.specs.Status.{status_ok, status_no_room, status_malformed};
 
+use crate::message::message_of;
 use crate::status::{MALFORMED, NO_ROOM, OK};
 use octseq_dns::message::{Questions, Records};
 use octseq_dns::{Malformed, Message, Question, Record};
@@ -40,7 +41,7 @@ pub extern "C" fn octseq_dns_rows(octets: &[u8], out: &mut [Row], count: &mut us
     ensures only { (result ≡ status_ok) ⊎ (result ≡ status_no_room) ⊎ (result ≡ status_malformed) }
     ensures kept { result ≢ status_ok → out.new ≡ out.old }
 {
-    match Message::parse(octets) {
+    match message_of(octets) {
         Ok(message) => {
             *count = row_count(&message);
             if *count > out.len() {

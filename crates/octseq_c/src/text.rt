@@ -8,6 +8,7 @@ ghost use Rattle.octseq_c.specs.Rows.{IsSomeMessage};
 ghost use Rattle.octseq_c.specs.Status.{status_ok, status_no_room, status_malformed, status_unshown};
 ghost use Rattle.octseq_c.specs.Texts.{IsTextOf};
 
+use crate::message::message_of;
 use crate::shown::counted;
 use crate::status::{MALFORMED, NO_ROOM, OK, UNSHOWN};
 use crate::writing::{Front, Shown, Writing};
@@ -26,7 +27,7 @@ pub extern "C" fn octseq_dns_message_text(octets: &[u8], out: &mut [u8], written
     ensures utf8 { result ≡ status_ok → (text : List ℕ) → IsTextOf octets.now text → IsWellFormed text }
     ensures kept { result ≢ status_ok → result ≢ status_unshown → out.new ≡ out.old }
 {
-    match Message::parse(octets) {
+    match message_of(octets) {
         Ok(message) => put_text(&message, out, written),
         Err(Malformed) => {
             *written = 0;
@@ -78,9 +79,9 @@ fn put_whole(message: &Message<&[u8]>, out: &mut [u8]) -> bool
     requires fits { (text : List ℕ) × IsMessageText (header_of message.now) (questions_of message.now)
         (answers_of message.now) (authorities_of message.now) (additionals_of message.now) text
         × (length out.old ≡ length text) }
-    ensures text { IsTrue result → IsMessageText (header_of message.now) (questions_of message.now)
-        (answers_of message.now) (authorities_of message.now) (additionals_of message.now) out.new }
-    ensures utf8 { IsTrue result → IsWellFormed out.new }
+    ensures shown { IsTrue result → IsMessageText (header_of message.now) (questions_of message.now)
+        (answers_of message.now) (authorities_of message.now) (additionals_of message.now) out.new
+        × IsWellFormed out.new }
     ensures len { length out.new ≡ length out.old }
 {
     put_in::<Brand>(message, out).is_shown
@@ -94,9 +95,9 @@ fn put_in<'a, K: Front>(message: &Message<&[u8]>, out: &'a mut [u8]) -> Shown<'a
         (answers_of message.now) (authorities_of message.now) (additionals_of message.now) text
         × (length out.old ≡ length text) }
     ensures same { result.octets.ghost_name ≡ out.entry.ghost_name }
-    ensures text { IsTrue result.is_shown → IsMessageText (header_of message.now) (questions_of message.now)
-        (answers_of message.now) (authorities_of message.now) (additionals_of message.now) result.octets.now }
-    ensures utf8 { IsTrue result.is_shown → IsWellFormed result.octets.now }
+    ensures shown { IsTrue result.is_shown → IsMessageText (header_of message.now) (questions_of message.now)
+        (answers_of message.now) (authorities_of message.now) (additionals_of message.now) result.octets.now
+        × IsWellFormed result.octets.now }
 {
     let mut f = fmt::Formatter::new(Writing::<K>::new(out));
     let shown = fmt::Display::fmt(message, &mut f);

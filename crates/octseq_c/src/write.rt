@@ -1,5 +1,5 @@
 //! DNS messages written: RFC 1035, 4.1. They are composed on the stack, and copied to the caller's buffer if they fit.
-ghost use Rattle.std.specs.Prelude.{◌≡◌, ◌≢◌, ◌↔◌, ◌⊎◌, ◌++◌, ◌<◌, ◌≤◌, ℕ, List, length, IfOk, IfSome, IsOk};
+ghost use Rattle.std.specs.Prelude.{◌≡◌, ◌≢◌, ◌↔◌, ◌⊎◌, ◌++◌, ◌+◌, ◌<◌, ◌≤◌, ℕ, List, length, IfOk, IfSome, IsOk};
 ghost use Rattle.octseq.specs.Integer.{octets_be};
 ghost use Rattle.octseq.specs.Refusal.{IsShort, IsMalformed};
 ghost use Rattle.octseq_dns.specs.Contents.{octets_of};
@@ -16,6 +16,7 @@ ghost use Rattle.octseq_c.specs.Status.{status_ok, status_no_room, status_malfor
 ghost use Rattle.octseq_c.specs.Status.{status_too_long};
 ghost use Rattle.octseq_c.specs.Texts.{Spells};
 
+use crate::message::message_of;
 use crate::names::spelled;
 use crate::room::put;
 use crate::status::{IMMOVABLE, MALFORMED, TOO_LONG};
@@ -46,7 +47,7 @@ pub extern "C" fn octseq_dns_rewrite(octets: &[u8], out: &mut [u8], written: &mu
         ⊎ (result ≡ status_immovable) ⊎ (result ≡ status_too_long) }
     ensures kept { result ≢ status_ok → out.new ≡ out.old }
 {
-    let status = match Message::parse(octets) {
+    let status = match message_of(octets) {
         Ok(message) => {
             let mut room = MessageOctets::new();
             match rewritten(&message, &mut room) {
@@ -115,22 +116,49 @@ fn query(id: u16, flags: u16, name: &Name<Array<255>>, qtype: u16, qclass: u16) 
     ensures { result.content ≡ query_header id flags ++ (wire (owned_labels name.now)
         ++ (octets_be 2 qtype ++ octets_be 2 qclass)) }
 {
-    let _len = name.len();
     let mut made = query_front(id, flags);
-    infallible(made.append_slice(name.as_slice()));
-    infallible(append_u16_be(&mut made, qtype));
-    infallible(append_u16_be(&mut made, qclass));
+    push(&mut made, wire_of(name));
+    push_u16(&mut made, qtype);
+    push_u16(&mut made, qclass);
     made
+}
+
+/// Returns the wire form of a name.
+fn wire_of(name: &Name<Array<255>>) -> &[u8]
+    ensures wire { result.now ≡ wire (owned_labels name.now) }
+    ensures short { length result.now ≤ 255 }
+{
+    let _len = name.len();
+    name.as_slice()
 }
 
 /// Begins a message with one question with its header.
 fn query_front(id: u16, flags: u16) -> Array<QUERY_MAX>
-    ensures { result.content ≡ query_header id flags }
+    ensures content { result.content ≡ query_header id flags }
+    ensures len { length result.content ≡ 12 }
 {
     let mut made = Array::new();
-    infallible(append_u16_be(&mut made, id));
-    infallible(append_u16_be(&mut made, flags));
-    infallible(append_u16_be(&mut made, 1));
-    infallible(made.append_slice(&[0; 6]));
+    push_u16(&mut made, id);
+    push_u16(&mut made, flags);
+    push_u16(&mut made, 1);
+    push(&mut made, &[0; 6]);
     made
+}
+
+/// Appends octets for which there is room.
+fn push<const N: usize>(made: &mut Array<N>, octets: &[u8])
+    requires { length made.old.content + length octets.now ≤ N }
+    ensures content { made.new.content ≡ made.old.content ++ octets.now }
+    ensures len { length made.new.content ≡ length made.old.content + length octets.now }
+{
+    infallible(made.append_slice(octets));
+}
+
+/// Appends an integer of two octets for which there is room.
+fn push_u16<const N: usize>(made: &mut Array<N>, number: u16)
+    requires { length made.old.content + 2 ≤ N }
+    ensures content { made.new.content ≡ made.old.content ++ octets_be 2 number }
+    ensures len { length made.new.content ≡ length made.old.content + 2 }
+{
+    infallible(append_u16_be(made, number));
 }

@@ -2,8 +2,18 @@ use Rattle.std.proofs.Common.{length, ◌∙◌, ap, refl, arith}
 use Rattle.octseq_dns.specs.Parsed.{additionals_of, answers_of, authorities_of, header_of, questions_of}
 use Rattle.octseq_c.specs.Made.{IsAnswer}
 use Rattle.octseq_c.proofs.OneAnswer.{answer_of, one_answer}
-use Rattle.octseq_c.proofs.Puts.{not_reported, puts_copied, puts_none, reported}
+use Rattle.octseq_c.proofs.Puts.{puts_copied, puts_none}
 use Rattle.octseq_c.proofs.answer.octseq_dns_answer.Goals as goal
+
+pub returns-in-Ok-clause-puts : goal.returns-in-Ok-clause-puts
+returns-in-Ok-clause-puts c = puts_none _ 6 (λ e. omega (arith, e)) (λ e. omega (arith, e)) (one_answer _ _ _ _)
+
+pub returns-in-Ok-2-clause-puts : goal.returns-in-Ok-2-clause-puts
+returns-in-Ok-2-clause-puts c = puts_none _ 4 (λ e. omega (arith, e)) (λ e. omega (arith, e)) (one_answer _ _ _ _)
+
+pub returns-in-Err-answer-clause-puts : goal.returns-in-Err-answer-clause-puts
+returns-in-Err-answer-clause-puts c =
+    puts_none _ 5 (λ e. omega (arith, e)) (λ e. omega (arith, e)) (one_answer _ _ _ _)
 
 pub returns-in-Ok-answer-clause-puts : goal.returns-in-Ok-answer-clause-puts
 returns-in-Ok-answer-clause-puts c =
@@ -26,16 +36,6 @@ returns-in-Ok-answer-clause-puts c =
     })
     c.put.ensures.count c.put.ensures.ok c.put.ensures.no_room
 
-pub returns-in-Ok-clause-puts : goal.returns-in-Ok-clause-puts
-returns-in-Ok-clause-puts c = puts_none _ 6 (λ e. omega (arith, e)) (λ e. omega (arith, e)) (one_answer _ _ _ _)
-
-pub returns-in-Ok-2-clause-puts : goal.returns-in-Ok-2-clause-puts
-returns-in-Ok-2-clause-puts c = puts_none _ 4 (λ e. omega (arith, e)) (λ e. omega (arith, e)) (one_answer _ _ _ _)
-
-pub returns-in-Err-answer-clause-puts : goal.returns-in-Err-answer-clause-puts
-returns-in-Err-answer-clause-puts c =
-    puts_none _ 5 (λ e. omega (arith, e)) (λ e. omega (arith, e)) (one_answer _ _ _ _)
-
 pub returns-in-Err-answer-clause-too_long : goal.returns-in-Err-answer-clause-too_long
 returns-in-Err-answer-clause-too_long c e few made is =
     let message = c.in-Ok.field-0 in
@@ -48,17 +48,3 @@ returns-in-Err-answer-clause-too_long c e few made is =
 
 pub returns-in-Err-clause-puts : goal.returns-in-Err-clause-puts
 returns-in-Err-clause-puts c = puts_none _ 2 (λ e. omega (arith, e)) (λ e. omega (arith, e)) (one_answer _ _ _ _)
-
-pub returns-in-Err-clause-malformed : goal.returns-in-Err-clause-malformed
-returns-in-Err-clause-malformed c =
-    reported 2 (λ some. c.in-Err.ensures.malformed refl some.0 some.1 some.2 some.3 some.4 some.5)
-
-pub returns-in-Err-clause-bad_row : goal.returns-in-Err-clause-bad_row
-returns-in-Err-clause-bad_row c =
-    not_reported 2 6 (λ e. omega (arith, e))
-    (λ p. let some = p.0 in c.in-Err.ensures.malformed refl some.0 some.1 some.2 some.3 some.4 some.5)
-
-pub returns-in-Err-clause-immovable : goal.returns-in-Err-clause-immovable
-returns-in-Err-clause-immovable c =
-    not_reported 2 4 (λ e. omega (arith, e))
-    (λ p. let some = p.0 in c.in-Err.ensures.malformed refl some.0 some.1 some.2 some.3 some.4 some.5)

@@ -1,4 +1,4 @@
-use Rattle.std.proofs.Common.{◌≡◌, inl, inr, ◌∙◌, refl}
+use Rattle.std.proofs.Common.{◌≡◌, inl, inr, ◌∙◌}
 use Rattle.octseq.specs.Window.{at, nested, whole}
 use Rattle.octseq_dns.specs.Pushed.{pushed_record}
 use Rattle.octseq_dns.specs.Rdata.{bare_rdata, rdata_fields, rtype_of}
@@ -11,7 +11,7 @@ use Rattle.octseq_c.proofs.answer.push_row.Goals as goal
 
 pub unreachable-requires : goal.unreachable-requires
 unreachable-requires g c =
-    c.in_default.ensures.malformed refl c.requires.row.labels c.requires.row.name
+    c.in_default.ensures.malformed c.requires.row.labels c.requires.row.name
 
 pub returns-clause-pushed : goal.returns-clause-pushed
 returns-clause-pushed g c =

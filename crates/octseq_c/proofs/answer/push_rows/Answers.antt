@@ -1,14 +1,13 @@
-use Rattle.std.proofs.Common.{◌+◌, ◌∷◌, [], drop, inl, inr, refl, sym, subst, arith}
+use Rattle.std.proofs.Common.{◌∷◌, [], inl, inr, refl, arith}
 use Rattle.std.proofs.lemmas.List.{drop_all}
-use Rattle.std.specs.List.{AllByRecursion, AllZip}
-use Rattle.octseq_c.specs.Made.{IsRecordAt, IsRow, in_section}
-use Rattle.octseq_c.proofs.RowsPushed.{Left, left_first, left_next, left_none, left_past, row_at, row_passed, row_taken}
-use Rattle.octseq_c.proofs.RowsPushed.{rows_step}
+use Rattle.octseq_dns.proofs.Anew.{ahead_first}
+use Rattle.octseq_c.specs.Made.{places_kept}
+use Rattle.octseq_c.proofs.RowsPushed.{left_next, left_none, left_past, row_passed, row_taken, rows_step}
 use Rattle.octseq_c.proofs.answer.push_rows.Goals as goal
 
 pub loop-row-init : goal.loop-row-init
 loop-row-init g c = record {
-  left = λ m written is are. left_first c.args.source.now g.S.RecordSection.more m written _ _ _ _ is are;
+  left = λ m written is are. ahead_first places_kept m written _ _ _ _ 0 is are;
   records = λ rest are. (rest, are);
   rows = c.requires.rows;
   unlimited = c.requires.unlimited;
@@ -19,19 +18,13 @@ loop-row-init g c = record {
 pub loop-row-preserved-then-row-section : goal.loop-row-preserved-then-row-section
 loop-row-preserved-then-row-section g c =
     let so_far = c.loop-row.invariant in
-    let now = c.loop-row.message in
-    let source = c.args.source.now in
-    let rows = c.args.rows.now in
     let at = c.loop-row.row-index in
-    let passed = row_passed c.args.section rows at c.loop-row-test.true c.if-row-section.true in
+    let passed = row_passed c.args.section c.args.rows.now at c.loop-row-test.true c.if-row-section.true in
     let room = so_far.room in
     record {
-      left = λ m written is are. subst (λ rows. Left source g.S.RecordSection.more m written rows now.state now.header
-          now.counts) passed (so_far.left m written is are);
-      records = λ rest are. so_far.records rest
-          (subst (λ rows. AllZip (IsRecordAt source) rows rest) (sym passed) are);
-      rows = (subst (AllByRecursion (IsRow source)) (rows_step c.args.section rows at c.loop-row-test.true)
-          so_far.rows).1;
+      left = λ m written is are. rw passed at (so_far.left m written is are);
+      records = λ rest are. so_far.records rest (rw passed are);
+      rows = (rw (rows_step c.args.section c.args.rows.now at c.loop-row-test.true) at so_far.rows).1;
       unlimited = so_far.unlimited;
       room = omega (arith, room);
     }
@@ -40,26 +33,16 @@ loop-row-preserved-then-row-section g c =
 pub loop-row-preserved : goal.loop-row-preserved
 loop-row-preserved g c =
     let so_far = c.loop-row.invariant in
-    let now = c.loop-row.message in
-    let next = c.push_row.new.message in
     let went = c.in_ok-push_row.ensures in
-    let source = c.args.source.now in
-    let rows = c.args.rows.now in
     let at = c.loop-row.row-index in
-    let more = g.S.RecordSection.more in
-    let taken = row_taken c.args.section rows at c.loop-row-test.true c.if-row-section.false in
+    let taken = row_taken c.args.section c.args.rows.now at c.loop-row-test.true c.if-row-section.false in
     let room = so_far.room in
     let counts = went.counts in
     record {
-      left = λ m written is are. left_next g.met.S.RecordSection.takes_records source m written (row_at rows at)
-          (in_section c.args.section (drop (at + 1) rows)) now.state now.header now.counts
-          (subst (λ rows. Left source more m written rows now.state now.header now.counts) taken
-          (so_far.left m written is are))
-          went.pushed.0 went.pushed.1 went.reaches next.state next.header next.counts went.pushed.2;
-      records = λ rest are. so_far.records (went.pushed.0 ∷ rest)
-          (subst (λ rows. AllZip (IsRecordAt source) rows (went.pushed.0 ∷ rest)) (sym taken) (went.pushed.1, are));
-      rows = (subst (AllByRecursion (IsRow source)) (rows_step c.args.section rows at c.loop-row-test.true)
-          so_far.rows).1;
+      left = λ m written is are. left_next g.met.S.RecordSection.takes_records
+          (rw taken at (so_far.left m written is are)) went.pushed.0 went.pushed.1 went.reaches went.pushed.2;
+      records = λ rest are. so_far.records (went.pushed.0 ∷ rest) (rw taken (went.pushed.1, are));
+      rows = (rw (rows_step c.args.section c.args.rows.now at c.loop-row-test.true) at so_far.rows).1;
       unlimited = went.unlimited;
       room = omega (arith, room, counts);
     }
@@ -68,17 +51,11 @@ loop-row-preserved g c =
 pub returns-in_err-push_row-clause-short : goal.returns-in_err-push_row-clause-short
 returns-in_err-push_row-clause-short g c err m written is are room =
     let so_far = c.loop-row.invariant in
-    let now = c.loop-row.message in
     let went = c.in_err-push_row.ensures in
-    let source = c.args.source.now in
-    let rows = c.args.rows.now in
-    let at = c.loop-row.row-index in
-    let taken = row_taken c.args.section rows at c.loop-row-test.true c.if-row-section.false in
+    let taken = row_taken c.args.section c.args.rows.now c.loop-row.row-index c.loop-row-test.true
+    c.if-row-section.false in
     elim (went.pushed.3 refl) [
-      | inl past ↦ left_past g.met.S.RecordSection.takes_records source m written (row_at rows at)
-          (in_section c.args.section (drop (at + 1) rows)) now.state now.header now.counts
-          (subst (λ rows. Left source g.S.RecordSection.more m written rows now.state now.header now.counts) taken
-          (so_far.left m written is are))
+      | inl past ↦ left_past g.met.S.RecordSection.takes_records (rw taken at (so_far.left m written is are))
           went.pushed.0 went.pushed.1 went.reaches past
       | inr full ↦ let few = so_far.room in let within = c.loop-row-test.true in
           absurd (omega (arith, full, few, within, room))
@@ -86,11 +63,9 @@ returns-in_err-push_row-clause-short g c err m written is are room =
 
 pub returns-clause-records : goal.returns-clause-records
 returns-clause-records g c =
-    c.loop-row.invariant.records [] (subst (λ rows. AllZip (IsRecordAt c.args.source.now)
-    (in_section c.args.section rows) []) (sym (drop_all c.loop-row.row-index c.args.rows.now c.loop-row-test.false)) tt)
+    c.loop-row.invariant.records [] (rw (drop_all c.loop-row.row-index c.args.rows.now c.loop-row-test.false) tt)
 
 pub returns-clause-written : goal.returns-clause-written
 returns-clause-written g c m written is are =
-    let now = c.loop-row.message in
-    left_none c.args.source.now g.S.RecordSection.more m written c.args.section c.args.rows.now c.loop-row.row-index
-    now.state now.header now.counts c.loop-row-test.false (c.loop-row.invariant.left m written is are)
+    left_none c.args.section c.args.rows.now c.loop-row.row-index c.loop-row-test.false
+    (c.loop-row.invariant.left m written is are)

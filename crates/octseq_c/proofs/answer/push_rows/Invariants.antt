@@ -1,5 +1,5 @@
 -- Whatever is made of the rows, a message so far becomes it by what is made of those that are left.
-use Rattle.std.proofs.Common.{◌≡◌, ◌+◌, ◌≤◌, List, None, drop}
+use Rattle.std.proofs.Common.{◌≡◌, ◌+◌, ◌≤◌, List, None, drop, length}
 use Rattle.std.specs.List.{AllByRecursion, AllZip}
 use Rattle.octseq_dns.specs.Contents.{Message, Record}
 use Rattle.octseq_dns.specs.Writes.{Writes}
@@ -13,7 +13,7 @@ invariant-loop-row g l = record {
       → Writes places_kept m l.fn.builder.state l.fn.builder.header l.fn.builder.counts
       → AllZip (IsRecordAt l.source) (in_section l.section l.rows) written
       → Left l.source g.S.RecordSection.more m written (in_section l.section (drop l.row-index l.rows))
-      l.message.state l.message.header l.message.counts;
+      l.message.state l.message.header l.message.counts (length l.fn.builder.state.octets);
   records : (rest : List Record)
       → AllZip (IsRecordAt l.source) (in_section l.section (drop l.row-index l.rows)) rest
       → (written : List Record) × AllZip (IsRecordAt l.source) (in_section l.section l.rows) written;

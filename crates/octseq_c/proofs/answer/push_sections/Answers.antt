@@ -1,25 +1,26 @@
-use Rattle.std.proofs.Common.{Some, [], ap, refl, arith}
-use Rattle.octseq_dns.proofs.Stages.{asked, of_sections}
-use Rattle.octseq_c.specs.Made.{places_kept}
-use Rattle.octseq_c.proofs.AnswerBegun.{on_ok}
-use Rattle.octseq_c.proofs.Sections.{additionals_pushed, answered, answers_pushed, authorities_pushed, authorized}
-use Rattle.octseq_c.proofs.Sections.{past_additionals, past_answers, past_authorities}
-use Rattle.octseq_c.proofs.answer.push_sections.Goals as goal
+use Rattle.std.proofs.Common.{[], ap, refl, arith}
 use Rattle.std.proofs.lemmas.Result.{IfOk-weaker}
+use Rattle.octseq_dns.proofs.Stages.{asked, of_sections, stage_next}
+use Rattle.octseq_c.specs.Made.{places_kept}
+use Rattle.octseq_c.proofs.AnswerBegun.{on_ok, additionals_are, answered, answers_are, authorities_are, authorized}
+use Rattle.octseq_c.proofs.AnswerBegun.{answered_short, authorized_short}
+use Rattle.octseq_c.proofs.answer.push_sections.Goals as goal
 
 pub returns-in_err-answered-clause-short : goal.returns-in_err-answered-clause-short
 returns-in_err-answered-clause-short c err m has w1 few =
     let none = ap (λ k. k.ancount) w1.counts_are in
-    past_answers (Some 65535) places_kept m
-    (c.in_err-answered.ensures.short refl (asked m) m.answers w1 has.answers_are (omega (arith, none, few)))
+    let past = rw answers_are at
+    (c.in_err-answered.ensures.short refl (asked m) m.answers w1 has.answers_are (omega (arith, none, few))) in
+    omega (arith, past, answered_short m places_kept)
 
 pub returns-in_err-authorized-clause-short : goal.returns-in_err-authorized-clause-short
 returns-in_err-authorized-clause-short c err m has w1 few =
-    let w2 = answers_pushed places_kept c.in_ok-answered.answered c.authority.result m
-    (c.in_ok-answered.ensures.written (asked m) m.answers w1 has.answers_are) c.authority.ensures in
+    let w2 = stage_next places_kept c.in_ok-answered.answered c.authority.result _ (answered m)
+    (c.in_ok-answered.ensures.written (asked m) m.answers w1 has.answers_are) (answers_are m) c.authority.ensures in
     let none = ap (λ k. k.nscount) w2.counts_are in
-    past_authorities (Some 65535) places_kept m
-    (c.in_err-authorized.ensures.short refl (answered m) m.authorities w2 has.authorities_are (omega (arith, none, few)))
+    let past = rw authorities_are at
+    (c.in_err-authorized.ensures.short refl (answered m) m.authorities w2 has.authorities_are (omega (arith, none, few))) in
+    omega (arith, past, authorized_short m places_kept)
 
 pub returns-clause-records : goal.returns-clause-records
 returns-clause-records c =
@@ -33,19 +34,21 @@ returns-clause-records c =
 pub returns-clause-written : goal.returns-clause-written
 returns-clause-written c =
     IfOk-weaker c.push_rows-3.result _ _ (λ b pushed m has w1.
-    let w2 = answers_pushed places_kept c.in_ok-answered.answered c.authority.result m
-    (c.in_ok-answered.ensures.written (asked m) m.answers w1 has.answers_are) c.authority.ensures in
-    let w3 = authorities_pushed places_kept c.in_ok-authorized.authorized c.additional.result m
-    (c.in_ok-authorized.ensures.written (answered m) m.authorities w2 has.authorities_are) c.additional.ensures in
-    additionals_pushed places_kept b b m (pushed (authorized m) m.additionals w3 has.additionals_are) refl)
+    let w2 = stage_next places_kept c.in_ok-answered.answered c.authority.result _ (answered m)
+    (c.in_ok-answered.ensures.written (asked m) m.answers w1 has.answers_are) (answers_are m) c.authority.ensures in
+    let w3 = stage_next places_kept c.in_ok-authorized.authorized c.additional.result _ (authorized m)
+    (c.in_ok-authorized.ensures.written (answered m) m.authorities w2 has.authorities_are) (authorities_are m)
+    c.additional.ensures in
+    rw additionals_are at (pushed (authorized m) m.additionals w3 has.additionals_are))
     c.push_rows-3.ensures.written
 
 pub returns-clause-short : goal.returns-clause-short
 returns-clause-short c err m has w1 few =
-    let w2 = answers_pushed places_kept c.in_ok-answered.answered c.authority.result m
-    (c.in_ok-answered.ensures.written (asked m) m.answers w1 has.answers_are) c.authority.ensures in
-    let w3 = authorities_pushed places_kept c.in_ok-authorized.authorized c.additional.result m
-    (c.in_ok-authorized.ensures.written (answered m) m.authorities w2 has.authorities_are) c.additional.ensures in
+    let w2 = stage_next places_kept c.in_ok-answered.answered c.authority.result _ (answered m)
+    (c.in_ok-answered.ensures.written (asked m) m.answers w1 has.answers_are) (answers_are m) c.authority.ensures in
+    let w3 = stage_next places_kept c.in_ok-authorized.authorized c.additional.result _ (authorized m)
+    (c.in_ok-authorized.ensures.written (answered m) m.authorities w2 has.authorities_are) (authorities_are m)
+    c.additional.ensures in
     let none = ap (λ k. k.arcount) w3.counts_are in
-    past_additionals (Some 65535) places_kept m
+    rw additionals_are at
     (c.push_rows-3.ensures.short err (authorized m) m.additionals w3 has.additionals_are (omega (arith, none, few)))

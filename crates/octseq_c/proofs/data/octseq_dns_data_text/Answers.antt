@@ -3,7 +3,7 @@ use Rattle.octseq.specs.Text.{IsWellFormed}
 use Rattle.octseq_dns_data.specs.RdataText.{rdata_text}
 use Rattle.octseq_dns_data.specs.Typed.{rdata_of}
 use Rattle.octseq_c.specs.Texts.{IsDataText}
-use Rattle.octseq_c.proofs.OneData.{one_data_text}
+use Rattle.octseq_c.proofs.OneTexts.{one_data_text}
 use Rattle.octseq_c.proofs.Puts.{puts_as}
 use Rattle.octseq_c.proofs.data.octseq_dns_data_text.Goals as goal
 

@@ -2,8 +2,7 @@ use Rattle.std.proofs.Common.{arith, ◌∙◌, ◌++◌}
 use Rattle.octseq_utf8.specs.Parts.{text}
 use Rattle.octseq_c.specs.LossyText.{IsLossyText}
 use Rattle.octseq_c.proofs.Puts.{puts_ok, puts_no_room, puts_none, reported, not_reported}
-use Rattle.octseq_c.proofs.Reported.{fills_both, fits}
-use Rattle.octseq_c.proofs.Reported.{lossy_past, lossy_made, lossy_len, lossy_past_end}
+use Rattle.octseq_c.proofs.Reported.{fills_both, lossy_fits, lossy_past, lossy_made, lossy_len, lossy_past_end}
 use Rattle.octseq_c.proofs.Wholes.{one_lossy_text}
 use Rattle.octseq_c.proofs.lossy.octseq_lossy.Goals as goal
 
@@ -36,12 +35,8 @@ returns-then-len-out-clause-puts c =
 
 pub returns-then-len-out-clause-too_long : goal.returns-then-len-out-clause-too_long
 returns-then-len-out-clause-too_long c =
-    let m = c.in-Some.ensures.measured in
-    let end = c.replacement-end.result.now in
     not_reported 1 5 (λ e. omega arith)
-    (fits {Is = IsLossyText c.args.octets.now} (one_lossy_text _) (text m.settled ++ end)
-    (lossy_made m end c.replacement-end.ensures)
-    (omega (arith, c.in-Some-checked_add.ensures.0, lossy_len m end)))
+    (lossy_fits c.in-Some.ensures.measured _ c.replacement-end.ensures c.in-Some-checked_add.ensures.0)
 
 -- it was written
 
@@ -58,9 +53,5 @@ returns-clause-puts c =
 
 pub returns-clause-too_long : goal.returns-clause-too_long
 returns-clause-too_long c =
-    let m = c.in-Some.ensures.measured in
-    let end = c.replacement-end.result.now in
     not_reported 0 5 (λ e. omega arith)
-    (fits {Is = IsLossyText c.args.octets.now} (one_lossy_text _) (text m.settled ++ end)
-    (lossy_made m end c.replacement-end.ensures)
-    (omega (arith, c.in-Some-checked_add.ensures.0, lossy_len m end)))
+    (lossy_fits c.in-Some.ensures.measured _ c.replacement-end.ensures c.in-Some-checked_add.ensures.0)

@@ -1,7 +1,7 @@
-use Rattle.std.proofs.Common.{refl, ap, ◌∙◌}
+use Rattle.std.proofs.Common.{ap, ◌∙◌}
 use Rattle.octseq_dns_name.specs.Order.{name_cmp}
 use Rattle.octseq_dns_name.specs.Read.{labels_of}
-use Rattle.octseq_c.proofs.OneNames.{one_at}
+use Rattle.octseq_c.proofs.OneTexts.{one_at}
 use Rattle.octseq_c.proofs.Orders.{stored}
 use Rattle.octseq_c.proofs.Puts.{reported}
 use Rattle.octseq_c.proofs.names.octseq_dns_name_compare.Goals as goal
@@ -15,4 +15,4 @@ returns-in-Ok-Ok-clause-ok c = λ ok labels others one other.
 
 pub returns-in_default-2-clause-malformed : goal.returns-in_default-2-clause-malformed
 returns-in_default-2-clause-malformed c =
-    reported 2 (λ labels others one other. c.in_default.ensures.malformed refl labels one)
+    reported 2 (λ labels others one other. c.in_default.ensures.malformed labels one)

@@ -1,8 +1,7 @@
-use Rattle.std.proofs.Common.{arith}
 use Rattle.octseq_dns_name.specs.Owned.{owned_labels}
 use Rattle.octseq_c.specs.Texts.{IsSpelledWire}
-use Rattle.octseq_c.proofs.OneNames.{one_spelled_wire}
-use Rattle.octseq_c.proofs.Puts.{puts_copied, puts_none, reported}
+use Rattle.octseq_c.proofs.OneTexts.{one_spelled_wire}
+use Rattle.octseq_c.proofs.Puts.{puts_copied}
 use Rattle.octseq_c.proofs.names.octseq_dns_name_from_text.Goals as goal
 
 pub returns-in-Some-clause-puts : goal.returns-in-Some-clause-puts
@@ -10,10 +9,3 @@ returns-in-Some-clause-puts c =
     puts_copied (IsSpelledWire c.args.text.now) (one_spelled_wire c.args.text.now) c.as_slice.result.now
     (owned_labels c.in-Some.name, c.in-Some.ensures.some, c.as_slice.ensures) c.put.ensures.count c.put.ensures.ok
     c.put.ensures.no_room
-
-pub returns-in-None-clause-puts : goal.returns-in-None-clause-puts
-returns-in-None-clause-puts c =
-    puts_none (IsSpelledWire c.args.text.now) 2 (λ e. omega arith) (λ e. omega arith) (one_spelled_wire c.args.text.now)
-
-pub returns-in-None-clause-malformed : goal.returns-in-None-clause-malformed
-returns-in-None-clause-malformed c = reported 2 c.in-None.ensures.none

@@ -3,8 +3,8 @@ use Rattle.octseq.specs.Text.{IsWellFormed}
 use Rattle.octseq_dns_name.specs.Read.{labels_of}
 use Rattle.octseq_dns_name.specs.Text.{name_text}
 use Rattle.octseq_c.specs.Texts.{IsNameText}
-use Rattle.octseq_c.proofs.OneNames.{one_name_text}
-use Rattle.octseq_c.proofs.Puts.{puts_as, puts_none, reported}
+use Rattle.octseq_c.proofs.OneTexts.{one_name_text}
+use Rattle.octseq_c.proofs.Puts.{puts_as, puts_none}
 use Rattle.octseq_c.proofs.names.octseq_dns_name_text.Goals as goal
 
 pub returns-in-Ok-clause-puts : goal.returns-in-Ok-clause-puts
@@ -22,6 +22,3 @@ returns-in-Ok-clause-utf8 c = λ ok text is.
 pub returns-in-Err-clause-puts : goal.returns-in-Err-clause-puts
 returns-in-Err-clause-puts c =
     puts_none (IsNameText c.args.octets.now c.args.place) 2 (λ e. omega arith) (λ e. omega arith) (one_name_text c.args.octets.now c.args.place)
-
-pub returns-in-Err-clause-malformed : goal.returns-in-Err-clause-malformed
-returns-in-Err-clause-malformed c = reported 2 (c.in-Err.ensures.malformed refl)

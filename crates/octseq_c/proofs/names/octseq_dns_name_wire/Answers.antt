@@ -1,8 +1,8 @@
-use Rattle.std.proofs.Common.{◌∙◌, arith, refl}
+use Rattle.std.proofs.Common.{◌∙◌, arith}
 use Rattle.octseq_dns_name.specs.Read.{labels_of}
 use Rattle.octseq_c.specs.Texts.{IsNameWire}
-use Rattle.octseq_c.proofs.OneNames.{one_name_wire}
-use Rattle.octseq_c.proofs.Puts.{puts_copied, puts_none, reported}
+use Rattle.octseq_c.proofs.OneTexts.{one_name_wire}
+use Rattle.octseq_c.proofs.Puts.{puts_copied, puts_none}
 use Rattle.octseq_c.proofs.names.octseq_dns_name_wire.Goals as goal
 
 pub returns-in-Ok-clause-puts : goal.returns-in-Ok-clause-puts
@@ -15,6 +15,3 @@ returns-in-Ok-clause-puts c =
 pub returns-in-Err-clause-puts : goal.returns-in-Err-clause-puts
 returns-in-Err-clause-puts c =
     puts_none (IsNameWire c.args.octets.now c.args.place) 2 (λ e. omega arith) (λ e. omega arith) (one_name_wire c.args.octets.now c.args.place)
-
-pub returns-in-Err-clause-malformed : goal.returns-in-Err-clause-malformed
-returns-in-Err-clause-malformed c = reported 2 (c.in-Err.ensures.malformed refl)

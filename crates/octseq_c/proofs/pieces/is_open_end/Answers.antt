@@ -1,5 +1,5 @@
 use Rattle.std.proofs.Common.{rules}
-use Rattle.octseq_c.proofs.OpenEnds.{is_its_end, past_none}
+use Rattle.octseq_c.proofs.Reported.{is_its_end, past_none}
 use Rattle.octseq_c.proofs.pieces.is_open_end.Goals as goal
 
 pub returns-in-Some : goal.returns-in-Some

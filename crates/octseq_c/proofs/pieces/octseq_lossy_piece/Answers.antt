@@ -1,8 +1,8 @@
 use Rattle.std.proofs.Common.{arith, ap, refl, sym, ◌∙◌, ◌++◌, drop}
 use Rattle.octseq_utf8.specs.Parts.{text}
-use Rattle.octseq_c.proofs.Readings.{both_text, both_past, both_fit, both_settle, end_few}
+use Rattle.octseq_c.proofs.Reported.{both_text, both_past, both_fit, both_settle, end_few, fills_both, one_settled_text}
+use Rattle.octseq_c.proofs.Reported.{state_left}
 use Rattle.octseq_c.proofs.Puts.{puts_ok, puts_no_room, puts_none, reported, not_reported}
-use Rattle.octseq_c.proofs.Reported.{fills_both, one_settled_text, state_left}
 use Rattle.octseq_c.proofs.pieces.octseq_lossy_piece.Goals as goal
 
 -- the text is too long

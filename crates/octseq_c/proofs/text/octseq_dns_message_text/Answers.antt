@@ -1,9 +1,9 @@
-use Rattle.std.proofs.Common.{refl, arith}
+use Rattle.std.proofs.Common.{arith}
 use Rattle.octseq_dns_message.specs.Parsed.{header_of, questions_of, answers_of, authorities_of, additionals_of}
 use Rattle.octseq_c.specs.Texts.{IsTextOf}
 use Rattle.octseq_dns_message.proofs.Messages.{said_once}
-use Rattle.octseq_c.proofs.OneMessages.{moved_text, one_text_of}
-use Rattle.octseq_c.proofs.Puts.{puts_as, puts_none, reported}
+use Rattle.octseq_c.proofs.OneTexts.{moved_text, one_text_of}
+use Rattle.octseq_c.proofs.Puts.{puts_as, puts_none}
 use Rattle.octseq_c.proofs.text.octseq_dns_message_text.Goals as goal
 
 pub returns-in-Ok-clause-puts : goal.returns-in-Ok-clause-puts
@@ -27,8 +27,3 @@ returns-in-Ok-clause-utf8 c = λ ok text is.
 pub returns-in-Err-clause-puts : goal.returns-in-Err-clause-puts
 returns-in-Err-clause-puts c =
     puts_none (IsTextOf c.args.octets.now) 2 (λ e. omega arith) (λ e. omega arith) (one_text_of c.args.octets.now)
-
-pub returns-in-Err-clause-malformed : goal.returns-in-Err-clause-malformed
-returns-in-Err-clause-malformed c =
-    reported 2 (λ (header, questions, answers, authorities, additionals, is).
-    c.in-Err.ensures.malformed refl header questions answers authorities additionals is)

@@ -8,6 +8,10 @@ pub returns-in_default-clause-puts : goal.returns-in_default-clause-puts
 returns-in_default-clause-puts c =
     puts_none _ 8 (λ e. omega arith) (λ e. omega arith) (one_message_text _ _ _ _ _)
 
+pub returns-else-put_whole-clause-puts : goal.returns-else-put_whole-clause-puts
+returns-else-put_whole-clause-puts c =
+    puts_none _ 8 (λ e. omega arith) (λ e. omega arith) (one_message_text _ _ _ _ _)
+
 pub returns-then-len-out-clause-puts : goal.returns-then-len-out-clause-puts
 returns-then-len-out-clause-puts c =
     let (text, is, long) = c.in-Some.ensures in
@@ -15,17 +19,14 @@ returns-then-len-out-clause-puts c =
 
 pub returns-then-put_whole-clause-puts : goal.returns-then-put_whole-clause-puts
 returns-then-put_whole-clause-puts c =
+    let shown = c.if-put_whole.ensures.shown refl in
     let (text, is, long) = c.in-Some.ensures in
-    let same = one_message_text _ _ _ _ _ _ _ (c.if-put_whole.ensures.text refl) is in
-    puts_ok _ (one_message_text _ _ _ _ _) c.put_whole.new.out (c.if-put_whole.ensures.text refl)
+    let same = one_message_text _ _ _ _ _ _ _ shown.0 is in
+    puts_ok _ (one_message_text _ _ _ _ _) c.put_whole.new.out shown.0
     (omega (arith, ap length same, long, c.if-len-out.false)) (long ∙ sym (ap length same))
     (ap (λ k. c.put_whole.new.out ++ drop k c.args.out.now) (omega (arith, ap length same, long)))
 
 pub returns-then-put_whole-clause-utf8 : goal.returns-then-put_whole-clause-utf8
 returns-then-put_whole-clause-utf8 c = λ ok text is.
-    subst IsWellFormed (one_message_text _ _ _ _ _ _ _ (c.if-put_whole.ensures.text refl) is)
-    (c.if-put_whole.ensures.utf8 refl)
-
-pub returns-else-put_whole-clause-puts : goal.returns-else-put_whole-clause-puts
-returns-else-put_whole-clause-puts c =
-    puts_none _ 8 (λ e. omega arith) (λ e. omega arith) (one_message_text _ _ _ _ _)
+    let shown = c.if-put_whole.ensures.shown refl in
+    subst IsWellFormed (one_message_text _ _ _ _ _ _ _ shown.0 is) shown.1

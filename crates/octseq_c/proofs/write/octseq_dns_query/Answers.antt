@@ -1,7 +1,7 @@
 use Rattle.std.proofs.Common.{◌∙◌}
 use Rattle.octseq_dns_name.specs.Owned.{owned_labels}
 use Rattle.octseq_c.specs.Made.{IsQuery}
-use Rattle.octseq_c.proofs.OneNames.{one_query}
+use Rattle.octseq_c.proofs.OneTexts.{one_query}
 use Rattle.octseq_c.proofs.Puts.{puts_copied}
 use Rattle.octseq_c.proofs.write.octseq_dns_query.Goals as goal
 

@@ -1,25 +1,21 @@
-use Rattle.std.proofs.Common.{length, arith, ap, sym, ◌∙◌, refl, subst, inr}
-use Rattle.octseq_dns_message.specs.Parsed.{header_of, questions_of, answers_of, authorities_of, additionals_of}
+use Rattle.std.proofs.Common.{length, arith, ap, sym, ◌∙◌, refl}
 use Rattle.octseq_dns_message.proofs.Messages.{said_once}
-use Rattle.octseq.specs.Refusal.{Is, Refusal}
-use Rattle.octseq_dns.specs.Rewritten.{rewrite_error}
 use Rattle.octseq_c.specs.Made.{IsRewritten}
 use Rattle.octseq_c.proofs.OneRewriting.{moved_can, moved_contents, no_memory, not_both, one_rewriting, stable}
-use Rattle.octseq_c.proofs.Puts.{not_reported, puts_copied, puts_none, reported}
+use Rattle.octseq_c.proofs.Puts.{not_reported, puts_copied, puts_none}
 use Rattle.octseq_c.proofs.write.octseq_dns_rewrite.Goals as goal
 
 -- ---- it was written
 
 is_rewritten : (c : goal.After-slice_known-in-Ok-rewritten-1) → IsRewritten c.args.octets.now c.as_slice.result.now
 is_rewritten c =
-    let message = c.in-Ok.message in
     let (contents, same, octets) = c.in-Ok-rewritten.ensures.made in
     record {
-      header = header_of message;
-      questions = questions_of message;
-      answers = answers_of message;
-      authorities = authorities_of message;
-      additionals = additionals_of message;
+      header = _;
+      questions = _;
+      answers = _;
+      authorities = _;
+      additionals = _;
       message = c.in-Ok.ensures.message;
       moved = stable _ _ _ (λ not. c.in-Ok-rewritten.ensures.immovable.1 not);
       contents = contents;
@@ -56,43 +52,31 @@ returns-in-Err-Immovable-clause-puts c =
 pub returns-in-Err-Immovable-clause-too_long : goal.returns-in-Err-Immovable-clause-too_long
 returns-in-Err-Immovable-clause-too_long c = λ made is.
     let same = said_once c.args.octets.now _ _ _ _ _ _ _ _ _ _ is.message c.in-Ok.ensures.message in
-    absurd (c.in-Err-Immovable.ensures.immovable.0
-    (subst (λ e. Is Refusal.malformed (rewrite_error e)) (sym c.in-Err-Immovable.field-0-is) tt) (moved_can same.2 same.3 same.4 is.moved))
+    absurd (c.in-Err-Immovable.ensures.immovable.0 (rw c.in-Err-Immovable.field-0-is tt)
+    (moved_can same.2 same.3 same.4 is.moved))
 
 -- ---- it is too long
 
-pub returns-in-Err-Short : goal.returns-in-Err-Short
-returns-in-Err-Short c =
-    let message = c.in-Ok.message in
-    record {
-      puts = puts_none (IsRewritten c.args.octets.now) 5 (λ e. omega arith) (λ e. omega arith)
-          (one_rewriting c.args.octets.now);
-      malformed = not_reported 5 2 (λ e. omega arith) (λ not. not (
-        header_of message,
-        questions_of message,
-        answers_of message,
-        authorities_of message,
-        additionals_of message,
-        c.in-Ok.ensures.message,
-      ));
-      immovable = not_reported 5 4 (λ e. omega arith) (λ is.
-          let same = said_once c.args.octets.now _ _ _ _ _ _ _ _ _ _ is.message c.in-Ok.ensures.message in
-          let refused = c.in-Err-Short.ensures.immovable.1
-          (λ can. is.stays (moved_can (sym same.2) (sym same.3) (sym same.4) can)) in
-          subst (λ e. Is Refusal.malformed (rewrite_error e)) c.in-Err-Short.field-0-is refused);
-      too_long = λ made is. (
-        λ e.
-            let same = said_once c.args.octets.now _ _ _ _ _ _ _ _ _ _ is.message c.in-Ok.ensures.message in
-            let long = c.in-Err-Short.ensures.short
-            (subst (λ e. Is Refusal.short (rewrite_error e)) (sym c.in-Err-Short.field-0-is) tt) is.contents
-            (moved_contents is.contents same.0 same.1 same.2 same.3 same.4 is.same) in
-            let octets = ap length is.made_is in
-            omega (arith, long, octets),
-        λ long. refl,
-      );
-      only = inr (inr (inr (inr refl)));
-      kept = λ n. refl;
-    }
+pub returns-in-Err-Short-clause-puts : goal.returns-in-Err-Short-clause-puts
+returns-in-Err-Short-clause-puts c =
+    puts_none (IsRewritten c.args.octets.now) 5 (λ e. omega arith) (λ e. omega arith) (one_rewriting c.args.octets.now)
+
+pub returns-in-Err-Short-clause-immovable : goal.returns-in-Err-Short-clause-immovable
+returns-in-Err-Short-clause-immovable c =
+    not_reported 5 4 (λ e. omega arith) (λ is.
+    let same = said_once c.args.octets.now _ _ _ _ _ _ _ _ _ _ is.message c.in-Ok.ensures.message in
+    rw c.in-Err-Short.field-0-is at (c.in-Err-Short.ensures.immovable.1
+    (λ can. is.stays (moved_can (sym same.2) (sym same.3) (sym same.4) can))))
+
+pub returns-in-Err-Short-clause-too_long : goal.returns-in-Err-Short-clause-too_long
+returns-in-Err-Short-clause-too_long c = λ made is. (
+  λ e.
+      let same = said_once c.args.octets.now _ _ _ _ _ _ _ _ _ _ is.message c.in-Ok.ensures.message in
+      let long = c.in-Err-Short.ensures.short (rw c.in-Err-Short.field-0-is tt) is.contents
+      (moved_contents is.contents same.0 same.1 same.2 same.3 same.4 is.same) in
+      omega (arith, long, ap length is.made_is),
+  λ long. refl,
+)
 
 -- ---- nothing requests memory
 
@@ -106,16 +90,9 @@ pub returns-in-Err-clause-puts : goal.returns-in-Err-clause-puts
 returns-in-Err-clause-puts c =
     puts_none (IsRewritten c.args.octets.now) 2 (λ e. omega arith) (λ e. omega arith) (one_rewriting c.args.octets.now)
 
-pub returns-in-Err-clause-malformed : goal.returns-in-Err-clause-malformed
-returns-in-Err-clause-malformed c =
-    reported 2 (λ (header, questions, answers, authorities, additionals, is).
-    c.in-Err.ensures.malformed refl header questions answers authorities additionals is)
-
 pub returns-in-Err-clause-immovable : goal.returns-in-Err-clause-immovable
 returns-in-Err-clause-immovable c =
-    not_reported 2 4 (λ e. omega arith) (λ is.
-    c.in-Err.ensures.malformed refl is.header is.questions is.answers is.authorities is.additionals is.message)
+    not_reported 2 4 (λ e. omega arith) (λ is. c.in-Err.ensures.malformed (_, _, _, _, _, is.message))
 
 pub returns-in-Err-clause-too_long : goal.returns-in-Err-clause-too_long
-returns-in-Err-clause-too_long c = λ made is.
-    absurd (c.in-Err.ensures.malformed refl is.header is.questions is.answers is.authorities is.additionals is.message)
+returns-in-Err-clause-too_long c = λ made is. absurd (c.in-Err.ensures.malformed (_, _, _, _, _, is.message))
