@@ -7,6 +7,10 @@ ghost use Rattle.octseq_c.specs.Rows.{IsSomeMessage};
 use octseq_dns::{Malformed, Message};
 
 /// Reads all the octets as a message.
+///
+/// # Errors
+///
+/// `Malformed` if they aren't one.
 pub fn message_of(octets: &[u8]) -> Result<Message<&[u8]>, Malformed>
     ensures message { IfOk result (λ message. IsMessage octets.now (header_of message) (questions_of message)
         (answers_of message) (authorities_of message) (additionals_of message)) }

@@ -223,7 +223,8 @@ where
 
     ghost read_back = { case_read_back F.read_back C.read_back };
 
-    ghost delimited = { λ yes. delimited_case (F.delimited (F.Delimited.both yes).0) (C.delimited (F.Delimited.both yes).1) };
+    ghost delimited = { λ yes. delimited_case (F.delimited (F.Delimited.both yes).0) (C.delimited (F.Delimited.both
+        yes).1) };
 }
 
 /// `F` if the tag is `N`, otherwise an error. It ends a list of cases.

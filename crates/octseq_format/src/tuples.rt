@@ -258,7 +258,8 @@ impl<
 
     ghost read_back = { A.delimited refl back_then B.delimited refl back_then C.delimited refl back_then D.read_back };
 
-    ghost delimited = { λ yes. A.delimited refl delimited_then B.delimited refl delimited_then C.delimited refl delimited_then D.delimited yes };
+    ghost delimited = { λ yes. A.delimited refl delimited_then B.delimited refl delimited_then C.delimited refl
+        delimited_then D.delimited yes };
 
     ghost moving = { λ yes. some_more (B.least + (C.least + D.least)) (A.moving yes) };
 }
@@ -348,10 +349,11 @@ impl<
 
     ghost onward = { A.onward onward_then B.onward onward_then C.onward onward_then D.onward onward_then E.onward };
 
-    ghost read_back = { A.delimited refl back_then B.delimited refl back_then C.delimited refl back_then D.delimited refl
-        back_then E.read_back };
+    ghost read_back = { A.delimited refl back_then B.delimited refl back_then C.delimited refl back_then D.delimited
+        refl back_then E.read_back };
 
-    ghost delimited = { λ yes. A.delimited refl delimited_then B.delimited refl delimited_then C.delimited refl delimited_then D.delimited refl delimited_then E.delimited yes };
+    ghost delimited = { λ yes. A.delimited refl delimited_then B.delimited refl delimited_then C.delimited refl
+        delimited_then D.delimited refl delimited_then E.delimited yes };
 
     ghost moving = { λ yes. some_more (B.least + (C.least + (D.least + E.least))) (A.moving yes) };
 }
@@ -455,10 +457,11 @@ impl<
     ghost onward = { A.onward onward_then B.onward onward_then C.onward onward_then D.onward onward_then E.onward
         onward_then F.onward };
 
-    ghost read_back = { A.delimited refl back_then B.delimited refl back_then C.delimited refl back_then D.delimited refl
-        back_then E.delimited refl back_then F.read_back };
+    ghost read_back = { A.delimited refl back_then B.delimited refl back_then C.delimited refl back_then D.delimited
+        refl back_then E.delimited refl back_then F.read_back };
 
-    ghost delimited = { λ yes. A.delimited refl delimited_then B.delimited refl delimited_then C.delimited refl delimited_then D.delimited refl delimited_then E.delimited refl delimited_then F.delimited yes };
+    ghost delimited = { λ yes. A.delimited refl delimited_then B.delimited refl delimited_then C.delimited refl
+        delimited_then D.delimited refl delimited_then E.delimited refl delimited_then F.delimited yes };
 
     ghost moving = { λ yes. some_more (B.least + (C.least + (D.least + (E.least + F.least)))) (A.moving yes) };
 }
@@ -580,12 +583,15 @@ impl<
     ghost onward = { A.onward onward_then B.onward onward_then C.onward onward_then D.onward onward_then E.onward
         onward_then F.onward onward_then G.onward };
 
-    ghost read_back = { A.delimited refl back_then B.delimited refl back_then C.delimited refl back_then D.delimited refl
-        back_then E.delimited refl back_then F.delimited refl back_then G.read_back };
+    ghost read_back = { A.delimited refl back_then B.delimited refl back_then C.delimited refl back_then D.delimited
+        refl back_then E.delimited refl back_then F.delimited refl back_then G.read_back };
 
-    ghost delimited = { λ yes. A.delimited refl delimited_then B.delimited refl delimited_then C.delimited refl delimited_then D.delimited refl delimited_then E.delimited refl delimited_then F.delimited refl delimited_then G.delimited yes };
+    ghost delimited = { λ yes. A.delimited refl delimited_then B.delimited refl delimited_then C.delimited refl
+        delimited_then D.delimited refl delimited_then E.delimited refl delimited_then F.delimited refl delimited_then
+        G.delimited yes };
 
-    ghost moving = { λ yes. some_more (B.least + (C.least + (D.least + (E.least + (F.least + G.least))))) (A.moving yes) };
+    ghost moving = { λ yes. some_more (B.least + (C.least + (D.least + (E.least + (F.least + G.least)))))
+        (A.moving yes) };
 }
 
 impl<
@@ -714,10 +720,12 @@ impl<
     ghost onward = { A.onward onward_then B.onward onward_then C.onward onward_then D.onward onward_then E.onward
         onward_then F.onward onward_then G.onward onward_then H.onward };
 
-    ghost read_back = { A.delimited refl back_then B.delimited refl back_then C.delimited refl back_then D.delimited refl
-        back_then E.delimited refl back_then F.delimited refl back_then G.delimited refl back_then H.read_back };
+    ghost read_back = { A.delimited refl back_then B.delimited refl back_then C.delimited refl back_then D.delimited
+        refl back_then E.delimited refl back_then F.delimited refl back_then G.delimited refl back_then H.read_back };
 
-    ghost delimited = { λ yes. A.delimited refl delimited_then B.delimited refl delimited_then C.delimited refl delimited_then D.delimited refl delimited_then E.delimited refl delimited_then F.delimited refl delimited_then G.delimited refl delimited_then H.delimited yes };
+    ghost delimited = { λ yes. A.delimited refl delimited_then B.delimited refl delimited_then C.delimited refl
+        delimited_then D.delimited refl delimited_then E.delimited refl delimited_then F.delimited refl delimited_then
+        G.delimited refl delimited_then H.delimited yes };
 
     ghost moving = { λ yes. some_more (B.least + (C.least + (D.least + (E.least + (F.least + (G.least + H.least))))))
         (A.moving yes) };

@@ -47,8 +47,8 @@ impl<R: AsOctets + Copy> Fields<R> for DhcpOption<R> {
 /// Options after the magic cookie 63 82 53 63, or anything after another number.
 pub type Vendor<R> = Tagged<u32, Case<0x63825363, Repeated<Of<DhcpOption<R>>>, Others<Rest>>>;
 
-/// A packet: operation, hardware type, length of hardware addresses, hops; transaction, seconds, flags; the addresses of
-/// client, yours, server and relay; the client's hardware address, the server's name, the name of a file, and options.
+/// A packet: operation, hardware type, length of hardware addresses, hops; transaction, seconds, flags; the addresses
+/// of client, yours, server and relay; the client's hardware address, the server's name, a file's name, and options.
 ///
 /// Octets after the option `End` are read as options too: in most packets they are padding.
 pub type Bootp<R> = (
