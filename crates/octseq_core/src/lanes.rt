@@ -30,7 +30,7 @@ pub(crate) fn append_lane(vec: &mut Vec<u8>, octets: &[u8])
         let b = without_first_of_four(last_octets::<4>(octets), 8 - len);
         append_first(vec, [a[0], a[1], a[2], a[3], b[0], b[1], b[2], b[3]], len);
     } else if len > 0 {
-        append_first(vec, [octets[0], octets[len / 2], octets[len - 1]], len);
+        append_first(vec, [octets[0], octets[len / 2], octets[len - 1], 0], len);
     }
 }
 

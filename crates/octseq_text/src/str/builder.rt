@@ -212,6 +212,7 @@ impl<Octets: AsOctets> StrBuilder<Octets> {
     ///     text.try_push_str(word)?;
     /// }
     /// ```
+    #[inline(always)]
     pub fn try_push_str(&mut self, s: &str) -> Result<(), AppendError>
     where
         Octets: OctetsBuilder,
