@@ -3,7 +3,7 @@ use Rattle.std.specs.Prelude.{◌↔◌, Result, Ok, Err, IsErr, OnErr}
 use Rattle.std.proofs.Common.{◌≡◌, ◌≢◌, ℕ, ◌<◌, ◌≤◌, List, length, refl, arith}
 use Rattle.octseq_c.specs.Puts.{Fills, Puts}
 
-module _ {A : Type 0} (Is : List A → Type 0) {old new : List A} {count : ℕ}
+module _ {A : Type 0} {Is : List A → Type 0} {old new : List A} {count : ℕ}
     (one : (items others : List A) → Is items → Is others → items ≡ others) where
   -- items were written
   pub puts_ok : (items : List A) → Is items → length items ≤ length old → count ≡ length items
@@ -26,11 +26,11 @@ module _ {A : Type 0} (Is : List A → Type 0) {old new : List A} {count : ℕ}
   }
 
 -- none were written, for another reason
-pub puts_none : {A : Type 0} (Is : List A → Type 0) {old new : List A} (status : ℕ) → status ≢ 0 → status ≢ 1
+pub puts_none : {A : Type 0} {Is : List A → Type 0} {old new : List A} (status : ℕ) → 1 < status
     → ((items others : List A) → Is items → Is others → items ≡ others) → Puts Is status old new 0
-puts_none Is status m n one = record {
-  ok = λ e. absurd (m e);
-  no_room = λ e. absurd (n e);
+puts_none status other one = record {
+  ok = λ e. absurd (omega (arith, e));
+  no_room = λ e. absurd (omega (arith, e));
   nothing = λ e f. refl;
   one = one;
 }
@@ -61,11 +61,11 @@ when_err (Ok value) p = tt
 when_err (Err e) p = p refl
 
 -- a call that copies items to the front of a buffer, or none
-pub puts_copied : {A : Type 0} (Is : List A → Type 0) {status count : ℕ} {old new : List A}
+pub puts_copied : {A : Type 0} {Is : List A → Type 0} {status count : ℕ} {old new : List A}
     → ((items others : List A) → Is items → Is others → items ≡ others) → (items : List A) → Is items
     → count ≡ length items → (status ≡ 0 → (length items ≤ length old) × Fills items old new)
     → (status ≢ 0 → (status ≡ 1) × (length old < length items) × (new ≡ old)) → Puts Is status old new count
-puts_copied Is one items is reported ok not = record {
+puts_copied one items is reported ok not = record {
   ok = λ e. (items, is, (ok e).0, reported, (ok e).1);
   no_room = λ e. (items, is, (not (λ z. omega (arith, e, z))).1, reported);
   nothing = λ m n. absurd (n (not m).0);

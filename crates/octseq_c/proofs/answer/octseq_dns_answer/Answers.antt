@@ -1,19 +1,17 @@
 use Rattle.std.proofs.Common.{length, ◌∙◌, ap, refl, arith}
 use Rattle.octseq_dns.specs.Parsed.{additionals_of, answers_of, authorities_of, header_of, questions_of}
-use Rattle.octseq_c.specs.Made.{IsAnswer}
 use Rattle.octseq_c.proofs.OneAnswer.{answer_of, one_answer}
 use Rattle.octseq_c.proofs.Puts.{puts_copied, puts_none}
 use Rattle.octseq_c.proofs.answer.octseq_dns_answer.Goals as goal
 
 pub returns-in-Ok-clause-puts : goal.returns-in-Ok-clause-puts
-returns-in-Ok-clause-puts c = puts_none _ 6 (λ e. omega (arith, e)) (λ e. omega (arith, e)) (one_answer _ _ _ _)
+returns-in-Ok-clause-puts c = puts_none 6 (omega arith) (one_answer _ _ _ _)
 
 pub returns-in-Ok-2-clause-puts : goal.returns-in-Ok-2-clause-puts
-returns-in-Ok-2-clause-puts c = puts_none _ 4 (λ e. omega (arith, e)) (λ e. omega (arith, e)) (one_answer _ _ _ _)
+returns-in-Ok-2-clause-puts c = puts_none 4 (omega arith) (one_answer _ _ _ _)
 
 pub returns-in-Err-answer-clause-puts : goal.returns-in-Err-answer-clause-puts
-returns-in-Err-answer-clause-puts c =
-    puts_none _ 5 (λ e. omega (arith, e)) (λ e. omega (arith, e)) (one_answer _ _ _ _)
+returns-in-Err-answer-clause-puts c = puts_none 5 (omega arith) (one_answer _ _ _ _)
 
 pub returns-in-Ok-answer-clause-puts : goal.returns-in-Ok-answer-clause-puts
 returns-in-Ok-answer-clause-puts c =
@@ -21,7 +19,7 @@ returns-in-Ok-answer-clause-puts c =
     let query = c.args.query.now in
     let source = c.args.source.now in
     let rows = c.args.rows.now in
-    puts_copied (IsAnswer query c.args.flags source rows) (one_answer query c.args.flags source rows)
+    puts_copied (one_answer query c.args.flags source rows)
     c.as_slice.result.now
     (record {
       asked = _;
@@ -47,4 +45,4 @@ returns-in-Err-answer-clause-too_long c e few made is =
     omega (arith, past, same)
 
 pub returns-in-Err-clause-puts : goal.returns-in-Err-clause-puts
-returns-in-Err-clause-puts c = puts_none _ 2 (λ e. omega (arith, e)) (λ e. omega (arith, e)) (one_answer _ _ _ _)
+returns-in-Err-clause-puts c = puts_none 2 (omega arith) (one_answer _ _ _ _)

@@ -20,5 +20,4 @@ returns-in-Ok-clause-utf8 c = λ ok text is.
     (c.show.ensures.utf8 ok)
 
 pub returns-in-Err-clause-puts : goal.returns-in-Err-clause-puts
-returns-in-Err-clause-puts c =
-    puts_none (IsNameText c.args.octets.now c.args.place) 2 (λ e. omega arith) (λ e. omega arith) (one_name_text c.args.octets.now c.args.place)
+returns-in-Err-clause-puts c = puts_none 2 (omega arith) (one_name_text c.args.octets.now c.args.place)

@@ -8,7 +8,7 @@ use Rattle.octseq_c.proofs.pieces.octseq_lossy_piece.Goals as goal
 -- the text is too long
 
 pub returns-in_default-measure-clause-puts : goal.returns-in_default-measure-clause-puts
-returns-in_default-measure-clause-puts c = λ is. puts_none _ 5 (λ e. omega arith) (λ e. omega arith) (one_settled_text _)
+returns-in_default-measure-clause-puts c = λ is. puts_none 5 (omega arith) (one_settled_text _)
 
 pub returns-in_default-measure-clause-too_long : goal.returns-in_default-measure-clause-too_long
 returns-in_default-measure-clause-too_long c =
@@ -21,7 +21,7 @@ pub returns-then-extent-out-clause-puts : goal.returns-then-extent-out-clause-pu
 returns-then-extent-out-clause-puts c =
     let read = rw c.in-Some.ensures.some at (c.split.ensures _ c.completed-completed.ensures) in
     let both = both_text read c.in-Some-measure.ensures.measured in
-    λ is. puts_no_room _ (one_settled_text _) _ both.0 (omega (arith, both.1)) both.1
+    λ is. puts_no_room (one_settled_text _) _ both.0 (omega (arith, both.1)) both.1
 
 pub returns-then-extent-out-clause-too_long : goal.returns-then-extent-out-clause-too_long
 returns-then-extent-out-clause-too_long c =
@@ -40,7 +40,7 @@ returns-clause-puts c =
     let both = both_text read m in
     let first = c.split.result.0.now in
     let filled = c.fill.ensures _ _ m.settles in
-    λ is. puts_ok _ (one_settled_text _) _ both.0 (omega (arith, both.1)) both.1
+    λ is. puts_ok (one_settled_text _) _ both.0 (omega (arith, both.1)) both.1
     (fills_both _ c.put_at-at.new.out _ first (text m.settled) c.put_at-at.result
     (c.put_at-at.ensures.end ∙ omega arith)
     (c.put_at-at.ensures.octets ∙ ap (λ k. first ++ drop k c.args.out.now) (sym c.put_at-at.ensures.end))

@@ -1,6 +1,5 @@
 use Rattle.std.proofs.Common.{arith}
 use Rattle.octseq_dns_message.specs.Parsed.{header_of, questions_of, answers_of, authorities_of, additionals_of}
-use Rattle.octseq_c.specs.Texts.{IsTextOf}
 use Rattle.octseq_dns_message.proofs.Messages.{said_once}
 use Rattle.octseq_c.proofs.OneTexts.{moved_text, one_text_of}
 use Rattle.octseq_c.proofs.Puts.{puts_as, puts_none}
@@ -25,5 +24,4 @@ returns-in-Ok-clause-utf8 c = λ ok text is.
     c.put_text.ensures.utf8 ok text (moved_text same.0 same.1 same.2 same.3 same.4 is.text_is)
 
 pub returns-in-Err-clause-puts : goal.returns-in-Err-clause-puts
-returns-in-Err-clause-puts c =
-    puts_none (IsTextOf c.args.octets.now) 2 (λ e. omega arith) (λ e. omega arith) (one_text_of c.args.octets.now)
+returns-in-Err-clause-puts c = puts_none 2 (omega arith) (one_text_of c.args.octets.now)

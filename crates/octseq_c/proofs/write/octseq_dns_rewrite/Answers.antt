@@ -25,7 +25,7 @@ is_rewritten c =
 
 pub returns-in-Ok-rewritten-clause-puts : goal.returns-in-Ok-rewritten-clause-puts
 returns-in-Ok-rewritten-clause-puts c =
-    puts_copied (IsRewritten c.args.octets.now) (one_rewriting c.args.octets.now) c.as_slice.result.now (is_rewritten c)
+    puts_copied (one_rewriting c.args.octets.now) c.as_slice.result.now (is_rewritten c)
     c.put.ensures.count c.put.ensures.ok c.put.ensures.no_room
 
 pub returns-in-Ok-rewritten-clause-immovable : goal.returns-in-Ok-rewritten-clause-immovable
@@ -46,8 +46,7 @@ returns-in-Ok-rewritten-clause-too_long c = λ made is. (
 -- ---- its data can't be moved
 
 pub returns-in-Err-Immovable-clause-puts : goal.returns-in-Err-Immovable-clause-puts
-returns-in-Err-Immovable-clause-puts c =
-    puts_none (IsRewritten c.args.octets.now) 4 (λ e. omega arith) (λ e. omega arith) (one_rewriting c.args.octets.now)
+returns-in-Err-Immovable-clause-puts c = puts_none 4 (omega arith) (one_rewriting c.args.octets.now)
 
 pub returns-in-Err-Immovable-clause-too_long : goal.returns-in-Err-Immovable-clause-too_long
 returns-in-Err-Immovable-clause-too_long c = λ made is.
@@ -58,8 +57,7 @@ returns-in-Err-Immovable-clause-too_long c = λ made is.
 -- ---- it is too long
 
 pub returns-in-Err-Short-clause-puts : goal.returns-in-Err-Short-clause-puts
-returns-in-Err-Short-clause-puts c =
-    puts_none (IsRewritten c.args.octets.now) 5 (λ e. omega arith) (λ e. omega arith) (one_rewriting c.args.octets.now)
+returns-in-Err-Short-clause-puts c = puts_none 5 (omega arith) (one_rewriting c.args.octets.now)
 
 pub returns-in-Err-Short-clause-immovable : goal.returns-in-Err-Short-clause-immovable
 returns-in-Err-Short-clause-immovable c =
@@ -87,8 +85,7 @@ unreachable-requires c =
 -- ---- it isn't a message
 
 pub returns-in-Err-clause-puts : goal.returns-in-Err-clause-puts
-returns-in-Err-clause-puts c =
-    puts_none (IsRewritten c.args.octets.now) 2 (λ e. omega arith) (λ e. omega arith) (one_rewriting c.args.octets.now)
+returns-in-Err-clause-puts c = puts_none 2 (omega arith) (one_rewriting c.args.octets.now)
 
 pub returns-in-Err-clause-immovable : goal.returns-in-Err-clause-immovable
 returns-in-Err-clause-immovable c =
