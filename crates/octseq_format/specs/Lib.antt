@@ -1,4 +1,3 @@
-pub mod Answer
 pub mod Bits
 pub mod Canonical
 pub mod Case

@@ -8,8 +8,7 @@ ghost use Rattle.octseq_format.specs.Ended.{delimited_ended, ended_read_back};
 ghost use Rattle.octseq_format.specs.Canonical.{not_one_way};
 ghost use Rattle.octseq_format.specs.Rest.{window_code};
 
-use crate::answer::Yes;
-use crate::format::Format;
+use crate::format::{Delimited, Format, Moving};
 use memchr::memchr;
 use octseq::{AsOctets, Malformed, OctetsBuilder, Parser, Truncate, Turns};
 use std::alloc::AllocError;
@@ -28,10 +27,6 @@ pub struct ZeroEnded;
 
 impl<R: AsOctets + Copy> Format<R> for ZeroEnded {
     type Value = Parser<R>;
-
-    type Delimited = Yes;
-
-    type Moving = Yes;
 
     ghost Found = { Window };
 
@@ -114,8 +109,12 @@ impl<R: AsOctets + Copy> Format<R> for ZeroEnded {
     ghost onward = { onward_ended };
 
     ghost read_back = { ended_read_back };
+}
 
-    ghost delimited = { λ _. delimited_ended };
+impl<R: AsOctets + Copy> Delimited<R> for ZeroEnded {
+    ghost delimited = { delimited_ended };
+}
 
-    ghost moving = { λ _. Prim.search rules };
+impl<R: AsOctets + Copy> Moving<R> for ZeroEnded {
+    ghost moving = { Prim.search rules };
 }

@@ -1,2 +1,1 @@
-pub mod Dhcp
 pub mod Tftp
