@@ -88,23 +88,25 @@ fn each_builder_is_filled(rt: HostRuntime) {
     fill::<ArrayVec<u8, 4>>(&rt, alloc);
 }
 
-/// Appends the first octets, first with room for a few more, then without.
-fn grow(rt: &impl Abort, alloc: Global, octets: &[u8], len: usize) {
-    let mut roomy = unwrap(rt, Vec::with_capacity(alloc, 64));
-    unwrap(rt, roomy.append_few(b"|"));
-    unwrap(rt, roomy.append_few(&octets[..len]));
-    let mut tight = unwrap(rt, Vec::with_capacity(alloc, 1));
-    unwrap(rt, tight.append_few(b"|"));
-    unwrap(rt, tight.append_few(&octets[..len]));
-    assert_equal!(rt, &roomy[1..], &octets[..len]);
-    assert_equal!(rt, roomy.as_slice(), tight.as_slice());
+/// Appends the octets twice to a vector that begins with room for so many.
+fn append_twice(rt: &impl Abort, alloc: Global, octets: &[u8], capacity: usize) {
+    let mut builder = unwrap(rt, Vec::with_capacity(alloc, capacity));
+    unwrap(rt, builder.append_few(octets));
+    unwrap(rt, builder.append_few(octets));
+    let mut wanted = Vec::new(alloc);
+    unwrap(rt, wanted.extend_from_slice(octets));
+    unwrap(rt, wanted.extend_from_slice(octets));
+    assert_equal!(rt, builder.as_slice(), wanted.as_slice());
 }
 
 #[test]
 fn a_vector_appends_few_octets_of_each_length(rt: HostRuntime) {
-    let octets = b"0123456789abcdefghijklmnopqrstuvwxyzABCD";
+    let octets = b"0123456789abcdefghijklmnopqrstuvwxyzABCD".as_slice();
     for len in 0..=octets.len() {
-        grow(&rt, rt.alloc(), octets, len);
+        if let Some((first, _)) = octets.split_at_checked(len) {
+            append_twice(&rt, rt.alloc(), first, 0);
+            append_twice(&rt, rt.alloc(), first, 128);
+        }
     }
 }
 
