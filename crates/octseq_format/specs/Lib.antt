@@ -1,3 +1,4 @@
+pub mod Answer
 pub mod Bits
 pub mod Canonical
 pub mod Case

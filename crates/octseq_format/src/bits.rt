@@ -8,8 +8,9 @@ ghost use Rattle.octseq_format.specs.Bits.{delimited_bits, bits_read_back};
 ghost use Rattle.octseq_format.specs.Canonical.{not_one_way};
 ghost use Rattle.octseq_format.specs.Pair.{◌also◌};
 
+use crate::answer::Yes;
 use crate::counted::Length;
-use crate::format::{Delimited, Format, Moving};
+use crate::format::Format;
 use octseq::{AsOctets, Malformed, OctetsBuilder, Parser, Truncate, Turns};
 use std::alloc::AllocError;
 use std::marker::PhantomData;
@@ -289,6 +290,10 @@ pub struct Bits<L, B> {
 impl<R: AsOctets + Copy, L: Length, B: BitFields> Format<R> for Bits<L, B> {
     type Value = B::Value;
 
+    type Delimited = Yes;
+
+    type Moving = Yes;
+
     ghost Found = { B.Said };
 
     ghost found = { B.said };
@@ -361,12 +366,8 @@ impl<R: AsOctets + Copy, L: Length, B: BitFields> Format<R> for Bits<L, B> {
     ghost onward = { onward_bits L.width B.number B.fits };
 
     ghost read_back = { bits_read_back L.width B.number B.fits };
-}
 
-impl<R: AsOctets + Copy, L: Length, B: BitFields> Delimited<R> for Bits<L, B> {
-    ghost delimited = { delimited_bits L.width B.number B.fits };
-}
+    ghost delimited = { λ _. delimited_bits L.width B.number B.fits };
 
-impl<R: AsOctets + Copy, L: Length, B: BitFields> Moving<R> for Bits<L, B> {
-    ghost moving = { L.wide };
+    ghost moving = { λ _. L.wide };
 }

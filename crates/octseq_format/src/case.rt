@@ -17,8 +17,9 @@ ghost use Rattle.octseq_format.specs.Laws.{IsOne, IsOnward, HasOctets};
 ghost use Rattle.octseq_format.specs.Canonical.{not_one_way};
 ghost use Rattle.octseq_format.specs.Turns.{TakesTurns};
 
+use crate::answer::{And, Answer, Yes};
 use crate::counted::Length;
-use crate::format::{Delimited, Format, Moving};
+use crate::format::Format;
 use octseq::{AsOctets, Malformed, OctetsBuilder, Parser, Truncate, Turns};
 use std::alloc::AllocError;
 use std::marker::PhantomData;
@@ -27,6 +28,9 @@ use std::marker::PhantomData;
 pub trait Cases<R: AsOctets + Copy> {
     /// The type that is read and written.
     type Value: Copy + Drop;
+
+    /// Whether the octets show where a value ends, whatever follows.
+    type Delimited: Answer;
 
     ghost Found: { Type 0 };
 
@@ -108,11 +112,8 @@ pub trait Cases<R: AsOctets + Copy> {
     ghost onward: { (number : ℕ) → IsOnward 0 (is_at number) };
 
     ghost read_back: { IsCaseReadBack is_at says tag octets fits };
-}
 
-/// Cases whose octets show where they end, whatever follows.
-pub trait DelimitedCases<R: AsOctets + Copy>: Cases<R> {
-    ghost delimited: { IsCaseDelimited Self.is_at Self.says Self.tag Self.octets Self.fits };
+    ghost delimited: { IsTrue Self.Delimited.yes → IsCaseDelimited is_at says tag octets fits };
 }
 
 /// One of two values.
@@ -131,10 +132,15 @@ pub struct Case<const N: usize, F, C> {
     other: PhantomData<C>,
 }
 
-impl<R: AsOctets + Copy, const N: usize, F: Format<R>, C: Cases<R>> Cases<R> for Case<N, F, C> {
+impl<R: AsOctets + Copy, const N: usize, F: Format<R>, C: Cases<R>> Cases<R> for Case<N, F, C>
+where
+    F::Delimited: And<C::Delimited>,
+{
     ghost use Rattle.octseq_format.specs.Either.{either_found};
 
     type Value = Either<F::Value, C::Value>;
+
+    type Delimited = <F::Delimited as And<C::Delimited>>::Joined;
 
     ghost Found = { F.Found ⊎ C.Found };
 
@@ -216,11 +222,9 @@ impl<R: AsOctets + Copy, const N: usize, F: Format<R>, C: Cases<R>> Cases<R> for
     ghost onward = { onward_case N F.is_at C.is_at F.onward C.onward };
 
     ghost read_back = { case_read_back F.read_back C.read_back };
-}
 
-impl<R: AsOctets + Copy, const N: usize, F: Delimited<R>, C: DelimitedCases<R>> DelimitedCases<R>
-    for Case<N, F, C> {
-    ghost delimited = { delimited_case F.delimited C.delimited };
+    ghost delimited = { λ yes. delimited_case (F.delimited (F.Delimited.both yes).0) (C.delimited (F.Delimited.both
+        yes).1) };
 }
 
 /// `F` if the tag is `N`, otherwise an error. It ends a list of cases.
@@ -231,6 +235,8 @@ pub struct Last<const N: usize, F> {
 
 impl<R: AsOctets + Copy, const N: usize, F: Format<R>> Cases<R> for Last<N, F> {
     type Value = F::Value;
+
+    type Delimited = F::Delimited;
 
     ghost Found = { F.Found };
 
@@ -291,10 +297,8 @@ impl<R: AsOctets + Copy, const N: usize, F: Format<R>> Cases<R> for Last<N, F> {
     ghost onward = { onward_last N F.is_at F.onward };
 
     ghost read_back = { last_read_back F.read_back };
-}
 
-impl<R: AsOctets + Copy, const N: usize, F: Delimited<R>> DelimitedCases<R> for Last<N, F> {
-    ghost delimited = { delimited_last F.delimited };
+    ghost delimited = { λ yes. delimited_last (F.delimited yes) };
 }
 
 /// `F` for any tag, together with the tag. It ends a list of cases.
@@ -305,6 +309,8 @@ pub struct Others<F> {
 
 impl<R: AsOctets + Copy, F: Format<R>> Cases<R> for Others<F> {
     type Value = (usize, F::Value);
+
+    type Delimited = F::Delimited;
 
     ghost Found = { ℕ × F.Found };
 
@@ -365,10 +371,8 @@ impl<R: AsOctets + Copy, F: Format<R>> Cases<R> for Others<F> {
     ghost onward = { onward_other F.is_at F.onward };
 
     ghost read_back = { other_read_back F.read_back };
-}
 
-impl<R: AsOctets + Copy, F: Delimited<R>> DelimitedCases<R> for Others<F> {
-    ghost delimited = { delimited_other F.delimited };
+    ghost delimited = { λ yes. delimited_other (F.delimited yes) };
 }
 
 /// A tag of the width of `L`, followed by the value that the cases `C` have for it.
@@ -380,6 +384,10 @@ pub struct Tagged<L, C> {
 
 impl<R: AsOctets + Copy, L: Length, C: Cases<R>> Format<R> for Tagged<L, C> {
     type Value = C::Value;
+
+    type Delimited = C::Delimited;
+
+    type Moving = Yes;
 
     ghost Found = { C.Found };
 
@@ -454,12 +462,8 @@ impl<R: AsOctets + Copy, L: Length, C: Cases<R>> Format<R> for Tagged<L, C> {
     ghost onward = { onward_tagged L.width C.is_at C.onward };
 
     ghost read_back = { tagged_read_back C.read_back };
-}
 
-impl<R: AsOctets + Copy, L: Length, C: DelimitedCases<R>> Delimited<R> for Tagged<L, C> {
-    ghost delimited = { delimited_tagged C.delimited };
-}
+    ghost delimited = { λ yes. delimited_tagged (C.delimited yes) };
 
-impl<R: AsOctets + Copy, L: Length, C: DelimitedCases<R>> Moving<R> for Tagged<L, C> {
-    ghost moving = { L.wide };
+    ghost moving = { λ _. L.wide };
 }

@@ -7,7 +7,8 @@ ghost use Rattle.octseq.specs.Limit.{IsWithin};
 ghost use Rattle.octseq.specs.Parser.{window, Takes};
 ghost use Rattle.octseq.specs.Window.{next};
 
-use crate::format::{Delimited, Format, Moving};
+use crate::answer::Yes;
+use crate::format::Format;
 use crate::integers::U24;
 use octseq::compose::{append_u8, append_u16_be, append_u24_be, append_u32_be};
 use octseq::{AsOctets, Malformed, OctetsBuilder, Parser, ShortInput, Truncate, Turns};
@@ -224,10 +225,15 @@ pub struct Counted<L, A, const EXTRA: usize> {
 
 impl<R: AsOctets + Copy, L: Length, A: Format<R>, const EXTRA: usize> Format<R>
     for Counted<L, A, EXTRA> {
+    ghost use Rattle.octseq_format.specs.Counted.{delimited_counted};
     ghost use Rattle.octseq_format.specs.Counted.{Counted, counted_octets, CountFits, one_counted, onward_counted};
     ghost use Rattle.octseq_format.specs.Counted.{counted_read_back, canonical_counted};
 
     type Value = A::Value;
+
+    type Delimited = Yes;
+
+    type Moving = Yes;
 
     ghost Found = { A.Found };
 
@@ -312,16 +318,8 @@ impl<R: AsOctets + Copy, L: Length, A: Format<R>, const EXTRA: usize> Format<R>
     ghost onward = { onward_counted L.width EXTRA A.is_at };
 
     ghost read_back = { counted_read_back A.read_back };
-}
 
-impl<R: AsOctets + Copy, L: Length, A: Format<R>, const EXTRA: usize> Delimited<R>
-    for Counted<L, A, EXTRA> {
-    ghost use Rattle.octseq_format.specs.Counted.{delimited_counted};
+    ghost delimited = { λ _. delimited_counted A.read_back };
 
-    ghost delimited = { delimited_counted A.read_back };
-}
-
-impl<R: AsOctets + Copy, L: Length, A: Format<R>, const EXTRA: usize> Moving<R>
-    for Counted<L, A, EXTRA> {
-    ghost moving = { L.wide };
+    ghost moving = { λ _. L.wide };
 }

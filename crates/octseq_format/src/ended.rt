@@ -8,7 +8,8 @@ ghost use Rattle.octseq_format.specs.Ended.{delimited_ended, ended_read_back};
 ghost use Rattle.octseq_format.specs.Canonical.{not_one_way};
 ghost use Rattle.octseq_format.specs.Rest.{window_code};
 
-use crate::format::{Delimited, Format, Moving};
+use crate::answer::Yes;
+use crate::format::Format;
 use memchr::memchr;
 use octseq::{AsOctets, Malformed, OctetsBuilder, Parser, Truncate, Turns};
 use std::alloc::AllocError;
@@ -27,6 +28,10 @@ pub struct ZeroEnded;
 
 impl<R: AsOctets + Copy> Format<R> for ZeroEnded {
     type Value = Parser<R>;
+
+    type Delimited = Yes;
+
+    type Moving = Yes;
 
     ghost Found = { Window };
 
@@ -109,12 +114,8 @@ impl<R: AsOctets + Copy> Format<R> for ZeroEnded {
     ghost onward = { onward_ended };
 
     ghost read_back = { ended_read_back };
-}
 
-impl<R: AsOctets + Copy> Delimited<R> for ZeroEnded {
-    ghost delimited = { delimited_ended };
-}
+    ghost delimited = { λ _. delimited_ended };
 
-impl<R: AsOctets + Copy> Moving<R> for ZeroEnded {
-    ghost moving = { Prim.search rules };
+    ghost moving = { λ _. Prim.search rules };
 }

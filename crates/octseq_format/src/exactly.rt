@@ -4,8 +4,9 @@ ghost use Rattle.octseq.specs.Integer.{octets_be};
 ghost use Rattle.octseq_format.specs.Exactly.{IsExactly, coded_unit, one_exactly, onward_exactly};
 ghost use Rattle.octseq_format.specs.Exactly.{delimited_exactly, exactly_read_back, canonical_exactly};
 
+use crate::answer::Yes;
 use crate::counted::Length;
-use crate::format::{Delimited, Format, Moving};
+use crate::format::Format;
 use octseq::{AsOctets, Malformed, OctetsBuilder, Parser, Truncate, Turns};
 use std::alloc::AllocError;
 use std::marker::PhantomData;
@@ -18,6 +19,10 @@ pub struct Exactly<L, const N: usize> {
 
 impl<R: AsOctets + Copy, L: Length, const N: usize> Format<R> for Exactly<L, N> {
     type Value = ();
+
+    type Delimited = Yes;
+
+    type Moving = Yes;
 
     ghost Found = { Unit {0} };
 
@@ -84,12 +89,8 @@ impl<R: AsOctets + Copy, L: Length, const N: usize> Format<R> for Exactly<L, N> 
     ghost onward = { onward_exactly L.width N };
 
     ghost read_back = { exactly_read_back L.width N };
-}
 
-impl<R: AsOctets + Copy, L: Length, const N: usize> Delimited<R> for Exactly<L, N> {
-    ghost delimited = { delimited_exactly L.width N };
-}
+    ghost delimited = { λ _. delimited_exactly L.width N };
 
-impl<R: AsOctets + Copy, L: Length, const N: usize> Moving<R> for Exactly<L, N> {
-    ghost moving = { L.wide };
+    ghost moving = { λ _. L.wide };
 }

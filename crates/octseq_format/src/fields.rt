@@ -1,7 +1,7 @@
 //! Your own structs and enums.
 ghost use Rattle.std.specs.Prelude.{◌≡◌};
 
-use crate::format::{Delimited, Format, Moving};
+use crate::format::Format;
 use octseq::{AsOctets, Malformed, OctetsBuilder, Parser, Truncate, Turns};
 use std::alloc::AllocError;
 use std::marker::PhantomData;
@@ -31,6 +31,10 @@ pub struct Of<S> {
 
 impl<R: AsOctets + Copy, S: Fields<R>> Format<R> for Of<S> {
     type Value = S;
+
+    type Delimited = <S::Format as Format<R>>::Delimited;
+
+    type Moving = <S::Format as Format<R>>::Moving;
 
     ghost Found = { S.Format.Found };
 
@@ -93,18 +97,8 @@ impl<R: AsOctets + Copy, S: Fields<R>> Format<R> for Of<S> {
     ghost onward = { S.Format.onward };
 
     ghost read_back = { S.Format.read_back };
-}
 
-impl<R: AsOctets + Copy, S: Fields<R>> Delimited<R> for Of<S>
-where
-    S::Format: Delimited<R>,
-{
     ghost delimited = { S.Format.delimited };
-}
 
-impl<R: AsOctets + Copy, S: Fields<R>> Moving<R> for Of<S>
-where
-    S::Format: Moving<R>,
-{
     ghost moving = { S.Format.moving };
 }

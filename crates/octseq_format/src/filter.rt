@@ -9,8 +9,9 @@ ghost use Rattle.octseq_format.specs.Where.{IsWhere, WhereFits, one_where, onwar
 ghost use Rattle.octseq_format.specs.Canonical.{not_one_way};
 ghost use Rattle.octseq_format.specs.Where.{where_read_back, delimited_where};
 
+use crate::answer::Yes;
 use crate::counted::Length;
-use crate::format::{Delimited, Format, Moving};
+use crate::format::Format;
 use octseq::{AsOctets, Malformed, OctetsBuilder, Parser, Truncate, Turns};
 use std::alloc::AllocError;
 use std::marker::PhantomData;
@@ -34,6 +35,10 @@ pub struct Where<L, T> {
 
 impl<R: AsOctets + Copy, L: Length, T: Test> Format<R> for Where<L, T> {
     type Value = usize;
+
+    type Delimited = Yes;
+
+    type Moving = Yes;
 
     ghost Found = { ℕ };
 
@@ -105,13 +110,9 @@ impl<R: AsOctets + Copy, L: Length, T: Test> Format<R> for Where<L, T> {
 
     ghost read_back = { where_read_back (IsFixed L.width be) (λ n. n) T.holds (octets_be L.width)
         (λ n. n < 256 ^ L.width) (fixed_read_back (are_be L.width)) };
-}
 
-impl<R: AsOctets + Copy, L: Length, T: Test> Delimited<R> for Where<L, T> {
-    ghost delimited = { delimited_where (IsFixed L.width be) (λ n. n) T.holds (octets_be L.width)
+    ghost delimited = { λ _. delimited_where (IsFixed L.width be) (λ n. n) T.holds (octets_be L.width)
         (λ n. n < 256 ^ L.width) (delimited_fixed (are_be L.width)) };
-}
 
-impl<R: AsOctets + Copy, L: Length, T: Test> Moving<R> for Where<L, T> {
-    ghost moving = { L.wide };
+    ghost moving = { λ _. L.wide };
 }

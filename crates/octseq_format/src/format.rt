@@ -10,6 +10,7 @@ ghost use Rattle.octseq_format.specs.Canonical.{IsCanonical};
 ghost use Rattle.octseq_format.specs.Laws.{Relation, IsOne, IsOnward, IsReadBack, IsDelimited, HasOctets};
 ghost use Rattle.octseq_format.specs.Turns.{TakesTurns};
 
+use crate::answer::Answer;
 use octseq::compose::ComposeError;
 use octseq::{
     AsOctets, EmptyBuilder, Malformed, OctetsBuilder, OctetsLimit, Parser, Truncate, Turns,
@@ -20,6 +21,12 @@ use std::alloc::{AllocError, Global};
 pub trait Format<R: AsOctets + Copy> {
     /// The type that is read and written.
     type Value: Copy + Drop;
+
+    /// Whether the octets show where a value ends, whatever follows.
+    type Delimited: Answer;
+
+    /// Whether a value is known to take at least one octet.
+    type Moving: Answer;
 
     // What contracts see of a value: what it says, and the places where that was found.
     ghost Found: { Type 0 };
@@ -217,17 +224,11 @@ pub trait Format<R: AsOctets + Copy> {
 
     // If nothing but its octets is left, it is read back.
     ghost read_back: { IsReadBack is_at says octets fits };
-}
 
-/// A format whose octets show where a value ends, whatever follows.
-pub trait Delimited<R: AsOctets + Copy>: Format<R> {
-    // If its octets come next, it is read back.
-    ghost delimited: { IsDelimited Self.is_at Self.says Self.octets Self.fits };
-}
+    // If its octets come next, it is read back, where they show where it ends.
+    ghost delimited: { IsTrue Self.Delimited.yes → IsDelimited is_at says octets fits };
 
-/// A format whose values take at least one octet each.
-pub trait Moving<R: AsOctets + Copy>: Delimited<R> {
-    ghost moving: { 0 < Self.least };
+    ghost moving: { IsTrue Self.Moving.yes → 0 < least };
 }
 
 /// Whether `before` octets and `len` more are within a limit. Always, if there is none.

@@ -6,7 +6,8 @@ ghost use Rattle.octseq.specs.Window.{Window, next};
 ghost use Rattle.std.proofs.Common.{rules};
 ghost use Rattle.octseq_format.specs.Integers.{Kind, unsigned_kind, signed_kind, octet_kind};
 
-use crate::format::{Delimited, Format, Moving};
+use crate::answer::Yes;
+use crate::format::Format;
 use octseq::compose::{
     append_i8, append_i16_be, append_i16_le, append_i32_be, append_i32_le, append_i64_be,
     append_i64_le, append_i128_be, append_i128_le, append_u8, append_u16_be, append_u16_le,
@@ -494,9 +495,14 @@ pub struct Be<T> {
 }
 
 impl<R: AsOctets + Copy, T: Integer> Format<R> for Be<T> {
+    ghost use Rattle.octseq_format.specs.Fixed.{delimited_fixed};
     ghost use Rattle.octseq_format.specs.Fixed.{IsFixed, one_fixed, onward_fixed, fixed_read_back, canonical_fixed};
 
     type Value = T::Value;
+
+    type Delimited = Yes;
+
+    type Moving = Yes;
 
     ghost Found = { T.kind.Number };
 
@@ -563,16 +569,10 @@ impl<R: AsOctets + Copy, T: Integer> Format<R> for Be<T> {
     ghost onward = { onward_fixed T.kind.width T.kind.be };
 
     ghost read_back = { fixed_read_back T.kind.are_be };
-}
 
-impl<R: AsOctets + Copy, T: Integer> Delimited<R> for Be<T> {
-    ghost use Rattle.octseq_format.specs.Fixed.{delimited_fixed};
+    ghost delimited = { λ _. delimited_fixed T.kind.are_be };
 
-    ghost delimited = { delimited_fixed T.kind.are_be };
-}
-
-impl<R: AsOctets + Copy, T: Integer> Moving<R> for Be<T> {
-    ghost moving = { T.wide };
+    ghost moving = { λ _. T.wide };
 }
 
 /// A little-endian integer.
@@ -582,9 +582,14 @@ pub struct Le<T> {
 }
 
 impl<R: AsOctets + Copy, T: Integer> Format<R> for Le<T> {
+    ghost use Rattle.octseq_format.specs.Fixed.{delimited_fixed};
     ghost use Rattle.octseq_format.specs.Fixed.{IsFixed, one_fixed, onward_fixed, fixed_read_back, canonical_fixed};
 
     type Value = T::Value;
+
+    type Delimited = Yes;
+
+    type Moving = Yes;
 
     ghost Found = { T.kind.Number };
 
@@ -651,16 +656,10 @@ impl<R: AsOctets + Copy, T: Integer> Format<R> for Le<T> {
     ghost onward = { onward_fixed T.kind.width T.kind.le };
 
     ghost read_back = { fixed_read_back T.kind.are_le };
-}
 
-impl<R: AsOctets + Copy, T: Integer> Delimited<R> for Le<T> {
-    ghost use Rattle.octseq_format.specs.Fixed.{delimited_fixed};
+    ghost delimited = { λ _. delimited_fixed T.kind.are_le };
 
-    ghost delimited = { delimited_fixed T.kind.are_le };
-}
-
-impl<R: AsOctets + Copy, T: Integer> Moving<R> for Le<T> {
-    ghost moving = { T.wide };
+    ghost moving = { λ _. T.wide };
 }
 
 /// An unsigned octet.

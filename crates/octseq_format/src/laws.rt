@@ -4,7 +4,8 @@ ghost use Rattle.octseq_format.specs.Canonical.{AreOctets};
 ghost use Rattle.octseq_format.specs.Laws.{HasOctets};
 ghost use Rattle.octseq.specs.Window.{Window, rest, past, whole};
 
-use crate::format::{Delimited, Format};
+use crate::answer::Yes;
+use crate::format::Format;
 use octseq::AsOctets;
 
 /// A slice holds octets.
@@ -26,7 +27,7 @@ pub fn whole_is_read_back<R: AsOctets + Copy, F: Format<R>>()
 {}
 
 /// The same wherever the octets come next, whatever follows them, if the format shows where a value ends.
-pub fn next_is_read_back<R: AsOctets + Copy, F: Delimited<R>>()
+pub fn next_is_read_back<R: AsOctets + Copy, F: Format<R, Delimited = Yes>>()
     ensures { (w : Window) (said : F.Said) (more : List ℕ) → F.fits said → rest w ≡ F.octets said ++ more
         → (found : F.Found) × (F.says found ≡ said) × F.is_at w found (past (length (F.octets said)) w) }
 {}

@@ -1,6 +1,7 @@
 //! Binary formats as types: a format comes with its reader, its writer and their laws.
 #![tactic(auto)]
 
+pub mod answer;
 pub mod bits;
 pub mod case;
 pub mod counted;
@@ -19,14 +20,15 @@ pub mod tuples;
 pub mod values;
 pub mod walk;
 
+pub use answer::{And, Answer, No, Yes};
 pub use bits::{BitFields, Bits, Flag, Low};
-pub use case::{Case, Cases, DelimitedCases, Either, Last, Others, Tagged};
+pub use case::{Case, Cases, Either, Last, Others, Tagged};
 pub use counted::{Counted, Length};
 pub use ended::ZeroEnded;
 pub use exactly::Exactly;
 pub use fields::{Fields, Of};
 pub use filter::{Test, Where};
-pub use format::{Delimited, Format, Moving};
+pub use format::Format;
 pub use integers::{
     Be, I8, I16Be, I16Le, I32Be, I32Le, I64Be, I64Le, I128Be, I128Le, Integer, Le, U8, U16Be,
     U16Le, U24, U24Be, U24Le, U32Be, U32Le, U48, U48Be, U48Le, U64Be, U64Le, U128Be, U128Le,

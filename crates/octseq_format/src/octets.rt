@@ -3,8 +3,10 @@ ghost use Rattle.std.specs.Prelude.{◌≡◌, ℕ, List, length, true};
 ghost use Rattle.std.specs.Coded.{coded_list, coded_ℕ};
 ghost use Rattle.octseq.specs.Parser.{window};
 ghost use Rattle.octseq.specs.Window.{Window, rest};
+ghost use Rattle.octseq_format.specs.Answer.{not_so};
 
-use crate::format::{Delimited, Format};
+use crate::answer::{No, Yes};
+use crate::format::Format;
 use octseq::{AsOctets, Malformed, OctetsBuilder, Parser, Truncate, Turns};
 use std::alloc::AllocError;
 
@@ -17,6 +19,10 @@ impl<R: AsOctets + Copy> Format<R> for Rest {
     ghost use Rattle.octseq_format.specs.Rest.{canonical_rest};
 
     type Value = Parser<R>;
+
+    type Delimited = No;
+
+    type Moving = No;
 
     ghost Found = { Window };
 
@@ -82,6 +88,10 @@ impl<R: AsOctets + Copy> Format<R> for Rest {
     ghost onward = { onward_rest };
 
     ghost read_back = { rest_read_back };
+
+    ghost delimited = { not_so };
+
+    ghost moving = { not_so };
 }
 
 /// The next `N` octets, as an array.
@@ -89,10 +99,15 @@ impl<R: AsOctets + Copy> Format<R> for Rest {
 pub struct Octets<const N: usize>;
 
 impl<R: AsOctets + Copy, const N: usize> Format<R> for Octets<N> {
+    ghost use Rattle.octseq_format.specs.Fixed.{delimited_fixed};
     ghost use Rattle.octseq_format.specs.Fixed.{IsFixed, one_fixed, onward_fixed, fixed_read_back, canonical_fixed};
     ghost use Rattle.octseq_format.specs.Octets.{are_octets};
 
     type Value = [u8; N];
+
+    type Delimited = Yes;
+
+    type Moving = No;
 
     ghost Found = { List ℕ };
 
@@ -157,11 +172,8 @@ impl<R: AsOctets + Copy, const N: usize> Format<R> for Octets<N> {
     ghost onward = { onward_fixed N (λ octets. octets) };
 
     ghost read_back = { fixed_read_back (are_octets N) };
-}
 
-impl<R: AsOctets + Copy, const N: usize> Delimited<R> for Octets<N> {
-    ghost use Rattle.octseq_format.specs.Fixed.{delimited_fixed};
-    ghost use Rattle.octseq_format.specs.Octets.{are_octets};
+    ghost delimited = { λ _. delimited_fixed (are_octets N) };
 
-    ghost delimited = { delimited_fixed (are_octets N) };
+    ghost moving = { not_so };
 }

@@ -4,7 +4,9 @@ ghost use Rattle.std.specs.Coded.{coded_option};
 ghost use Rattle.octseq_format.specs.Optional.{IsOptional, optional_says, optional_octets, OptionalFits};
 ghost use Rattle.octseq_format.specs.Canonical.{not_one_way};
 ghost use Rattle.octseq_format.specs.Optional.{optional_turns, one_optional, onward_optional, optional_read_back};
+ghost use Rattle.octseq_format.specs.Answer.{not_so};
 
+use crate::answer::No;
 use crate::format::Format;
 use octseq::{AsOctets, Malformed, OctetsBuilder, Parser, Truncate, Turns};
 use std::alloc::AllocError;
@@ -18,6 +20,10 @@ pub struct Optional<A> {
 
 impl<R: AsOctets + Copy, A: Format<R>> Format<R> for Optional<A> {
     type Value = Option<A::Value>;
+
+    type Delimited = No;
+
+    type Moving = No;
 
     ghost Found = { Option A.Found };
 
@@ -95,4 +101,8 @@ impl<R: AsOctets + Copy, A: Format<R>> Format<R> for Optional<A> {
     ghost onward = { onward_optional A.is_at A.onward };
 
     ghost read_back = { optional_read_back A.read_back };
+
+    ghost delimited = { not_so };
+
+    ghost moving = { not_so };
 }

@@ -1,6 +1,6 @@
 //! Rows: values of one format, one after another.
 ghost use Rattle.std.specs.Prelude.{◌≡◌, ◌≤◌, ◌<◌, ◌+◌, ◌*◌, ◌++◌, ℕ, List, length, map, true, IsErr, IsNone, IsSome};
-ghost use Rattle.std.specs.Prelude.{IfSome, IfOk, OnOk, OnErr};
+ghost use Rattle.std.specs.Prelude.{refl, IfSome, IfOk, OnOk, OnErr};
 ghost use Rattle.std.specs.Coded.{coded_list};
 ghost use Rattle.std.specs.List.{AllByRecursion};
 ghost use Rattle.octseq.specs.Limit.{IsWithin};
@@ -11,16 +11,18 @@ ghost use Rattle.octseq_format.specs.Laws.{HasOctets};
 ghost use Rattle.octseq_format.specs.Row.{Many, RowTo, row_octets, row_turns};
 ghost use Rattle.octseq_format.specs.Turns.{TakesTurns};
 ghost use Rattle.octseq_format.specs.Walk.{items_left};
+ghost use Rattle.octseq_format.specs.Answer.{not_so};
 
+use crate::answer::{No, Yes};
 use crate::counted::Length;
-use crate::format::{Delimited, Format, Moving};
+use crate::format::Format;
 use crate::walk::Walk;
 use octseq::{AsOctets, Malformed, OctetsBuilder, Parser, Truncate, Turns};
 use std::alloc::AllocError;
 use std::marker::PhantomData;
 
 /// Reads `count` items.
-fn pass_many<R: AsOctets + Copy, F: Moving<R>>(
+fn pass_many<R: AsOctets + Copy, F: Format<R, Delimited = Yes, Moving = Yes>>(
     parser: &mut Parser<R>,
     count: usize,
     turns: &mut Turns,
@@ -49,7 +51,7 @@ fn pass_many<R: AsOctets + Copy, F: Moving<R>>(
 /// # Errors
 ///
 /// `Malformed` if there are fewer. The parser is then unchanged.
-pub fn parse_many<R: AsOctets + Copy, F: Moving<R>>(
+pub fn parse_many<R: AsOctets + Copy, F: Format<R, Delimited = Yes, Moving = Yes>>(
     parser: &mut Parser<R>,
     count: usize,
     turns: &mut Turns,
@@ -74,7 +76,7 @@ pub fn parse_many<R: AsOctets + Copy, F: Moving<R>>(
 }
 
 /// Reads all items up to the end of the window. Returns how many there are.
-fn pass_all<R: AsOctets + Copy, F: Moving<R>>(
+fn pass_all<R: AsOctets + Copy, F: Format<R, Delimited = Yes, Moving = Yes>>(
     parser: &mut Parser<R>,
     turns: &mut Turns,
 ) -> Result<usize, Malformed>
@@ -150,13 +152,17 @@ pub struct Repeated<F> {
     item: PhantomData<F>,
 }
 
-impl<R: AsOctets + Copy, F: Moving<R>> Format<R> for Repeated<F> {
+impl<R: AsOctets + Copy, F: Format<R, Delimited = Yes, Moving = Yes>> Format<R> for Repeated<F> {
     ghost use Rattle.octseq_format.specs.Laws.{moving_of};
     ghost use Rattle.octseq_format.specs.Row.{Moved, one_to, one_moved, moving_moved, onward_to};
     ghost use Rattle.octseq_format.specs.Row.{onward_moved, delimited_moved, to_read_back};
     ghost use Rattle.octseq_format.specs.Row.{canonical_moved, canonical_to};
 
     type Value = Walk<R, F>;
+
+    type Delimited = No;
+
+    type Moving = No;
 
     ghost Found = { List F.Found };
 
@@ -228,7 +234,11 @@ impl<R: AsOctets + Copy, F: Moving<R>> Format<R> for Repeated<F> {
     ghost onward = { onward_to (Moved F.is_at) (onward_moved F.onward) };
 
     ghost read_back = { to_read_back (Moved F.is_at) F.says F.octets F.fits
-        (delimited_moved (moving_of F.onward F.moving) F.delimited) };
+        (delimited_moved (moving_of F.onward (F.moving refl)) (F.delimited refl)) };
+
+    ghost delimited = { not_so };
+
+    ghost moving = { not_so };
 }
 
 /// A count, followed by that many items.
@@ -238,11 +248,17 @@ pub struct Times<N, F> {
     item: PhantomData<F>,
 }
 
-impl<R: AsOctets + Copy, N: Length, F: Moving<R>> Format<R> for Times<N, F> {
+impl<R: AsOctets + Copy, N: Length, F: Format<R, Delimited = Yes, Moving = Yes>> Format<R>
+    for Times<N, F> {
+    ghost use Rattle.octseq_format.specs.Row.{delimited_times};
     ghost use Rattle.octseq_format.specs.Row.{Times, times_octets, TimesFit, one_times, onward_times, times_read_back};
     ghost use Rattle.octseq_format.specs.Row.{canonical_times};
 
     type Value = Walk<R, F>;
+
+    type Delimited = Yes;
+
+    type Moving = Yes;
 
     ghost Found = { List F.Found };
 
@@ -317,15 +333,9 @@ impl<R: AsOctets + Copy, N: Length, F: Moving<R>> Format<R> for Times<N, F> {
 
     ghost onward = { onward_times N.width F.is_at F.onward };
 
-    ghost read_back = { times_read_back F.is_at F.says F.octets F.fits F.delimited N.width };
-}
+    ghost read_back = { times_read_back F.is_at F.says F.octets F.fits (F.delimited refl) N.width };
 
-impl<R: AsOctets + Copy, N: Length, F: Moving<R>> Delimited<R> for Times<N, F> {
-    ghost use Rattle.octseq_format.specs.Row.{delimited_times};
+    ghost delimited = { λ _. delimited_times F.is_at F.says F.octets F.fits (F.delimited refl) N.width };
 
-    ghost delimited = { delimited_times F.is_at F.says F.octets F.fits F.delimited N.width };
-}
-
-impl<R: AsOctets + Copy, N: Length, F: Moving<R>> Moving<R> for Times<N, F> {
-    ghost moving = { N.wide };
+    ghost moving = { λ _. N.wide };
 }

@@ -5,7 +5,9 @@ ghost use Rattle.octseq.specs.Window.{Window, rest};
 ghost use Rattle.octseq_format.specs.Rest.{window_code};
 ghost use Rattle.octseq_format.specs.Canonical.{not_one_way};
 ghost use Rattle.octseq_format.specs.Text.{IsText, TextFits, one_text, onward_text, text_read_back};
+ghost use Rattle.octseq_format.specs.Answer.{not_so};
 
+use crate::answer::No;
 use crate::format::Format;
 use octseq::utf8::{Turns, find_fault};
 use octseq::{AsOctets, Malformed, OctetsBuilder, Parser, Truncate};
@@ -18,6 +20,10 @@ pub struct Text;
 
 impl<R: AsOctets + Copy> Format<R> for Text {
     type Value = Parser<R>;
+
+    type Delimited = No;
+
+    type Moving = No;
 
     ghost Found = { Window };
 
@@ -90,4 +96,8 @@ impl<R: AsOctets + Copy> Format<R> for Text {
     ghost onward = { onward_text };
 
     ghost read_back = { text_read_back };
+
+    ghost delimited = { not_so };
+
+    ghost moving = { not_so };
 }

@@ -1,15 +1,20 @@
 //! Tuples: one value after another.
-ghost use Rattle.std.specs.Prelude.{◌+◌, ◌&&◌};
+ghost use Rattle.std.specs.Prelude.{◌+◌, ◌&&◌, refl};
 ghost use Rattle.octseq_format.specs.Pair.{◌then◌, ◌and◌, ◌before◌, ◌also◌, ◌code_then◌, ◌plus◌};
 ghost use Rattle.octseq_format.specs.Pair.{◌one_then◌, ◌onward_then◌, ◌back_then◌, ◌delimited_then◌, ◌canonical_then◌};
 ghost use Rattle.octseq_format.specs.Pair.{some_more};
 
-use crate::format::{Delimited, Format, Moving};
+use crate::answer::Yes;
+use crate::format::Format;
 use octseq::{AsOctets, Malformed, OctetsBuilder, Parser, Truncate, Turns};
 use std::alloc::AllocError;
 
-impl<R: AsOctets + Copy, A: Delimited<R>, B: Format<R>> Format<R> for (A, B) {
+impl<R: AsOctets + Copy, A: Format<R, Delimited = Yes>, B: Format<R>> Format<R> for (A, B) {
     type Value = (A::Value, B::Value);
+
+    type Delimited = B::Delimited;
+
+    type Moving = A::Moving;
 
     ghost Found = { A.Found × B.Found };
 
@@ -86,19 +91,24 @@ impl<R: AsOctets + Copy, A: Delimited<R>, B: Format<R>> Format<R> for (A, B) {
 
     ghost onward = { A.onward onward_then B.onward };
 
-    ghost read_back = { A.delimited back_then B.read_back };
+    ghost read_back = { A.delimited refl back_then B.read_back };
+
+    ghost delimited = { λ yes. A.delimited refl delimited_then B.delimited yes };
+
+    ghost moving = { λ yes. some_more B.least (A.moving yes) };
 }
 
-impl<R: AsOctets + Copy, A: Delimited<R>, B: Delimited<R>> Delimited<R> for (A, B) {
-    ghost delimited = { A.delimited delimited_then B.delimited };
-}
-
-impl<R: AsOctets + Copy, A: Moving<R>, B: Delimited<R>> Moving<R> for (A, B) {
-    ghost moving = { some_more B.least A.moving };
-}
-
-impl<R: AsOctets + Copy, A: Delimited<R>, B: Delimited<R>, C: Format<R>> Format<R> for (A, B, C) {
+impl<
+    R: AsOctets + Copy,
+    A: Format<R, Delimited = Yes>,
+    B: Format<R, Delimited = Yes>,
+    C: Format<R>,
+> Format<R> for (A, B, C) {
     type Value = (A::Value, B::Value, C::Value);
+
+    type Delimited = C::Delimited;
+
+    type Moving = A::Moving;
 
     ghost Found = { A.Found × (B.Found × C.Found) };
 
@@ -163,21 +173,25 @@ impl<R: AsOctets + Copy, A: Delimited<R>, B: Delimited<R>, C: Format<R>> Format<
 
     ghost onward = { A.onward onward_then B.onward onward_then C.onward };
 
-    ghost read_back = { A.delimited back_then B.delimited back_then C.read_back };
+    ghost read_back = { A.delimited refl back_then B.delimited refl back_then C.read_back };
+
+    ghost delimited = { λ yes. A.delimited refl delimited_then B.delimited refl delimited_then C.delimited yes };
+
+    ghost moving = { λ yes. some_more (B.least + C.least) (A.moving yes) };
 }
 
-impl<R: AsOctets + Copy, A: Delimited<R>, B: Delimited<R>, C: Delimited<R>> Delimited<R>
-    for (A, B, C) {
-    ghost delimited = { A.delimited delimited_then B.delimited delimited_then C.delimited };
-}
-
-impl<R: AsOctets + Copy, A: Moving<R>, B: Delimited<R>, C: Delimited<R>> Moving<R> for (A, B, C) {
-    ghost moving = { some_more (B.least + C.least) A.moving };
-}
-
-impl<R: AsOctets + Copy, A: Delimited<R>, B: Delimited<R>, C: Delimited<R>, D: Format<R>> Format<R>
-    for (A, B, C, D) {
+impl<
+    R: AsOctets + Copy,
+    A: Format<R, Delimited = Yes>,
+    B: Format<R, Delimited = Yes>,
+    C: Format<R, Delimited = Yes>,
+    D: Format<R>,
+> Format<R> for (A, B, C, D) {
     type Value = (A::Value, B::Value, C::Value, D::Value);
+
+    type Delimited = D::Delimited;
+
+    type Moving = A::Moving;
 
     ghost Found = { A.Found × (B.Found × (C.Found × D.Found)) };
 
@@ -242,34 +256,27 @@ impl<R: AsOctets + Copy, A: Delimited<R>, B: Delimited<R>, C: Delimited<R>, D: F
 
     ghost onward = { A.onward onward_then B.onward onward_then C.onward onward_then D.onward };
 
-    ghost read_back = { A.delimited back_then B.delimited back_then C.delimited back_then D.read_back };
+    ghost read_back = { A.delimited refl back_then B.delimited refl back_then C.delimited refl back_then D.read_back };
+
+    ghost delimited = { λ yes. A.delimited refl delimited_then B.delimited refl delimited_then C.delimited refl
+        delimited_then D.delimited yes };
+
+    ghost moving = { λ yes. some_more (B.least + (C.least + D.least)) (A.moving yes) };
 }
 
 impl<
     R: AsOctets + Copy,
-    A: Delimited<R>,
-    B: Delimited<R>,
-    C: Delimited<R>,
-    D: Delimited<R>,
-> Delimited<R> for (A, B, C, D) {
-    ghost delimited = { A.delimited delimited_then B.delimited delimited_then C.delimited
-        delimited_then D.delimited };
-}
-
-impl<R: AsOctets + Copy, A: Moving<R>, B: Delimited<R>, C: Delimited<R>, D: Delimited<R>> Moving<R>
-    for (A, B, C, D) {
-    ghost moving = { some_more (B.least + (C.least + D.least)) A.moving };
-}
-
-impl<
-    R: AsOctets + Copy,
-    A: Delimited<R>,
-    B: Delimited<R>,
-    C: Delimited<R>,
-    D: Delimited<R>,
+    A: Format<R, Delimited = Yes>,
+    B: Format<R, Delimited = Yes>,
+    C: Format<R, Delimited = Yes>,
+    D: Format<R, Delimited = Yes>,
     E: Format<R>,
 > Format<R> for (A, B, C, D, E) {
     type Value = (A::Value, B::Value, C::Value, D::Value, E::Value);
+
+    type Delimited = E::Delimited;
+
+    type Moving = A::Moving;
 
     ghost Found = { A.Found × (B.Found × (C.Found × (D.Found × E.Found))) };
 
@@ -342,43 +349,29 @@ impl<
 
     ghost onward = { A.onward onward_then B.onward onward_then C.onward onward_then D.onward onward_then E.onward };
 
-    ghost read_back = { A.delimited back_then B.delimited back_then C.delimited back_then D.delimited
-        back_then E.read_back };
+    ghost read_back = { A.delimited refl back_then B.delimited refl back_then C.delimited refl back_then D.delimited
+        refl back_then E.read_back };
+
+    ghost delimited = { λ yes. A.delimited refl delimited_then B.delimited refl delimited_then C.delimited refl
+        delimited_then D.delimited refl delimited_then E.delimited yes };
+
+    ghost moving = { λ yes. some_more (B.least + (C.least + (D.least + E.least))) (A.moving yes) };
 }
 
 impl<
     R: AsOctets + Copy,
-    A: Delimited<R>,
-    B: Delimited<R>,
-    C: Delimited<R>,
-    D: Delimited<R>,
-    E: Delimited<R>,
-> Delimited<R> for (A, B, C, D, E) {
-    ghost delimited = { A.delimited delimited_then B.delimited delimited_then C.delimited
-        delimited_then D.delimited delimited_then E.delimited };
-}
-
-impl<
-    R: AsOctets + Copy,
-    A: Moving<R>,
-    B: Delimited<R>,
-    C: Delimited<R>,
-    D: Delimited<R>,
-    E: Delimited<R>,
-> Moving<R> for (A, B, C, D, E) {
-    ghost moving = { some_more (B.least + (C.least + (D.least + E.least))) A.moving };
-}
-
-impl<
-    R: AsOctets + Copy,
-    A: Delimited<R>,
-    B: Delimited<R>,
-    C: Delimited<R>,
-    D: Delimited<R>,
-    E: Delimited<R>,
+    A: Format<R, Delimited = Yes>,
+    B: Format<R, Delimited = Yes>,
+    C: Format<R, Delimited = Yes>,
+    D: Format<R, Delimited = Yes>,
+    E: Format<R, Delimited = Yes>,
     F: Format<R>,
 > Format<R> for (A, B, C, D, E, F) {
     type Value = (A::Value, B::Value, C::Value, D::Value, E::Value, F::Value);
+
+    type Delimited = F::Delimited;
+
+    type Moving = A::Moving;
 
     ghost Found = { A.Found × (B.Found × (C.Found × (D.Found × (E.Found × F.Found)))) };
 
@@ -464,43 +457,23 @@ impl<
     ghost onward = { A.onward onward_then B.onward onward_then C.onward onward_then D.onward onward_then E.onward
         onward_then F.onward };
 
-    ghost read_back = { A.delimited back_then B.delimited back_then C.delimited back_then D.delimited
-        back_then E.delimited back_then F.read_back };
+    ghost read_back = { A.delimited refl back_then B.delimited refl back_then C.delimited refl back_then D.delimited
+        refl back_then E.delimited refl back_then F.read_back };
+
+    ghost delimited = { λ yes. A.delimited refl delimited_then B.delimited refl delimited_then C.delimited refl
+        delimited_then D.delimited refl delimited_then E.delimited refl delimited_then F.delimited yes };
+
+    ghost moving = { λ yes. some_more (B.least + (C.least + (D.least + (E.least + F.least)))) (A.moving yes) };
 }
 
 impl<
     R: AsOctets + Copy,
-    A: Delimited<R>,
-    B: Delimited<R>,
-    C: Delimited<R>,
-    D: Delimited<R>,
-    E: Delimited<R>,
-    F: Delimited<R>,
-> Delimited<R> for (A, B, C, D, E, F) {
-    ghost delimited = { A.delimited delimited_then B.delimited delimited_then C.delimited
-        delimited_then D.delimited delimited_then E.delimited delimited_then F.delimited };
-}
-
-impl<
-    R: AsOctets + Copy,
-    A: Moving<R>,
-    B: Delimited<R>,
-    C: Delimited<R>,
-    D: Delimited<R>,
-    E: Delimited<R>,
-    F: Delimited<R>,
-> Moving<R> for (A, B, C, D, E, F) {
-    ghost moving = { some_more (B.least + (C.least + (D.least + (E.least + F.least)))) A.moving };
-}
-
-impl<
-    R: AsOctets + Copy,
-    A: Delimited<R>,
-    B: Delimited<R>,
-    C: Delimited<R>,
-    D: Delimited<R>,
-    E: Delimited<R>,
-    F: Delimited<R>,
+    A: Format<R, Delimited = Yes>,
+    B: Format<R, Delimited = Yes>,
+    C: Format<R, Delimited = Yes>,
+    D: Format<R, Delimited = Yes>,
+    E: Format<R, Delimited = Yes>,
+    F: Format<R, Delimited = Yes>,
     G: Format<R>,
 > Format<R> for (A, B, C, D, E, F, G) {
     type Value = (
@@ -512,6 +485,10 @@ impl<
         F::Value,
         G::Value,
     );
+
+    type Delimited = G::Delimited;
+
+    type Moving = A::Moving;
 
     ghost Found = { A.Found × (B.Found × (C.Found × (D.Found × (E.Found × (F.Found × G.Found))))) };
 
@@ -606,47 +583,26 @@ impl<
     ghost onward = { A.onward onward_then B.onward onward_then C.onward onward_then D.onward onward_then E.onward
         onward_then F.onward onward_then G.onward };
 
-    ghost read_back = { A.delimited back_then B.delimited back_then C.delimited back_then D.delimited
-        back_then E.delimited back_then F.delimited back_then G.read_back };
+    ghost read_back = { A.delimited refl back_then B.delimited refl back_then C.delimited refl back_then D.delimited
+        refl back_then E.delimited refl back_then F.delimited refl back_then G.read_back };
+
+    ghost delimited = { λ yes. A.delimited refl delimited_then B.delimited refl delimited_then C.delimited refl
+        delimited_then D.delimited refl delimited_then E.delimited refl delimited_then F.delimited refl delimited_then
+        G.delimited yes };
+
+    ghost moving = { λ yes. some_more (B.least + (C.least + (D.least + (E.least + (F.least + G.least)))))
+        (A.moving yes) };
 }
 
 impl<
     R: AsOctets + Copy,
-    A: Delimited<R>,
-    B: Delimited<R>,
-    C: Delimited<R>,
-    D: Delimited<R>,
-    E: Delimited<R>,
-    F: Delimited<R>,
-    G: Delimited<R>,
-> Delimited<R> for (A, B, C, D, E, F, G) {
-    ghost delimited = { A.delimited delimited_then B.delimited delimited_then C.delimited
-        delimited_then D.delimited delimited_then E.delimited delimited_then F.delimited
-        delimited_then G.delimited };
-}
-
-impl<
-    R: AsOctets + Copy,
-    A: Moving<R>,
-    B: Delimited<R>,
-    C: Delimited<R>,
-    D: Delimited<R>,
-    E: Delimited<R>,
-    F: Delimited<R>,
-    G: Delimited<R>,
-> Moving<R> for (A, B, C, D, E, F, G) {
-    ghost moving = { some_more (B.least + (C.least + (D.least + (E.least + (F.least + G.least))))) A.moving };
-}
-
-impl<
-    R: AsOctets + Copy,
-    A: Delimited<R>,
-    B: Delimited<R>,
-    C: Delimited<R>,
-    D: Delimited<R>,
-    E: Delimited<R>,
-    F: Delimited<R>,
-    G: Delimited<R>,
+    A: Format<R, Delimited = Yes>,
+    B: Format<R, Delimited = Yes>,
+    C: Format<R, Delimited = Yes>,
+    D: Format<R, Delimited = Yes>,
+    E: Format<R, Delimited = Yes>,
+    F: Format<R, Delimited = Yes>,
+    G: Format<R, Delimited = Yes>,
     H: Format<R>,
 > Format<R> for (A, B, C, D, E, F, G, H) {
     type Value = (
@@ -659,6 +615,10 @@ impl<
         G::Value,
         H::Value,
     );
+
+    type Delimited = H::Delimited;
+
+    type Moving = A::Moving;
 
     ghost Found = { A.Found × (B.Found × (C.Found × (D.Found × (E.Found × (F.Found × (G.Found × H.Found)))))) };
 
@@ -760,37 +720,13 @@ impl<
     ghost onward = { A.onward onward_then B.onward onward_then C.onward onward_then D.onward onward_then E.onward
         onward_then F.onward onward_then G.onward onward_then H.onward };
 
-    ghost read_back = { A.delimited back_then B.delimited back_then C.delimited back_then D.delimited
-        back_then E.delimited back_then F.delimited back_then G.delimited back_then H.read_back };
-}
+    ghost read_back = { A.delimited refl back_then B.delimited refl back_then C.delimited refl back_then D.delimited
+        refl back_then E.delimited refl back_then F.delimited refl back_then G.delimited refl back_then H.read_back };
 
-impl<
-    R: AsOctets + Copy,
-    A: Delimited<R>,
-    B: Delimited<R>,
-    C: Delimited<R>,
-    D: Delimited<R>,
-    E: Delimited<R>,
-    F: Delimited<R>,
-    G: Delimited<R>,
-    H: Delimited<R>,
-> Delimited<R> for (A, B, C, D, E, F, G, H) {
-    ghost delimited = { A.delimited delimited_then B.delimited delimited_then C.delimited
-        delimited_then D.delimited delimited_then E.delimited delimited_then F.delimited
-        delimited_then G.delimited delimited_then H.delimited };
-}
+    ghost delimited = { λ yes. A.delimited refl delimited_then B.delimited refl delimited_then C.delimited refl
+        delimited_then D.delimited refl delimited_then E.delimited refl delimited_then F.delimited refl delimited_then
+        G.delimited refl delimited_then H.delimited yes };
 
-impl<
-    R: AsOctets + Copy,
-    A: Moving<R>,
-    B: Delimited<R>,
-    C: Delimited<R>,
-    D: Delimited<R>,
-    E: Delimited<R>,
-    F: Delimited<R>,
-    G: Delimited<R>,
-    H: Delimited<R>,
-> Moving<R> for (A, B, C, D, E, F, G, H) {
-    ghost moving = { some_more (B.least + (C.least + (D.least + (E.least + (F.least + (G.least + H.least))))))
-        A.moving };
+    ghost moving = { λ yes. some_more (B.least + (C.least + (D.least + (E.least + (F.least + (G.least + H.least))))))
+        (A.moving yes) };
 }

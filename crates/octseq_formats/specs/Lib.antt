@@ -1,1 +1,2 @@
+pub mod Dhcp
 pub mod Tftp

@@ -52,6 +52,7 @@ fn compose<F: Format<R>, R: AsOctets + Copy, B: EmptyBuilder + Truncate>(
     F::compose_whole(alloc, value)
 }
 
+mod dhcp;
 mod leaves;
 mod limits;
 mod ntp;

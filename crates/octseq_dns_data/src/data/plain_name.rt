@@ -12,7 +12,7 @@ ghost use Rattle.octseq_format.specs.Canonical.{not_one_way};
 use octseq::{AsOctets, Malformed, OctetsBuilder, Parser, Truncate, Turns};
 use octseq_dns_name::name::a_name_has_labels;
 use octseq_dns_name::{DomainName, ParsedName};
-use octseq_format::{Delimited, Format, Moving, are_octets};
+use octseq_format::{Format, Yes, are_octets};
 use std::alloc::AllocError;
 
 /// A domain name without compression pointers. A name with a pointer is refused. Data of types later than RFC 1035 has
@@ -22,6 +22,10 @@ pub struct PlainName;
 
 impl<R: AsOctets + Copy> Format<R> for PlainName {
     type Value = ParsedName<R>;
+
+    type Delimited = Yes;
+
+    type Moving = Yes;
 
     ghost Found = { Named };
 
@@ -97,12 +101,8 @@ impl<R: AsOctets + Copy> Format<R> for PlainName {
     ghost onward = { onward_plain };
 
     ghost read_back = { plain_read_back };
-}
 
-impl<R: AsOctets + Copy> Delimited<R> for PlainName {
-    ghost delimited = { delimited_plain };
-}
+    ghost delimited = { λ _. delimited_plain };
 
-impl<R: AsOctets + Copy> Moving<R> for PlainName {
-    ghost moving = { Prim.search rules };
+    ghost moving = { λ _. Prim.search rules };
 }

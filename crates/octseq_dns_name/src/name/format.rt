@@ -13,7 +13,7 @@ use crate::name::ParsedName;
 use crate::name::wire::append_labels;
 use octseq::builder::infallible;
 use octseq::{Array, AsOctets, OctetsBuilder, Parser, Truncate, Turns};
-use octseq_format::{Delimited, Format, Moving};
+use octseq_format::{Format, Yes};
 use std::alloc::AllocError;
 
 /// A domain name: read with its compression pointers, and written without any.
@@ -22,6 +22,10 @@ pub struct DomainName;
 
 impl<R: AsOctets + Copy> Format<R> for DomainName {
     type Value = ParsedName<R>;
+
+    type Delimited = Yes;
+
+    type Moving = Yes;
 
     ghost Found = { Named };
 
@@ -91,12 +95,8 @@ impl<R: AsOctets + Copy> Format<R> for DomainName {
     ghost onward = { onward_name };
 
     ghost read_back = { name_read_back };
-}
 
-impl<R: AsOctets + Copy> Delimited<R> for DomainName {
-    ghost delimited = { delimited_name };
-}
+    ghost delimited = { λ _. delimited_name };
 
-impl<R: AsOctets + Copy> Moving<R> for DomainName {
-    ghost moving = { Prim.search rules };
+    ghost moving = { λ _. Prim.search rules };
 }

@@ -13,7 +13,7 @@ items-preserved g c =
     let v = window c.parse_counted.new.parser in
     let one = f.found c.in_ok-_item._item in
     let is = c.in_ok-_item.ensures.value in
-    let less = (moving_of g.met.F.Format.onward g.met.F.Moving.moving).on u one v is in
+    let less = (moving_of g.met.F.Format.onward (g.met.F.Format.moving refl)).on u one v is in
     let tick = c.tick.ensures in
     let here = c.remaining-left-in-items.ensures.left in
     record {
@@ -41,6 +41,6 @@ returns-in_err-_item-clause-malformed g c = λ _ row v is.
     let all = c.items.invariant.all in
     let ahead = c.items.invariant.ahead in
     let some : 0 < left (window c.items.parser) = omega (arith, ahead, c.items-test.true) in
-    let moving = moving_of g.met.F.Format.onward g.met.F.Moving.moving in
+    let moving = moving_of g.met.F.Format.onward (g.met.F.Format.moving refl) in
     to_ends f.is_at f.one moving (window c.args.parser.now) (window c.items.parser) v all.0 row
     (c.in_err-_item.ensures.malformed refl) some all.1.1 is.0 is.1

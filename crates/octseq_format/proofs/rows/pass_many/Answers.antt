@@ -13,7 +13,7 @@ loop-taken-preserved g c =
     let v = window c.parse_counted.new.parser in
     let one = f.found c.in_ok-_item._item in
     let is = c.in_ok-_item.ensures.value in
-    let less = (moving_of g.met.F.Format.onward g.met.F.Moving.moving).on u one v is in
+    let less = (moving_of g.met.F.Format.onward (g.met.F.Format.moving refl)).on u one v is in
     let tick = c.tick.ensures in
     record {
       all = (

@@ -19,7 +19,7 @@ returns-clause-value g c =
     let all = c.in_ok-count.ensures.all in
     let same = c.at.ensures (all.0, ∣ (v, ((all.1.0, all.1.1), sym c.pos.ensures.position)) ∣₁) in
     let row = subst (λ row. Row f.is_at w row v) (sym same) all.1.1 in
-    let moving = moving_of g.met.F.Format.onward g.met.F.Moving.moving in
+    let moving = moving_of g.met.F.Format.onward (g.met.F.Format.moving refl) in
     (row_moved f.is_at moving w v (items_left c.at.result) row, c.in_ok-count.ensures.ends)
 
 pub returns-clause-counted : goal.returns-clause-counted
