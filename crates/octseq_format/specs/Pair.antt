@@ -1,5 +1,5 @@
 -- One value, followed by another.
-use Rattle.std.specs.Prelude.{◌≡◌, Bool, ◌&&◌, IsTrue, ℕ, ◌+◌, ◌<◌, List, ◌++◌, length, refl}
+use Rattle.std.specs.Prelude.{◌≡◌, Bool, ◌&&◌, IsTrue, ℕ, ◌+◌, ◌<◌, ◌^◌, List, ◌++◌, length, refl, Option, Some, None, SomeIff}
 use Rattle.std.proofs.Common.{sym, ap, ◌∙◌, subst, arith, length-append, append_assoc}
 use Rattle.std.specs.Coded.{Coded, coded×}
 use Rattle.octseq.specs.Window.{Window, rest, at, past}
@@ -41,6 +41,12 @@ fit_once : {A B : Type 0} {First : A → Type 0} {Second : B → Type 0} → ((a
 fit_once one two both a b =
     ap (λ first. record { first = first; second = a.second }) (one both.0 a.first b.first)
     ∙ ap (λ second. record { first = b.first; second = second }) (two both.1 a.second b.second)
+
+-- the number of octets of both, by those of each: there is one if each has one and a `usize` can hold it
+abbrev pub AreBoth : Option ℕ → Option ℕ → Option ℕ → Type 0
+AreBoth None second both = both ≡ None
+AreBoth (Some m) None both = both ≡ None
+AreBoth (Some m) (Some n) both = SomeIff both (m + n < 2 ^ 64) (m + n)
 
 infixr 5 ◌plus◌
 -- the turns of both

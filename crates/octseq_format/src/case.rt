@@ -27,7 +27,7 @@ use std::marker::PhantomData;
 /// The cases of a tag: the format of what follows it, for each tag.
 pub trait Cases<R: AsOctets + Copy> {
     /// The type that is read and written.
-    type Value: Copy + Drop;
+    type Value: Drop;
 
     /// Whether the octets show where a value ends, whatever follows.
     type Delimited: Answer;

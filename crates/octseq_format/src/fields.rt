@@ -7,7 +7,7 @@ use std::alloc::AllocError;
 use std::marker::PhantomData;
 
 /// A struct or an enum of your own, by the format of its fields.
-pub trait Fields<R: AsOctets + Copy>: Copy + Drop {
+pub trait Fields<R: AsOctets + Copy>: Drop {
     /// The format of the fields, such as a tuple.
     type Format: Format<R>;
 

@@ -20,7 +20,7 @@ use std::alloc::{AllocError, Global};
 /// How a value is encoded as octets: one type reads and writes it.
 pub trait Format<R: AsOctets + Copy> {
     /// The type that is read and written.
-    type Value: Copy + Drop;
+    type Value: Drop;
 
     /// Whether the octets show where a value ends, whatever follows.
     type Delimited: Answer;

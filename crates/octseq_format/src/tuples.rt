@@ -1,13 +1,49 @@
 //! Tuples: one value after another.
-ghost use Rattle.std.specs.Prelude.{◌+◌, ◌&&◌, refl};
+ghost use Rattle.std.specs.Prelude.{◌≡◌, ◌≤◌, ◌+◌, ◌++◌, ◌&&◌, length, take, true, refl, IsErr, OnOk, OnErr};
+ghost use Rattle.octseq.specs.Limit.{IsWithin};
+ghost use Rattle.octseq_format.specs.Laws.{HasOctets};
 ghost use Rattle.octseq_format.specs.Pair.{◌then◌, ◌and◌, ◌before◌, ◌also◌, ◌code_then◌, ◌plus◌};
 ghost use Rattle.octseq_format.specs.Pair.{◌one_then◌, ◌onward_then◌, ◌back_then◌, ◌delimited_then◌, ◌canonical_then◌};
-ghost use Rattle.octseq_format.specs.Pair.{some_more};
+ghost use Rattle.octseq_format.specs.Pair.{AreBoth, some_more};
 
 use crate::answer::Yes;
 use crate::format::Format;
 use octseq::{AsOctets, Malformed, OctetsBuilder, Parser, Truncate, Turns};
 use std::alloc::AllocError;
+
+/// Returns the number of octets of two values, by those of each. Returns `None` if one has none, or a `usize` can't hold
+/// the sum.
+#[inline(always)]
+fn both_len(first: Option<usize>, second: Option<usize>) -> Option<usize>
+    ensures { AreBoth first second result }
+{
+    match (first, second) {
+        (Some(first), Some(second)) => first.checked_add(second),
+        _ => None,
+    }
+}
+
+/// Appends the octets of a value. If it is refused, the content is cut to `start` octets.
+#[inline(always)]
+fn put_or_cut<B: OctetsBuilder + Truncate, R: AsOctets + Copy, F: Format<R>>(
+    builder: &mut B,
+    value: &F::Value,
+    start: usize,
+) -> Result<(), AllocError>
+    requires fit { HasOctets F.octets F.fits (F.says (F.found value.now)) }
+    requires within { IsWithin B.limit (length (B.content builder.now) + length (F.octets (F.says (F.found value.now)))) }
+    requires start { start ≤ length (B.content builder.now) }
+    ensures ok { OnOk result (B.content builder.new ≡ B.content builder.old ++ F.octets (F.says (F.found value.now))) }
+    ensures err { OnErr result (B.content builder.new ≡ take start (B.content builder.old)) }
+    ensures memory { IsErr result → B.asks ≡ true }
+    ensures borrows { B.borrows builder.new ≡ B.borrows builder.old }
+{
+    let appended = F::put(builder, value);
+    if appended.is_err() {
+        builder.truncate(start);
+    }
+    appended
+}
 
 impl<R: AsOctets + Copy, A: Format<R, Delimited = Yes>, B: Format<R>> Format<R> for (A, B) {
     type Value = (A::Value, B::Value);
@@ -156,15 +192,21 @@ impl<
 
     #[inline(always)]
     fn compose_len(value: &Self::Value) -> Option<usize> {
-        <(A, (B, C)) as Format<R>>::compose_len(&(value.0, (value.1, value.2)))
+        let from_c = C::compose_len(&value.2);
+        let from_b = both_len(B::compose_len(&value.1), from_c);
+        both_len(A::compose_len(&value.0), from_b)
     }
 
     #[inline(always)]
+    #[tactic(auto, unfolding(crate::specs::Pair::both_octets, crate::specs::Pair::both_say))]
     fn put<Into: OctetsBuilder + Truncate>(
         builder: &mut Into,
         value: &Self::Value,
     ) -> Result<(), AllocError> {
-        <(A, (B, C)) as Format<R>>::put(builder, &(value.0, (value.1, value.2)))
+        let before = builder.len();
+        A::put(builder, &value.0)?;
+        put_or_cut::<Into, R, B>(builder, &value.1, before)?;
+        put_or_cut::<Into, R, C>(builder, &value.2, before)
     }
 
     ghost one_way = { A.one_way && (B.one_way && C.one_way) };
@@ -239,15 +281,23 @@ impl<
 
     #[inline(always)]
     fn compose_len(value: &Self::Value) -> Option<usize> {
-        <(A, (B, C, D)) as Format<R>>::compose_len(&(value.0, (value.1, value.2, value.3)))
+        let from_d = D::compose_len(&value.3);
+        let from_c = both_len(C::compose_len(&value.2), from_d);
+        let from_b = both_len(B::compose_len(&value.1), from_c);
+        both_len(A::compose_len(&value.0), from_b)
     }
 
     #[inline(always)]
+    #[tactic(auto, unfolding(crate::specs::Pair::both_octets, crate::specs::Pair::both_say))]
     fn put<Into: OctetsBuilder + Truncate>(
         builder: &mut Into,
         value: &Self::Value,
     ) -> Result<(), AllocError> {
-        <(A, (B, C, D)) as Format<R>>::put(builder, &(value.0, (value.1, value.2, value.3)))
+        let before = builder.len();
+        A::put(builder, &value.0)?;
+        put_or_cut::<Into, R, B>(builder, &value.1, before)?;
+        put_or_cut::<Into, R, C>(builder, &value.2, before)?;
+        put_or_cut::<Into, R, D>(builder, &value.3, before)
     }
 
     ghost one_way = { A.one_way && (B.one_way && (C.one_way && D.one_way)) };
@@ -325,21 +375,25 @@ impl<
 
     #[inline(always)]
     fn compose_len(value: &Self::Value) -> Option<usize> {
-        <(A, (B, C, D, E)) as Format<R>>::compose_len(&(
-            value.0,
-            (value.1, value.2, value.3, value.4),
-        ))
+        let from_e = E::compose_len(&value.4);
+        let from_d = both_len(D::compose_len(&value.3), from_e);
+        let from_c = both_len(C::compose_len(&value.2), from_d);
+        let from_b = both_len(B::compose_len(&value.1), from_c);
+        both_len(A::compose_len(&value.0), from_b)
     }
 
     #[inline(always)]
+    #[tactic(auto, unfolding(crate::specs::Pair::both_octets, crate::specs::Pair::both_say))]
     fn put<Into: OctetsBuilder + Truncate>(
         builder: &mut Into,
         value: &Self::Value,
     ) -> Result<(), AllocError> {
-        <(A, (B, C, D, E)) as Format<R>>::put(
-            builder,
-            &(value.0, (value.1, value.2, value.3, value.4)),
-        )
+        let before = builder.len();
+        A::put(builder, &value.0)?;
+        put_or_cut::<Into, R, B>(builder, &value.1, before)?;
+        put_or_cut::<Into, R, C>(builder, &value.2, before)?;
+        put_or_cut::<Into, R, D>(builder, &value.3, before)?;
+        put_or_cut::<Into, R, E>(builder, &value.4, before)
     }
 
     ghost one_way = { A.one_way && (B.one_way && (C.one_way && (D.one_way && E.one_way))) };
@@ -432,21 +486,27 @@ impl<
 
     #[inline(always)]
     fn compose_len(value: &Self::Value) -> Option<usize> {
-        <(A, (B, C, D, E, F)) as Format<R>>::compose_len(&(
-            value.0,
-            (value.1, value.2, value.3, value.4, value.5),
-        ))
+        let from_f = F::compose_len(&value.5);
+        let from_e = both_len(E::compose_len(&value.4), from_f);
+        let from_d = both_len(D::compose_len(&value.3), from_e);
+        let from_c = both_len(C::compose_len(&value.2), from_d);
+        let from_b = both_len(B::compose_len(&value.1), from_c);
+        both_len(A::compose_len(&value.0), from_b)
     }
 
     #[inline(always)]
+    #[tactic(auto, unfolding(crate::specs::Pair::both_octets, crate::specs::Pair::both_say))]
     fn put<Into: OctetsBuilder + Truncate>(
         builder: &mut Into,
         value: &Self::Value,
     ) -> Result<(), AllocError> {
-        <(A, (B, C, D, E, F)) as Format<R>>::put(
-            builder,
-            &(value.0, (value.1, value.2, value.3, value.4, value.5)),
-        )
+        let before = builder.len();
+        A::put(builder, &value.0)?;
+        put_or_cut::<Into, R, B>(builder, &value.1, before)?;
+        put_or_cut::<Into, R, C>(builder, &value.2, before)?;
+        put_or_cut::<Into, R, D>(builder, &value.3, before)?;
+        put_or_cut::<Into, R, E>(builder, &value.4, before)?;
+        put_or_cut::<Into, R, F>(builder, &value.5, before)
     }
 
     ghost one_way = { A.one_way && (B.one_way && (C.one_way && (D.one_way && (E.one_way && F.one_way)))) };
@@ -554,24 +614,29 @@ impl<
 
     #[inline(always)]
     fn compose_len(value: &Self::Value) -> Option<usize> {
-        <(A, (B, C, D, E, F, G)) as Format<R>>::compose_len(&(
-            value.0,
-            (value.1, value.2, value.3, value.4, value.5, value.6),
-        ))
+        let from_g = G::compose_len(&value.6);
+        let from_f = both_len(F::compose_len(&value.5), from_g);
+        let from_e = both_len(E::compose_len(&value.4), from_f);
+        let from_d = both_len(D::compose_len(&value.3), from_e);
+        let from_c = both_len(C::compose_len(&value.2), from_d);
+        let from_b = both_len(B::compose_len(&value.1), from_c);
+        both_len(A::compose_len(&value.0), from_b)
     }
 
     #[inline(always)]
+    #[tactic(auto, unfolding(crate::specs::Pair::both_octets, crate::specs::Pair::both_say))]
     fn put<Into: OctetsBuilder + Truncate>(
         builder: &mut Into,
         value: &Self::Value,
     ) -> Result<(), AllocError> {
-        <(A, (B, C, D, E, F, G)) as Format<R>>::put(
-            builder,
-            &(
-                value.0,
-                (value.1, value.2, value.3, value.4, value.5, value.6),
-            ),
-        )
+        let before = builder.len();
+        A::put(builder, &value.0)?;
+        put_or_cut::<Into, R, B>(builder, &value.1, before)?;
+        put_or_cut::<Into, R, C>(builder, &value.2, before)?;
+        put_or_cut::<Into, R, D>(builder, &value.3, before)?;
+        put_or_cut::<Into, R, E>(builder, &value.4, before)?;
+        put_or_cut::<Into, R, F>(builder, &value.5, before)?;
+        put_or_cut::<Into, R, G>(builder, &value.6, before)
     }
 
     ghost one_way = { A.one_way && (B.one_way && (C.one_way && (D.one_way && (E.one_way && (F.one_way
@@ -686,28 +751,31 @@ impl<
 
     #[inline(always)]
     fn compose_len(value: &Self::Value) -> Option<usize> {
-        <(A, (B, C, D, E, F, G, H)) as Format<R>>::compose_len(&(
-            value.0,
-            (
-                value.1, value.2, value.3, value.4, value.5, value.6, value.7,
-            ),
-        ))
+        let from_h = H::compose_len(&value.7);
+        let from_g = both_len(G::compose_len(&value.6), from_h);
+        let from_f = both_len(F::compose_len(&value.5), from_g);
+        let from_e = both_len(E::compose_len(&value.4), from_f);
+        let from_d = both_len(D::compose_len(&value.3), from_e);
+        let from_c = both_len(C::compose_len(&value.2), from_d);
+        let from_b = both_len(B::compose_len(&value.1), from_c);
+        both_len(A::compose_len(&value.0), from_b)
     }
 
     #[inline(always)]
+    #[tactic(auto, unfolding(crate::specs::Pair::both_octets, crate::specs::Pair::both_say))]
     fn put<Into: OctetsBuilder + Truncate>(
         builder: &mut Into,
         value: &Self::Value,
     ) -> Result<(), AllocError> {
-        <(A, (B, C, D, E, F, G, H)) as Format<R>>::put(
-            builder,
-            &(
-                value.0,
-                (
-                    value.1, value.2, value.3, value.4, value.5, value.6, value.7,
-                ),
-            ),
-        )
+        let before = builder.len();
+        A::put(builder, &value.0)?;
+        put_or_cut::<Into, R, B>(builder, &value.1, before)?;
+        put_or_cut::<Into, R, C>(builder, &value.2, before)?;
+        put_or_cut::<Into, R, D>(builder, &value.3, before)?;
+        put_or_cut::<Into, R, E>(builder, &value.4, before)?;
+        put_or_cut::<Into, R, F>(builder, &value.5, before)?;
+        put_or_cut::<Into, R, G>(builder, &value.6, before)?;
+        put_or_cut::<Into, R, H>(builder, &value.7, before)
     }
 
     ghost one_way = { A.one_way && (B.one_way && (C.one_way && (D.one_way && (E.one_way && (F.one_way

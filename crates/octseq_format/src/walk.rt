@@ -6,6 +6,7 @@ ghost use Rattle.std.specs.List.{AllByRecursion};
 ghost use Rattle.octseq_format.specs.Canonical.{IsCanonical};
 ghost use Rattle.octseq_format.specs.Row.{HoldsTo, held_to_once, row_octets};
 
+use crate::answer::{No, Yes};
 use crate::format::Format;
 use crate::laws::are_octets;
 use octseq::{AsOctets, Parser};
@@ -19,6 +20,7 @@ pub struct Walk<R: AsOctets + Copy, F: Format<R>> {
     left: usize,
     end: usize,
     item: PhantomData<F>,
+    answers: PhantomData<(Yes, No)>,
     ghost ahead: { HoldsTo F.is_at (window parser) left end } by { held_to_once F.found_code F.is_at F.one _ _ _ },
 }
 
@@ -35,6 +37,7 @@ impl<R: AsOctets + Copy, F: Format<R>> Clone for Walk<R, F> {
             left: self.left,
             end: self.end,
             item: PhantomData,
+            answers: PhantomData,
         })
     }
 }
@@ -65,6 +68,7 @@ impl<R: AsOctets + Copy, F: Format<R>> Walk<R, F> {
             left: self.left,
             end: self.end,
             item: PhantomData,
+            answers: PhantomData,
         }
     }
 
@@ -97,6 +101,7 @@ impl<R: AsOctets + Copy, F: Format<R>> Walk<R, F> {
             left,
             end,
             item: PhantomData,
+            answers: PhantomData,
         }
     }
 }
@@ -126,6 +131,7 @@ impl<R: AsOctets + Copy, F: Format<R>> Iterator for Walk<R, F> {
                     left,
                     end,
                     item: PhantomData,
+                    answers: PhantomData,
                 };
                 Some(item)
             }

@@ -1,0 +1,59 @@
+-- The number of octets of two values, one after the other.
+use Rattle.std.specs.Prelude.{◌≡◌, ℕ, ◌+◌, ◌<◌, ◌^◌, List, ◌++◌, length, refl, Option, Some, None, IfSome, IsSome, IsNone}
+use Rattle.std.proofs.Common.{sym, ap, subst, arith, length-append}
+use Rattle.octseq_format.specs.Laws.{HasOctets}
+use Rattle.octseq_format.specs.Pair.{◌before◌, ◌also◌, both_octets, BothFit, AreBoth}
+
+-- A value has as many octets, or none encode it.
+abbrev pub HasLen : {S : Type 0} → (S → List ℕ) → (S → Type 0) → S → Option ℕ → Type 0
+HasLen octets Fits said None = ¬ HasOctets octets Fits said
+HasLen octets Fits said (Some n) = (n ≡ length (octets said)) × Fits said
+
+module _ {S : Type 0} (octets : S → List ℕ) (Fits : S → Type 0) (said : S) where
+  pub has_len : (len : Option ℕ) → IfSome len (λ n. n ≡ length (octets said)) → (IsSome len → Fits said)
+      → (IsNone len → ¬ HasOctets octets Fits said) → HasLen octets Fits said len
+  has_len None some fit none = none refl
+  has_len (Some n) some fit none = (some, fit refl)
+
+  pub len_some : (len : Option ℕ) → HasLen octets Fits said len → IfSome len (λ n. n ≡ length (octets said))
+  len_some None has = tt
+  len_some (Some n) has = has.0
+
+  pub len_fit : (len : Option ℕ) → HasLen octets Fits said len → IsSome len → Fits said
+  len_fit None has some = cc
+  len_fit (Some n) has some = has.1
+
+  pub len_none : (len : Option ℕ) → HasLen octets Fits said len → IsNone len → ¬ HasOctets octets Fits said
+  len_none None has none = has
+  len_none (Some n) has none = cc
+
+module _ {S T : Type 0} (first : S → List ℕ) (second : T → List ℕ) (A : S → Type 0) (B : T → Type 0) where
+  -- the octets of the first and of the second are as many as those of both
+  longs : (both : S × T) → length (both_octets first second both) ≡ length (first both.0) + length (second both.1)
+  unfolding both_octets
+  longs both = length-append (first both.0) (second both.1)
+
+  not_first : (both : S × T) → (¬ HasOctets first A both.0) → ¬ HasOctets (first before second) (A also B) both
+  not_first both none has = let long = longs both in let few = has.few in
+      none (record { fits = has.fits.first; few = omega (arith, long, few) })
+
+  not_second : (both : S × T) → (¬ HasOctets second B both.1) → ¬ HasOctets (first before second) (A also B) both
+  not_second both none has = let long = longs both in let few = has.few in
+      none (record { fits = has.fits.second; few = omega (arith, long, few) })
+
+  pub both_has_len : (both : S × T) (m n len : Option ℕ) → HasLen first A both.0 m → HasLen second B both.1 n
+      → AreBoth m n len → HasLen (first before second) (A also B) both len
+  both_has_len both None n len one two is =
+      subst (HasLen (first before second) (A also B) both) (sym is) (not_first both one)
+  both_has_len both (Some m) None len one two is =
+      subst (HasLen (first before second) (A also B) both) (sym is) (not_second both two)
+  both_has_len both (Some m) (Some n) None one two is = λ has.
+      let long = longs both in let few = has.few in
+      let here = one.0 in let there = two.0 in
+      is (omega (arith, long, few, here, there))
+  both_has_len both (Some m) (Some n) (Some len) one two is =
+      let long = longs both in
+      let here = one.0 in let there = two.0 in let sum = is.1 in (
+        omega (arith, long, here, there, sum),
+        record { first = one.1; second = two.1 },
+      )
