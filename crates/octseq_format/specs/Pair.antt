@@ -1,5 +1,5 @@
 -- One value, followed by another.
-use Rattle.std.specs.Prelude.{◌≡◌, Bool, ◌&&◌, IsTrue, ℕ, ◌+◌, ◌<◌, ◌^◌, List, ◌++◌, length, refl, Option, Some, None, SomeIff}
+use Rattle.std.specs.Prelude.{◌≡◌, min, Bool, ◌&&◌, IsTrue, ℕ, ◌+◌, ◌<◌, ◌^◌, List, ◌++◌, length, refl, Option, Some, None, SomeIff}
 use Rattle.std.proofs.Common.{sym, ap, ◌∙◌, subst, arith, length-append, append_assoc}
 use Rattle.std.specs.Coded.{Coded, coded×}
 use Rattle.octseq.specs.Window.{Window, rest, at, past}
@@ -52,6 +52,11 @@ infixr 5 ◌plus◌
 -- the turns of both
 abbrev pub ◌plus◌ : {A B : Type 0} → (A → ℕ) → (B → ℕ) → A × B → ℕ
 (first plus second) both = first both.0 + second both.1
+
+infixr 5 ◌key_and◌
+-- the sum of two keys, at most the greatest `usize`
+abbrev pub ◌key_and◌ : {A B : Type 0} → (A → ℕ) → (B → ℕ) → A × B → ℕ
+(first key_and second) both = min (first both.0 + second both.1) 18446744073709551615
 
 infixr 5 ◌code_then◌
 -- the code of both

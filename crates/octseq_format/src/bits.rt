@@ -320,6 +320,8 @@ impl<R: AsOctets + Copy, L: Length, B: BitFields> Format<R> for Bits<L, B> {
 
     ghost rate = { 0 };
 
+    ghost key = { λ _. 0 };
+
     #[inline(always)]
     fn parse_counted(parser: &mut Parser<R>, _turns: &mut Turns) -> Result<B::Value, Malformed> {
         let mut ahead = *parser;
@@ -334,6 +336,11 @@ impl<R: AsOctets + Copy, L: Length, B: BitFields> Format<R> for Bits<L, B> {
     #[inline(always)]
     fn least_len() -> usize {
         L::octets()
+    }
+
+    #[inline(always)]
+    fn key_of(_value: &Self::Value) -> usize {
+        0
     }
 
     #[inline(always)]

@@ -415,6 +415,8 @@ impl<R: AsOctets + Copy, L: Length, C: Cases<R>> Format<R> for Tagged<L, C> {
 
     ghost rate = { C.rate };
 
+    ghost key = { λ _. 0 };
+
     #[inline(always)]
     fn parse_counted(parser: &mut Parser<R>, turns: &mut Turns) -> Result<C::Value, Malformed> {
         let mut ahead = *parser;
@@ -427,6 +429,11 @@ impl<R: AsOctets + Copy, L: Length, C: Cases<R>> Format<R> for Tagged<L, C> {
     #[inline(always)]
     fn least_len() -> usize {
         L::octets()
+    }
+
+    #[inline(always)]
+    fn key_of(_value: &Self::Value) -> usize {
+        0
     }
 
     #[inline(always)]

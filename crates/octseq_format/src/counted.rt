@@ -261,6 +261,8 @@ impl<R: AsOctets + Copy, L: Length, A: Format<R>, const EXTRA: usize> Format<R>
 
     ghost rate = { A.rate };
 
+    ghost key = { λ _. 0 };
+
     #[inline(always)]
     fn parse_counted(parser: &mut Parser<R>, turns: &mut Turns) -> Result<A::Value, Malformed> {
         let mut ahead = *parser;
@@ -280,6 +282,11 @@ impl<R: AsOctets + Copy, L: Length, A: Format<R>, const EXTRA: usize> Format<R>
     #[inline(always)]
     fn least_len() -> usize {
         L::octets()
+    }
+
+    #[inline(always)]
+    fn key_of(_value: &Self::Value) -> usize {
+        0
     }
 
     #[inline(always)]

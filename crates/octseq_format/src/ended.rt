@@ -59,6 +59,8 @@ impl<R: AsOctets + Copy> Format<R> for ZeroEnded {
 
     ghost rate = { 0 };
 
+    ghost key = { λ _. 0 };
+
     #[inline(always)]
     fn parse_counted(parser: &mut Parser<R>, turns: &mut Turns) -> Result<Parser<R>, Malformed> {
         turns.tick();
@@ -75,6 +77,11 @@ impl<R: AsOctets + Copy> Format<R> for ZeroEnded {
     #[inline(always)]
     fn least_len() -> usize {
         1
+    }
+
+    #[inline(always)]
+    fn key_of(_value: &Self::Value) -> usize {
+        0
     }
 
     #[inline(always)]

@@ -50,6 +50,8 @@ impl<R: AsOctets + Copy, L: Length, const N: usize> Format<R> for Exactly<L, N> 
 
     ghost rate = { 0 };
 
+    ghost key = { λ _. 0 };
+
     #[inline(always)]
     fn parse_counted(parser: &mut Parser<R>, _turns: &mut Turns) -> Result<(), Malformed> {
         let mut ahead = *parser;
@@ -63,6 +65,11 @@ impl<R: AsOctets + Copy, L: Length, const N: usize> Format<R> for Exactly<L, N> 
     #[inline(always)]
     fn least_len() -> usize {
         L::octets()
+    }
+
+    #[inline(always)]
+    fn key_of(_value: &Self::Value) -> usize {
+        0
     }
 
     #[inline(always)]

@@ -62,6 +62,8 @@ impl<R: AsOctets + Copy, S: Fields<R>> Format<R> for Of<S> {
 
     ghost rate = { S.Format.rate };
 
+    ghost key = { S.Format.key };
+
     #[inline(always)]
     fn parse_counted(parser: &mut Parser<R>, turns: &mut Turns) -> Result<S, Malformed> {
         match S::Format::parse_counted(parser, turns) {
@@ -73,6 +75,11 @@ impl<R: AsOctets + Copy, S: Fields<R>> Format<R> for Of<S> {
     #[inline(always)]
     fn least_len() -> usize {
         S::Format::least_len()
+    }
+
+    #[inline(always)]
+    fn key_of(value: &Self::Value) -> usize {
+        S::Format::key_of(&value.to_fields())
     }
 
     #[inline(always)]

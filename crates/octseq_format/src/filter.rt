@@ -66,6 +66,8 @@ impl<R: AsOctets + Copy, L: Length, T: Test> Format<R> for Where<L, T> {
 
     ghost rate = { 0 };
 
+    ghost key = { λ _. 0 };
+
     #[inline(always)]
     fn parse_counted(parser: &mut Parser<R>, _turns: &mut Turns) -> Result<usize, Malformed> {
         let mut ahead = *parser;
@@ -80,6 +82,11 @@ impl<R: AsOctets + Copy, L: Length, T: Test> Format<R> for Where<L, T> {
     #[inline(always)]
     fn least_len() -> usize {
         L::octets()
+    }
+
+    #[inline(always)]
+    fn key_of(_value: &Self::Value) -> usize {
+        0
     }
 
     #[inline(always)]

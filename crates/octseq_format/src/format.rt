@@ -64,6 +64,9 @@ pub trait Format<R: AsOctets + Copy> {
 
     ghost rate: { ℕ };
 
+    // The number that decides what follows, or 0 if none does.
+    ghost key: { Said → ℕ };
+
     // Whether its encoding is known to be unique.
     ghost one_way: { Bool };
 
@@ -87,6 +90,10 @@ pub trait Format<R: AsOctets + Copy> {
     /// Returns the minimum number of octets of a value.
     fn least_len() -> usize
         ensures { result ≤ least };
+
+    /// Returns the number that decides what follows, or 0 if none does.
+    fn key_of(value: &Self::Value) -> usize
+        ensures { result ≡ key (says (found value.now)) };
 
     /// Whether a value has one encoding only, so that what was read is written as the octets it was read from. Returns
     /// `false` if that isn't known.

@@ -530,6 +530,8 @@ impl<R: AsOctets + Copy, T: Integer> Format<R> for Be<T> {
 
     ghost rate = { 0 };
 
+    ghost key = { λ _. 0 };
+
     #[inline(always)]
     fn parse_counted(parser: &mut Parser<R>, _turns: &mut Turns) -> Result<T::Value, Malformed> {
         Ok(T::parse_be(parser)?)
@@ -538,6 +540,11 @@ impl<R: AsOctets + Copy, T: Integer> Format<R> for Be<T> {
     #[inline(always)]
     fn least_len() -> usize {
         T::width()
+    }
+
+    #[inline(always)]
+    fn key_of(_value: &Self::Value) -> usize {
+        0
     }
 
     #[inline(always)]
@@ -617,6 +624,8 @@ impl<R: AsOctets + Copy, T: Integer> Format<R> for Le<T> {
 
     ghost rate = { 0 };
 
+    ghost key = { λ _. 0 };
+
     #[inline(always)]
     fn parse_counted(parser: &mut Parser<R>, _turns: &mut Turns) -> Result<T::Value, Malformed> {
         Ok(T::parse_le(parser)?)
@@ -625,6 +634,11 @@ impl<R: AsOctets + Copy, T: Integer> Format<R> for Le<T> {
     #[inline(always)]
     fn least_len() -> usize {
         T::width()
+    }
+
+    #[inline(always)]
+    fn key_of(_value: &Self::Value) -> usize {
+        0
     }
 
     #[inline(always)]

@@ -50,6 +50,8 @@ impl<R: AsOctets + Copy> Format<R> for Rest {
 
     ghost rate = { 0 };
 
+    ghost key = { λ _. 0 };
+
     #[inline(always)]
     fn parse_counted(parser: &mut Parser<R>, _turns: &mut Turns) -> Result<Parser<R>, Malformed> {
         let len = parser.remaining();
@@ -58,6 +60,11 @@ impl<R: AsOctets + Copy> Format<R> for Rest {
 
     #[inline(always)]
     fn least_len() -> usize {
+        0
+    }
+
+    #[inline(always)]
+    fn key_of(_value: &Self::Value) -> usize {
         0
     }
 
@@ -135,6 +142,8 @@ impl<R: AsOctets + Copy, const N: usize> Format<R> for Octets<N> {
 
     ghost rate = { 0 };
 
+    ghost key = { λ _. 0 };
+
     #[inline(always)]
     fn parse_counted(parser: &mut Parser<R>, _turns: &mut Turns) -> Result<[u8; N], Malformed> {
         let mut octets = [0; N];
@@ -145,6 +154,11 @@ impl<R: AsOctets + Copy, const N: usize> Format<R> for Octets<N> {
     #[inline(always)]
     fn least_len() -> usize {
         N
+    }
+
+    #[inline(always)]
+    fn key_of(_value: &Self::Value) -> usize {
+        0
     }
 
     #[inline(always)]

@@ -51,6 +51,8 @@ impl<R: AsOctets + Copy, A: Format<R>> Format<R> for Optional<A> {
 
     ghost rate = { A.rate };
 
+    ghost key = { λ _. 0 };
+
     #[inline(always)]
     fn parse_counted(parser: &mut Parser<R>, turns: &mut Turns) -> Result<Self::Value, Malformed> {
         if parser.remaining() == 0 {
@@ -64,6 +66,11 @@ impl<R: AsOctets + Copy, A: Format<R>> Format<R> for Optional<A> {
 
     #[inline(always)]
     fn least_len() -> usize {
+        0
+    }
+
+    #[inline(always)]
+    fn key_of(_value: &Self::Value) -> usize {
         0
     }
 

@@ -190,6 +190,8 @@ impl<R: AsOctets + Copy, F: Format<R, Delimited = Yes, Moving = Yes>> Format<R> 
 
     ghost rate = { F.base + 1 + F.rate };
 
+    ghost key = { λ _. 0 };
+
     #[inline(always)]
     fn parse_counted(parser: &mut Parser<R>, turns: &mut Turns) -> Result<Walk<R, F>, Malformed> {
         let first = *parser;
@@ -201,6 +203,11 @@ impl<R: AsOctets + Copy, F: Format<R, Delimited = Yes, Moving = Yes>> Format<R> 
 
     #[inline(always)]
     fn least_len() -> usize {
+        0
+    }
+
+    #[inline(always)]
+    fn key_of(_value: &Self::Value) -> usize {
         0
     }
 
@@ -286,6 +293,8 @@ impl<R: AsOctets + Copy, N: Length, F: Format<R, Delimited = Yes, Moving = Yes>>
 
     ghost rate = { F.base + 1 + F.rate };
 
+    ghost key = { λ _. 0 };
+
     #[inline(always)]
     fn parse_counted(parser: &mut Parser<R>, turns: &mut Turns) -> Result<Walk<R, F>, Malformed> {
         let mut ahead = *parser;
@@ -298,6 +307,11 @@ impl<R: AsOctets + Copy, N: Length, F: Format<R, Delimited = Yes, Moving = Yes>>
     #[inline(always)]
     fn least_len() -> usize {
         N::octets()
+    }
+
+    #[inline(always)]
+    fn key_of(_value: &Self::Value) -> usize {
+        0
     }
 
     #[inline(always)]

@@ -51,6 +51,8 @@ impl<R: AsOctets + Copy> Format<R> for Text {
 
     ghost rate = { 0 };
 
+    ghost key = { λ _. 0 };
+
     #[inline(always)]
     fn parse_counted(parser: &mut Parser<R>, turns: &mut Turns) -> Result<Parser<R>, Malformed> {
         turns.tick();
@@ -63,6 +65,11 @@ impl<R: AsOctets + Copy> Format<R> for Text {
 
     #[inline(always)]
     fn least_len() -> usize {
+        0
+    }
+
+    #[inline(always)]
+    fn key_of(_value: &Self::Value) -> usize {
         0
     }
 

@@ -2,7 +2,7 @@
 ghost use Rattle.std.specs.Prelude.{◌≡◌, ◌≤◌, ◌+◌, ◌++◌, ◌&&◌, length, take, true, refl, IsErr, OnOk, OnErr};
 ghost use Rattle.octseq.specs.Limit.{IsWithin};
 ghost use Rattle.octseq_format.specs.Laws.{HasOctets};
-ghost use Rattle.octseq_format.specs.Pair.{◌then◌, ◌and◌, ◌before◌, ◌also◌, ◌code_then◌, ◌plus◌};
+ghost use Rattle.octseq_format.specs.Pair.{◌then◌, ◌and◌, ◌before◌, ◌also◌, ◌code_then◌, ◌plus◌, ◌key_and◌};
 ghost use Rattle.octseq_format.specs.Pair.{◌one_then◌, ◌onward_then◌, ◌back_then◌, ◌delimited_then◌, ◌canonical_then◌};
 ghost use Rattle.octseq_format.specs.Pair.{AreBoth, some_more};
 
@@ -78,6 +78,8 @@ impl<R: AsOctets + Copy, A: Format<R, Delimited = Yes>, B: Format<R>> Format<R> 
 
     ghost rate = { A.rate + B.rate };
 
+    ghost key = { A.key key_and B.key };
+
     #[inline(always)]
     fn parse_counted(parser: &mut Parser<R>, turns: &mut Turns) -> Result<Self::Value, Malformed> {
         if parser.remaining() < Self::least_len() {
@@ -93,6 +95,12 @@ impl<R: AsOctets + Copy, A: Format<R, Delimited = Yes>, B: Format<R>> Format<R> 
     #[inline(always)]
     fn least_len() -> usize {
         A::least_len().saturating_add(B::least_len())
+    }
+
+    #[inline(always)]
+    #[tactic(auto, unfolding(crate::specs::Pair::both_say))]
+    fn key_of(value: &Self::Value) -> usize {
+        A::key_of(&value.0).saturating_add(B::key_of(&value.1))
     }
 
     #[inline(always)]
@@ -172,6 +180,8 @@ impl<
 
     ghost rate = { A.rate + (B.rate + C.rate) };
 
+    ghost key = { A.key key_and B.key key_and C.key };
+
     #[inline(always)]
     fn parse_counted(parser: &mut Parser<R>, turns: &mut Turns) -> Result<Self::Value, Malformed> {
         match <(A, (B, C)) as Format<R>>::parse_counted(parser, turns) {
@@ -183,6 +193,12 @@ impl<
     #[inline(always)]
     fn least_len() -> usize {
         <(A, (B, C)) as Format<R>>::least_len()
+    }
+
+    #[inline(always)]
+    #[tactic(auto, unfolding(crate::specs::Pair::both_say))]
+    fn key_of(value: &Self::Value) -> usize {
+        A::key_of(&value.0).saturating_add(B::key_of(&value.1).saturating_add(C::key_of(&value.2)))
     }
 
     #[inline(always)]
@@ -261,6 +277,8 @@ impl<
 
     ghost rate = { A.rate + (B.rate + (C.rate + D.rate)) };
 
+    ghost key = { A.key key_and B.key key_and C.key key_and D.key };
+
     #[inline(always)]
     fn parse_counted(parser: &mut Parser<R>, turns: &mut Turns) -> Result<Self::Value, Malformed> {
         match <(A, (B, C, D)) as Format<R>>::parse_counted(parser, turns) {
@@ -272,6 +290,12 @@ impl<
     #[inline(always)]
     fn least_len() -> usize {
         <(A, (B, C, D)) as Format<R>>::least_len()
+    }
+
+    #[inline(always)]
+    #[tactic(auto, unfolding(crate::specs::Pair::both_say))]
+    fn key_of(value: &Self::Value) -> usize {
+        A::key_of(&value.0).saturating_add(B::key_of(&value.1).saturating_add(C::key_of(&value.2).saturating_add(D::key_of(&value.3))))
     }
 
     #[inline(always)]
@@ -355,6 +379,8 @@ impl<
 
     ghost rate = { A.rate + (B.rate + (C.rate + (D.rate + E.rate))) };
 
+    ghost key = { A.key key_and B.key key_and C.key key_and D.key key_and E.key };
+
     #[inline(always)]
     fn parse_counted(parser: &mut Parser<R>, turns: &mut Turns) -> Result<Self::Value, Malformed> {
         match <(A, (B, C, D, E)) as Format<R>>::parse_counted(parser, turns) {
@@ -366,6 +392,12 @@ impl<
     #[inline(always)]
     fn least_len() -> usize {
         <(A, (B, C, D, E)) as Format<R>>::least_len()
+    }
+
+    #[inline(always)]
+    #[tactic(auto, unfolding(crate::specs::Pair::both_say))]
+    fn key_of(value: &Self::Value) -> usize {
+        A::key_of(&value.0).saturating_add(B::key_of(&value.1).saturating_add(C::key_of(&value.2).saturating_add(D::key_of(&value.3).saturating_add(E::key_of(&value.4)))))
     }
 
     #[inline(always)]
@@ -466,6 +498,8 @@ impl<
 
     ghost rate = { A.rate + (B.rate + (C.rate + (D.rate + (E.rate + F.rate)))) };
 
+    ghost key = { A.key key_and B.key key_and C.key key_and D.key key_and E.key key_and F.key };
+
     #[inline(always)]
     fn parse_counted(parser: &mut Parser<R>, turns: &mut Turns) -> Result<Self::Value, Malformed> {
         match <(A, (B, C, D, E, F)) as Format<R>>::parse_counted(parser, turns) {
@@ -477,6 +511,12 @@ impl<
     #[inline(always)]
     fn least_len() -> usize {
         <(A, (B, C, D, E, F)) as Format<R>>::least_len()
+    }
+
+    #[inline(always)]
+    #[tactic(auto, unfolding(crate::specs::Pair::both_say))]
+    fn key_of(value: &Self::Value) -> usize {
+        A::key_of(&value.0).saturating_add(B::key_of(&value.1).saturating_add(C::key_of(&value.2).saturating_add(D::key_of(&value.3).saturating_add(E::key_of(&value.4).saturating_add(F::key_of(&value.5))))))
     }
 
     #[inline(always)]
@@ -594,6 +634,8 @@ impl<
 
     ghost rate = { A.rate + (B.rate + (C.rate + (D.rate + (E.rate + (F.rate + G.rate))))) };
 
+    ghost key = { A.key key_and B.key key_and C.key key_and D.key key_and E.key key_and F.key key_and G.key };
+
     #[inline(always)]
     fn parse_counted(parser: &mut Parser<R>, turns: &mut Turns) -> Result<Self::Value, Malformed> {
         match <(A, (B, C, D, E, F, G)) as Format<R>>::parse_counted(parser, turns) {
@@ -605,6 +647,12 @@ impl<
     #[inline(always)]
     fn least_len() -> usize {
         <(A, (B, C, D, E, F, G)) as Format<R>>::least_len()
+    }
+
+    #[inline(always)]
+    #[tactic(auto, unfolding(crate::specs::Pair::both_say))]
+    fn key_of(value: &Self::Value) -> usize {
+        A::key_of(&value.0).saturating_add(B::key_of(&value.1).saturating_add(C::key_of(&value.2).saturating_add(D::key_of(&value.3).saturating_add(E::key_of(&value.4).saturating_add(F::key_of(&value.5).saturating_add(G::key_of(&value.6)))))))
     }
 
     #[inline(always)]
@@ -731,6 +779,8 @@ impl<
 
     ghost rate = { A.rate + (B.rate + (C.rate + (D.rate + (E.rate + (F.rate + (G.rate + H.rate)))))) };
 
+    ghost key = { A.key key_and B.key key_and C.key key_and D.key key_and E.key key_and F.key key_and G.key key_and H.key };
+
     #[inline(always)]
     fn parse_counted(parser: &mut Parser<R>, turns: &mut Turns) -> Result<Self::Value, Malformed> {
         match <(A, (B, C, D, E, F, G, H)) as Format<R>>::parse_counted(parser, turns) {
@@ -742,6 +792,12 @@ impl<
     #[inline(always)]
     fn least_len() -> usize {
         <(A, (B, C, D, E, F, G, H)) as Format<R>>::least_len()
+    }
+
+    #[inline(always)]
+    #[tactic(auto, unfolding(crate::specs::Pair::both_say))]
+    fn key_of(value: &Self::Value) -> usize {
+        A::key_of(&value.0).saturating_add(B::key_of(&value.1).saturating_add(C::key_of(&value.2).saturating_add(D::key_of(&value.3).saturating_add(E::key_of(&value.4).saturating_add(F::key_of(&value.5).saturating_add(G::key_of(&value.6).saturating_add(H::key_of(&value.7))))))))
     }
 
     #[inline(always)]

@@ -78,6 +78,8 @@ impl<R: AsOctets + Copy, V: FormedOctets<R>> Format<R> for Formed<V> {
 
     ghost rate = { V.rate };
 
+    ghost key = { λ _. 0 };
+
     #[inline(always)]
     fn parse_counted(parser: &mut Parser<R>, turns: &mut Turns) -> Result<V, Malformed> {
         let formed = V::from_parser(parser, turns)?;
@@ -88,6 +90,11 @@ impl<R: AsOctets + Copy, V: FormedOctets<R>> Format<R> for Formed<V> {
 
     #[inline(always)]
     fn least_len() -> usize {
+        0
+    }
+
+    #[inline(always)]
+    fn key_of(_value: &Self::Value) -> usize {
         0
     }
 

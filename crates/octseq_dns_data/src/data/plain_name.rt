@@ -53,6 +53,8 @@ impl<R: AsOctets + Copy> Format<R> for PlainName {
 
     ghost rate = { 0 };
 
+    ghost key = { λ _. 0 };
+
     // (if the octets of a name are as many as its wire form, it has no pointer: a pointer takes two octets, and no name
     // has two in wire form)
     fn parse_counted(
@@ -74,6 +76,11 @@ impl<R: AsOctets + Copy> Format<R> for PlainName {
     #[inline(always)]
     fn least_len() -> usize {
         1
+    }
+
+    #[inline(always)]
+    fn key_of(_value: &Self::Value) -> usize {
+        0
     }
 
     #[inline(always)]

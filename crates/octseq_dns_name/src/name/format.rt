@@ -53,6 +53,8 @@ impl<R: AsOctets + Copy> Format<R> for DomainName {
 
     ghost rate = { 0 };
 
+    ghost key = { λ _. 0 };
+
     #[inline(always)]
     fn parse_counted(
         parser: &mut Parser<R>,
@@ -65,6 +67,11 @@ impl<R: AsOctets + Copy> Format<R> for DomainName {
     #[inline(always)]
     fn least_len() -> usize {
         1
+    }
+
+    #[inline(always)]
+    fn key_of(_value: &Self::Value) -> usize {
+        0
     }
 
     #[inline(always)]

@@ -1,0 +1,78 @@
+//! Numbers as octets: lengths, counts, tags and keys.
+ghost use Rattle.std.specs.Prelude.{◌≡◌, ◌≤◌, ◌<◌, ◌+◌, ◌++◌, ℕ, Bool, List, length, true, IsTrue, IsErr, IfOk, OnOk, OnErr};
+ghost use Rattle.std.specs.Prelude.{IsNone, IsSome, IfSome};
+ghost use Rattle.octseq.specs.Limit.{IsWithin};
+ghost use Rattle.octseq.specs.Parser.{window, sequence};
+ghost use Rattle.octseq_format.specs.Canonical.{IsCanonical};
+ghost use Rattle.octseq_format.specs.Laws.{Relation, NoneAt, IsOne, IsOnward, IsDelimited};
+
+use octseq::{AsOctets, Malformed, OctetsBuilder, Parser};
+use std::alloc::AllocError;
+
+/// A way to encode a number as octets: a length, a count, a tag or a key.
+pub trait Number {
+    // A number is at a window's position.
+    ghost is_at: { Relation ℕ };
+
+    // The octets that say a number, in the shortest way.
+    ghost octets: { ℕ → List ℕ };
+
+    ghost fits: { ℕ → Type 0 };
+
+    // At most one number is at a place.
+    ghost one: { IsOne is_at };
+
+    // The minimum number of octets.
+    ghost least: { ℕ };
+
+    // Whether its encoding is known to be unique.
+    ghost one_way: { Bool };
+
+    /// Reads the number at the parser's position.
+    ///
+    /// # Errors
+    ///
+    /// `Malformed` if there is none that fits a `usize`. The parser is then unchanged.
+    fn parse_number<R: AsOctets>(parser: &mut Parser<R>) -> Result<usize, Malformed>
+        ensures value { IfOk result (λ number. is_at (window parser.old) number (window parser.new)) }
+        ensures malformed { IsErr result → NoneAt is_at (window parser.old) }
+        ensures kept { OnErr result (window parser.new ≡ window parser.old) }
+        ensures same { sequence parser.new ≡ sequence parser.old }
+        ensures end { (window parser.new).end ≡ (window parser.old).end };
+
+    /// Returns the minimum number of octets of a number.
+    fn least_octets() -> usize
+        ensures { result ≤ least };
+
+    /// Whether a number has one encoding only. Returns `false` if that isn't known.
+    fn is_unique() -> bool
+        ensures { result ≡ one_way };
+
+    /// Returns the number of octets that encode a number, or `None` if none do.
+    fn number_len(number: usize) -> Option<usize>
+        ensures some { IfSome result (λ len. len ≡ length (octets number)) }
+        ensures fit { IsSome result → fits number }
+        ensures none { IsNone result → ¬ fits number };
+
+    /// Appends the octets of a number.
+    ///
+    /// # Errors
+    ///
+    /// `AllocError` if a request for memory was refused. The content is then unchanged.
+    fn put_number<B: OctetsBuilder>(builder: &mut B, number: usize) -> Result<(), AllocError>
+        requires fit { fits number }
+        requires within { IsWithin B.limit (length (B.content builder.now) + length (octets number)) }
+        ensures ok { OnOk result (B.content builder.new ≡ B.content builder.old ++ octets number) }
+        ensures err { OnErr result (B.content builder.new ≡ B.content builder.old) }
+        ensures memory { IsErr result → B.asks ≡ true }
+        ensures borrows { B.borrows builder.new ≡ B.borrows builder.old };
+
+    ghost onward: { IsOnward least is_at };
+
+    ghost moving: { 0 < least };
+
+    // If its octets come next, it is read back.
+    ghost delimited: { IsDelimited is_at (λ number. number) octets fits };
+
+    ghost canonical: { IsTrue one_way → IsCanonical is_at (λ number. number) octets fits };
+}
