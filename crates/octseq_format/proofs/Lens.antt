@@ -1,6 +1,7 @@
 -- The number of octets of two values, one after the other.
 use Rattle.std.specs.Prelude.{◌≡◌, ℕ, ◌+◌, ◌<◌, ◌^◌, List, ◌++◌, length, refl, Option, Some, None, IfSome, IsSome, IsNone}
-use Rattle.std.proofs.Common.{sym, ap, subst, arith, length-append}
+use Rattle.std.proofs.Common.{sym, ap, ◌∙◌, subst, arith, length-append, append_assoc}
+use Rattle.octseq.specs.Limit.{IsWithin}
 use Rattle.octseq_format.specs.Laws.{HasOctets}
 use Rattle.octseq_format.specs.Pair.{◌before◌, ◌also◌, both_octets, BothFit, AreBoth}
 
@@ -57,3 +58,25 @@ module _ {S T : Type 0} (first : S → List ℕ) (second : T → List ℕ) (A : 
         omega (arith, long, here, there, sum),
         record { first = one.1; second = two.1 },
       )
+
+-- ---- what was appended so far
+
+-- past octets that were appended, those that follow them are within the limit
+pub rest_within : (limit : Option ℕ) (c d x y : List ℕ) → IsWithin limit (length c + length (x ++ y)) → d ≡ c ++ x
+    → IsWithin limit (length d + length y)
+rest_within None c d x y within is = tt
+rest_within (Some most) c d x y within is =
+    let longer = ap length is in
+    let here : length (c ++ x) ≡ length c + length x = length-append c x in
+    let both : length (x ++ y) ≡ length x + length y = length-append x y in
+    omega (arith, within, longer, here, both)
+
+pub append_on : (c d e x y : List ℕ) → d ≡ c ++ x → e ≡ d ++ y → e ≡ c ++ (x ++ y)
+append_on c d e x y one two = two ∙ ap (λ d. d ++ y) one ∙ append_assoc c x y
+
+-- and so are the first of them
+pub first_within : (limit : Option ℕ) (c x y : List ℕ) → IsWithin limit (length c + length (x ++ y))
+    → IsWithin limit (length c + length x)
+first_within None c x y within = tt
+first_within (Some most) c x y within =
+    let both : length (x ++ y) ≡ length x + length y = length-append x y in omega (arith, within, both)

@@ -6,6 +6,7 @@ pub mod Counted
 pub mod Either
 pub mod Ended
 pub mod Exactly
+pub mod Family
 pub mod Fixed
 pub mod Integers
 pub mod Laws
@@ -15,6 +16,7 @@ pub mod Pair
 pub mod Part
 pub mod Rest
 pub mod Row
+pub mod Tagged
 pub mod Text
 pub mod Turns
 pub mod Walk

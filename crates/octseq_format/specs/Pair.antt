@@ -67,7 +67,7 @@ pub same_pair : {A B : Type 0} {a c : A} {b d : B} → a ≡ c → b ≡ d → P
 same_pair {c = c} {b = b} first second = ap (λ a. (a, b)) first ∙ ap (λ b. (c, b)) second
 
 -- past two lists of octets is past the first and then past the second
-past_both : (w : Window) (x y : List ℕ) → past (length y) (past (length x) w) ≡ past (length (x ++ y)) w
+pub past_both : (w : Window) (x y : List ℕ) → past (length y) (past (length x) w) ≡ past (length (x ++ y)) w
 past_both w x y =
     let long : length (x ++ y) ≡ length x + length y = length-append x y in
     ap (λ p. at p w) (omega (arith, long))

@@ -1,8 +1,9 @@
 //! Numbers as octets: lengths, counts, tags and keys.
-ghost use Rattle.std.specs.Prelude.{◌≡◌, ◌≤◌, ◌<◌, ◌+◌, ◌++◌, ℕ, Bool, List, length, true, IsTrue, IsErr, IfOk, OnOk, OnErr};
+ghost use Rattle.std.specs.Prelude.{◌≡◌, ◌≤◌, ◌<◌, ◌^◌, ◌+◌, ◌++◌, ℕ, Bool, List, length, true, IsTrue, IsErr, IfOk, OnOk, OnErr};
 ghost use Rattle.std.specs.Prelude.{IsNone, IsSome, IfSome};
 ghost use Rattle.octseq.specs.Limit.{IsWithin};
 ghost use Rattle.octseq.specs.Parser.{window, sequence};
+ghost use Rattle.octseq.specs.Window.{left};
 ghost use Rattle.octseq_format.specs.Canonical.{IsCanonical};
 ghost use Rattle.octseq_format.specs.Laws.{Relation, NoneAt, IsOne, IsOnward, IsDelimited};
 
@@ -38,7 +39,8 @@ pub trait Number {
         ensures malformed { IsErr result → NoneAt is_at (window parser.old) }
         ensures kept { OnErr result (window parser.new ≡ window parser.old) }
         ensures same { sequence parser.new ≡ sequence parser.old }
-        ensures end { (window parser.new).end ≡ (window parser.old).end };
+        ensures end { (window parser.new).end ≡ (window parser.old).end }
+        ensures onward { left (window parser.new) ≤ left (window parser.old) };
 
     /// Returns the minimum number of octets of a number.
     fn least_octets() -> usize
@@ -70,6 +72,9 @@ pub trait Number {
     ghost onward: { IsOnward least is_at };
 
     ghost moving: { 0 < least };
+
+    // Its numbers fit a `usize`.
+    ghost small: { (number : ℕ) → fits number → number < 2 ^ 64 };
 
     // If its octets come next, it is read back.
     ghost delimited: { IsDelimited is_at (λ number. number) octets fits };

@@ -105,7 +105,7 @@ fn pass_all<R: AsOctets + Copy, F: Format<R, Delimited = Yes, Moving = Yes>>(
 }
 
 /// Returns the number of octets of all the items.
-fn items_len<R: AsOctets + Copy, F: Format<R>>(walk: Walk<R, F>) -> Option<usize>
+pub(crate) fn items_len<R: AsOctets + Copy, F: Format<R>>(walk: Walk<R, F>) -> Option<usize>
     ensures some { IfSome result (λ len. len ≡ length (row_octets F.octets (map F.says (items_left walk)))) }
     ensures fit { IsSome result → AllByRecursion F.fits (map F.says (items_left walk)) }
     ensures none { IsNone result
@@ -122,7 +122,7 @@ fn items_len<R: AsOctets + Copy, F: Format<R>>(walk: Walk<R, F>) -> Option<usize
 }
 
 /// Appends the octets of each item. On an error it may have appended those of some.
-fn put_items<B: OctetsBuilder + Truncate, R: AsOctets + Copy, F: Format<R>>(
+pub(crate) fn put_items<B: OctetsBuilder + Truncate, R: AsOctets + Copy, F: Format<R>>(
     builder: &mut B,
     walk: Walk<R, F>,
 ) -> Result<(), AllocError>
