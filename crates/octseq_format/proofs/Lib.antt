@@ -1,5 +1,6 @@
 pub mod BitSteps
 pub mod Copies
+pub mod EightOctets
 pub mod Lens
 pub mod Nones
 pub mod Parts

@@ -23,6 +23,7 @@ pub mod text;
 pub mod tuples;
 pub mod values;
 pub mod walk;
+pub mod widths;
 
 pub use answer::{And, Answer, No, Yes};
 pub use bits::{BitFields, Bits, Flag, Low};
@@ -38,9 +39,11 @@ pub use integers::{
     U16Le, U24, U24Be, U24Le, U32Be, U32Le, U48, U48Be, U48Le, U64Be, U64Le, U128Be, U128Le,
 };
 pub use laws::{are_octets, next_is_read_back, one_reading, parse_composed, whole_is_read_back};
+pub use number::Number;
 pub use octets::{Octets, Rest};
 pub use optional::Optional;
 pub use rows::{Repeated, Times, parse_many};
 pub use text::Text;
 pub use values::append_all;
 pub use walk::Walk;
+pub use widths::Width;
