@@ -190,6 +190,43 @@ module _ {A B S T : Type 0} (Covers : ℕ → Type 0) {Is : ByKey A} {Other : By
         let taken = (more key).next w b after fits.0 is in
         record { it = inr taken.it; tells = ap inr taken.tells; is = (fits.1, taken.is) }
 
+-- ---- numbers that meet a test
+
+abbrev pub IsWhen : {A : Type 0} → (ℕ → Type 0) → ByKey A → ByKey A
+IsWhen Holds Is key w a v = Holds key × Is key w a v
+
+abbrev pub WhenFits : {S : Type 0} → (ℕ → Type 0) → (ℕ → S → Type 0) → ℕ → S → Type 0
+WhenFits Holds Fits key said = Fits key said × Holds key
+
+module _ {A : Type 0} (Holds : ℕ → Type 0) {Is : ByKey A} where
+  pub one_when : ((key : ℕ) → IsOne (Is key)) → (key : ℕ) → IsOne (IsWhen Holds Is key)
+  one_when one key = record { same = λ w a b u v is other. (one key).same w a b u v is.1 other.1 }
+
+  pub onward_when : {least : ℕ} → ((key : ℕ) → IsOnward least (Is key)) → (key : ℕ)
+      → IsOnward least (IsWhen Holds Is key)
+  onward_when onward key = record {
+    on = λ w a v ordered is. (onward key).on w a v ordered is.1;
+    less = λ w a v is. (onward key).less w a v is.1;
+  }
+
+module _ {A S : Type 0} (Holds : ℕ → Type 0) {Is : ByKey A} {says : A → S} {octets : ℕ → S → List ℕ}
+    {Fits : ℕ → S → Type 0} where
+  pub when_read_back : ((key : ℕ) → IsReadBack (Is key) says (octets key) (Fits key)) → (key : ℕ)
+      → IsReadBack (IsWhen Holds Is key) says (octets key) (WhenFits Holds Fits key)
+  when_read_back one key = record {
+    back = λ w said fits is all.
+        let taken = (one key).back w said fits.0 is all in
+        record { it = taken.it; tells = taken.tells; is = (fits.1, taken.is) };
+  }
+
+  pub delimited_when : ((key : ℕ) → IsDelimited (Is key) says (octets key) (Fits key)) → (key : ℕ)
+      → IsDelimited (IsWhen Holds Is key) says (octets key) (WhenFits Holds Fits key)
+  delimited_when one key = record {
+    next = λ w said more fits is.
+        let taken = (one key).next w said more fits.0 is in
+        record { it = taken.it; tells = taken.tells; is = (fits.1, taken.is) };
+  }
+
 -- ---- as many octets as the number says, less `extra` that it counts too
 
 -- It takes all of the octets that the number counts.

@@ -36,10 +36,6 @@ Holds {A} Is w count = (row : List A) × ∥ ((end : Window) × Many count Is w 
 abbrev pub HoldsTo : {A : Type 0} → Relation A → Window → ℕ → ℕ → Type 0
 HoldsTo {A} Is w count end = (row : List A) × ∥ ((v : Window) × ManyTo count end Is w row v) ∥₁
 
--- as many as a big-endian count of k octets says
-abbrev pub Times : {A : Type 0} → ℕ → Relation A → Relation (List A)
-Times k Is w row v = (k ≤ left w) × Many (be (next k w)) Is (past k w) row v
-
 -- a value that takes at least one octet
 abbrev pub Moved : {A : Type 0} → Relation A → Relation A
 Moved Is w a v = Is w a v × (left v < left w)
@@ -52,18 +48,9 @@ RowTo Is w row v = Row Is w row v × (left v ≡ 0)
 abbrev pub row_octets : {S : Type 0} → (S → List ℕ) → List S → List ℕ
 row_octets octets said = flat_map octets said
 
--- the octets of a count of k octets, and of each
-abbrev pub times_octets : {S : Type 0} → ℕ → (S → List ℕ) → List S → List ℕ
-times_octets k octets said = octets_be k (length said) ++ row_octets octets said
-
 -- the turns of each, and one for each
 abbrev pub row_turns : {A : Type 0} → (A → ℕ) → List A → ℕ
 row_turns turns row = sum_by (λ a. 1 + turns a) row
-
--- Each fits, and their number fits k octets.
-pub record TimesFit {S : Type 0} (k : ℕ) (Fits : S → Type 0) (said : List S) : Type 0 where
-  pub each : AllByRecursion Fits said
-  pub count : length said < 256 ^ k
 
 -- ---- at most one row
 
@@ -89,11 +76,6 @@ one_many count Is one = record {
 one_many_to : {A : Type 0} (count end : ℕ) (Is : Relation A) → IsOne Is → IsOne (ManyTo count end Is)
 one_many_to count end Is one = record {
   same = λ w row others u v a b. (one_many count Is one).same w row others u v a.0 b.0;
-}
-
-pub one_times : {A : Type 0} (k : ℕ) (Is : Relation A) → IsOne Is → IsOne (Times k Is)
-one_times k Is one = record {
-  same = λ w row others u v a b. one_row Is one (past k w) u v row others (a.1.0 ∙ sym b.1.0) a.1.1 b.1.1;
 }
 
 -- so it is a fact that there is one
@@ -189,16 +171,6 @@ onward_row {A} Is onward = record { on = on; less = less } where
       let more = less is.0 row v is.2 in
       omega (arith, one, more)
 
-pub onward_times : {A : Type 0} (k : ℕ) (Is : Relation A) {least : ℕ} → IsOnward least Is → IsOnward k (Times k Is)
-onward_times k Is onward = record {
-  on = λ w row v ordered is.
-      let more = (onward_row Is onward).on (past k w) row v (omega (arith, ordered, is.0)) is.1.1 in
-      (more.0, more.1, omega (arith, more.2), more.3);
-  less = λ w row v is.
-      let more = (onward_row Is onward).less (past k w) row v is.1.1 in
-      omega (arith, more, is.0);
-}
-
 pub onward_to : {A : Type 0} (Is : Relation A) {least : ℕ} → IsOnward least Is → IsOnward 0 (RowTo Is)
 onward_to Is onward = record {
   on = λ w row v ordered is. (onward_row Is onward).on w row v ordered is.0;
@@ -232,32 +204,6 @@ module _ {A S : Type 0} (Is : Relation A) (says : A → S) (octets : S → List 
         );
       }
 
-  pub delimited_times : (k : ℕ)
-      → IsDelimited (Times k Is) (map says) (times_octets k octets) (TimesFit k Fits)
-  delimited_times k = record {
-    next = λ w said more fits is.
-        let o = row_octets octets said in
-        let head = octets_be k (length said) in
-        let wide = length_be k (length said) in
-        let apart : rest w ≡ head ++ (o ++ more) = is ∙ append_assoc head o more in
-        let first = front_comes_next w head (o ++ more) k apart wide in
-        let value : be (next k w) ≡ length said = ap be first.1 ∙ value_be k (length said) fits.count in
-        let row = row_next (past k w) said more fits.each first.2 in
-        let many : length row.it ≡ length said = sym (length-map row.it says) ∙ ap length row.tells in
-        let long : length (head ++ o) ≡ k + length o = length-append head o ∙ ap (λ n. n + length o) wide in
-        record {
-          it = row.it;
-          tells = row.tells;
-          is = (
-            first.0,
-            (many ∙ sym value, subst (Row Is (past k w) row.it) (ap (λ p. at p w) (omega (arith, long))) row.is),
-          );
-        };
-  }
-
-  pub times_read_back : (k : ℕ) → IsReadBack (Times k Is) (map says) (times_octets k octets) (TimesFit k Fits)
-  times_read_back k = back_of (delimited_times k)
-
   pub to_read_back : IsReadBack (RowTo Is) (map says) (row_octets octets) (AllByRecursion Fits)
   to_read_back = record {
     back = λ w said fits is all.
@@ -271,13 +217,6 @@ pub each_once : {S : Type 0} {Fits : S → Type 0} → ((said : S) → IsProp (F
     → IsProp (AllByRecursion Fits said)
 each_once once [] = Unit-prop
 each_once once (one ∷ said) = ×_prop (once one) (each_once once said)
-
-times_once : {S : Type 0} (k : ℕ) {Fits : S → Type 0} → ((said : S) → IsProp (Fits said)) → (said : List S)
-    → IsProp (TimesFit k Fits said)
-times_once k once said a b =
-    ap (λ each. record { each = each; count = a.count }) (each_once once said a.each b.each)
-    ∙ ap (λ count. record { each = b.each; count = count })
-    (le_prop {n = suc (length said)} {m = 256 ^ k} a.count b.count)
 
 module _ {A S : Type 0} {Is : Relation A} {says : A → S} {octets : S → List ℕ} {Fits : S → Type 0}
     (canonical : IsCanonical Is says octets Fits) where
@@ -304,26 +243,6 @@ module _ {A S : Type 0} {Is : Relation A} {says : A → S} {octets : S → List 
     once = each_once canonical.once;
     written = λ w row v sound is. row_written w row v sound is.0;
     on = λ w row v sound is. sound_row w row v sound is.0;
-  }
-
-  pub canonical_times : (k : ℕ)
-      → IsCanonical (Times k Is) (map says) (times_octets k octets) (TimesFit k Fits)
-  canonical_times k = record {
-    once = times_once k canonical.once;
-    written = λ w row v sound is.
-        let head = next k w in
-        let o = row_octets octets (map says row) in
-        let there = row_written (past k w) row v (sound_past k w sound is.0) is.1.1 in
-        let long = many_next k w sound is.0 in
-        let each = each_next k w sound in
-        let many : length (map says row) ≡ be head = length-map row says ∙ is.1.0 in
-        let first : octets_be k (length (map says row)) ≡ head = ap (octets_be k) many ∙ as_be k head long each in
-        let small = subst (λ m. be head < 256 ^ m) long (small_be head each) in (
-          record { each = there.0; count = subst (λ m. m < 256 ^ k) (sym many) small },
-          sym (next_and_rest w k is.0) ∙ ap (λ more. head ++ more) there.1 ∙ sym (append_assoc head o (rest v))
-              ∙ ap (λ h. (h ++ o) ++ rest v) (sym first),
-        );
-    on = λ w row v sound is. sound_row (past k w) row v (sound_past k w sound is.0) is.1.1;
   }
 
 pub canonical_moved : {A S : Type 0} {Is : Relation A} {says : A → S} {octets : S → List ℕ} {Fits : S → Type 0}

@@ -3,15 +3,17 @@
 
 pub mod answer;
 pub mod bits;
-pub mod case;
+pub mod choice;
 pub mod counted;
 pub mod ended;
 pub mod exactly;
+pub mod families;
 pub mod family;
 pub mod fields;
 pub mod filter;
 pub mod format;
 pub mod integers;
+pub mod keyed;
 pub mod laws;
 pub mod number;
 pub mod octets;
@@ -27,10 +29,12 @@ pub mod widths;
 
 pub use answer::{And, Answer, No, Yes};
 pub use bits::{BitFields, Bits, Flag, Low};
-pub use case::{Case, Cases, Either, Last, Others, Tagged};
-pub use counted::{Counted, Length};
+pub use choice::{OneOf2, OneOf3, OneOf4, OneOf5, OneOf6, OneOf7, OneOf8};
+pub use counted::Length;
 pub use ended::ZeroEnded;
 pub use exactly::Exactly;
+pub use families::{Then, Through, When, Within};
+pub use family::{Any, Case, Family, Others, TellsKey};
 pub use fields::{Fields, Of};
 pub use filter::{Test, Where};
 pub use format::Format;
@@ -38,11 +42,14 @@ pub use integers::{
     Be, I8, I16Be, I16Le, I32Be, I32Le, I64Be, I64Le, I128Be, I128Le, Integer, Le, U8, U16Be,
     U16Le, U24, U24Be, U24Le, U32Be, U32Le, U48, U48Be, U48Le, U64Be, U64Le, U128Be, U128Le,
 };
+pub use keyed::{Itself, Key, Keyed, Reckoning};
 pub use laws::{are_octets, next_is_read_back, one_reading, parse_composed, whole_is_read_back};
 pub use number::Number;
 pub use octets::{Octets, Rest};
 pub use optional::Optional;
-pub use rows::{Repeated, Times, parse_many};
+pub use rows::{Repeated, parse_many};
+pub use sized::{Counted, ManyBy, Sized, Times};
+pub use tagged::Tagged;
 pub use text::Text;
 pub use values::append_all;
 pub use walk::Walk;

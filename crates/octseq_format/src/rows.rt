@@ -14,7 +14,6 @@ ghost use Rattle.octseq_format.specs.Walk.{items_left};
 ghost use Rattle.octseq_format.specs.Answer.{not_so};
 
 use crate::answer::{No, Yes};
-use crate::counted::Length;
 use crate::format::Format;
 use crate::walk::Walk;
 use octseq::{AsOctets, Malformed, OctetsBuilder, Parser, Truncate, Turns};
@@ -246,110 +245,4 @@ impl<R: AsOctets + Copy, F: Format<R, Delimited = Yes, Moving = Yes>> Format<R> 
     ghost delimited = { not_so };
 
     ghost moving = { not_so };
-}
-
-/// A count, followed by that many items.
-#[derive(Debug)]
-pub struct Times<N, F> {
-    count: PhantomData<N>,
-    item: PhantomData<F>,
-}
-
-impl<R: AsOctets + Copy, N: Length, F: Format<R, Delimited = Yes, Moving = Yes>> Format<R>
-    for Times<N, F> {
-    ghost use Rattle.octseq_format.specs.Row.{delimited_times};
-    ghost use Rattle.octseq_format.specs.Row.{Times, times_octets, TimesFit, one_times, onward_times, times_read_back};
-    ghost use Rattle.octseq_format.specs.Row.{canonical_times};
-
-    type Value = Walk<R, F>;
-
-    type Delimited = Yes;
-
-    type Moving = Yes;
-
-    ghost Found = { List F.Found };
-
-    ghost found = { λ walk. items_left walk };
-
-    ghost is_at = { Times N.width F.is_at };
-
-    ghost Said = { List F.Said };
-
-    ghost says = { map F.says };
-
-    ghost octets = { times_octets N.width F.octets };
-
-    ghost fits = { TimesFit N.width F.fits };
-
-    ghost one = { one_times N.width F.is_at F.one };
-
-    ghost found_code = { coded_list F.found_code };
-
-    ghost least = { N.width };
-
-    ghost turns_of = { row_turns F.turns_of };
-
-    ghost base = { F.base + 1 };
-
-    ghost rate = { F.base + 1 + F.rate };
-
-    ghost key = { λ _. 0 };
-
-    #[inline(always)]
-    fn parse_counted(parser: &mut Parser<R>, turns: &mut Turns) -> Result<Walk<R, F>, Malformed> {
-        let mut ahead = *parser;
-        let count = N::parse_len(&mut ahead)?;
-        let walk = parse_many(&mut ahead, count, turns)?;
-        *parser = ahead;
-        Ok(walk)
-    }
-
-    #[inline(always)]
-    fn least_len() -> usize {
-        N::octets()
-    }
-
-    #[inline(always)]
-    fn key_of(_value: &Self::Value) -> usize {
-        0
-    }
-
-    #[inline(always)]
-    fn is_canonical() -> bool {
-        F::is_canonical()
-    }
-
-    #[inline(always)]
-    #[tactic(auto, using(crate::specs::Counted::counted_long))]
-    fn compose_len(value: &Walk<R, F>) -> Option<usize> {
-        let len = items_len(value.iter())?;
-        N::count_len(value.len(), len)
-    }
-
-    #[inline(always)]
-    #[tactic(auto, using(crate::specs::Counted::counted_long))]
-    fn put<B: OctetsBuilder + Truncate>(
-        builder: &mut B,
-        value: &Walk<R, F>,
-    ) -> Result<(), AllocError> {
-        let before = builder.len();
-        N::put_len(builder, value.len(), 0)?;
-        let appended = put_items(builder, value.iter());
-        if appended.is_err() {
-            builder.truncate(before);
-        }
-        appended
-    }
-
-    ghost one_way = { F.one_way };
-
-    ghost canonical = { λ yes. canonical_times (F.canonical yes) N.width };
-
-    ghost onward = { onward_times N.width F.is_at F.onward };
-
-    ghost read_back = { times_read_back F.is_at F.says F.octets F.fits (F.delimited refl) N.width };
-
-    ghost delimited = { λ _. delimited_times F.is_at F.says F.octets F.fits (F.delimited refl) N.width };
-
-    ghost moving = { λ _. N.wide };
 }

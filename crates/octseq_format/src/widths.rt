@@ -4,7 +4,7 @@ ghost use Rattle.std.proofs.Common.{rules};
 ghost use Rattle.octseq.specs.Integer.{be, le, octets_be, octets_le};
 ghost use Rattle.octseq_format.specs.Fixed.{IsFixed, one_fixed, onward_fixed};
 ghost use Rattle.octseq_format.specs.Fixed.{delimited_fixed, canonical_fixed};
-ghost use Rattle.octseq_format.specs.Integers.{are_be, are_le};
+ghost use Rattle.octseq_format.specs.Integers.{are_be, are_le, few_octets};
 
 use crate::integers::{Be, Le, U24, U48};
 use crate::number::Number;
@@ -193,6 +193,8 @@ impl<T: Width> Number for Be<T> {
     ghost delimited = { delimited_fixed (are_be T.width) };
 
     ghost canonical = { λ _. canonical_fixed (are_be T.width) };
+
+    ghost small = { λ n fits. few_octets T.few fits };
 }
 
 impl<T: Width> Number for Le<T> {
@@ -247,4 +249,6 @@ impl<T: Width> Number for Le<T> {
     ghost delimited = { delimited_fixed (are_le T.width) };
 
     ghost canonical = { λ _. canonical_fixed (are_le T.width) };
+
+    ghost small = { λ n fits. few_octets T.few fits };
 }
