@@ -1,10 +1,10 @@
 -- A number, followed by what it decides.
-use Rattle.std.specs.Prelude.{◌≡◌, Bool, ◌&&◌, IsTrue, ℕ, ◌+◌, ◌≤◌, List, ◌++◌, length, refl}
+use Rattle.std.specs.Prelude.{◌≡◌, Bool, true, false, cond, ◌&&◌, IsTrue, ℕ, ◌+◌, ◌≤◌, List, ◌++◌, length, refl}
 use Rattle.std.proofs.Common.{sym, ap, ◌∙◌, subst, arith, length-append, append_assoc}
 use Rattle.octseq.specs.Window.{Window, left, past, rest}
 use Rattle.octseq.proofs.WindowsAfter.{front_comes_next}
 use Rattle.octseq_format.specs.Canonical.{IsCanonical, both_ways}
-use Rattle.octseq_format.specs.Family.{ByKey}
+use Rattle.octseq_format.specs.Family.{ByKey, any_onward}
 use Rattle.octseq_format.specs.Laws.{Relation, Takes, IsOne, IsOnward, IsReadBack, IsDelimited}
 use Rattle.octseq_format.specs.Pair.{past_both}
 
@@ -127,3 +127,20 @@ module _ {A : Type 0} {Number : Relation ℕ} {Is : ByKey A} where
     canonical_told one family told both =
         let ways = both_ways _ _ both in
         canonical_tagged (one ways.0) (family ways.1) (told ways.1)
+
+-- ---- one of two numbers, by a question
+
+pub one_by_switch : {N M : Relation ℕ} (first : Bool) → IsOne N → IsOne M → IsOne (cond first N M)
+one_by_switch true n m = n
+one_by_switch false n m = m
+
+pub onward_by_switch : {N M : Relation ℕ} {k l : ℕ} (first : Bool) → IsOnward k N → IsOnward l M
+    → IsOnward 0 (cond first N M)
+onward_by_switch true n m = any_onward n
+onward_by_switch false n m = any_onward m
+
+pub delimited_by_switch : {N M : Relation ℕ} {n m : ℕ → List ℕ} {Fits Others : ℕ → Type 0} (first : Bool)
+    → IsDelimited N (λ a. a) n Fits → IsDelimited M (λ a. a) m Others
+    → IsDelimited (cond first N M) (λ a. a) (cond first n m) (cond first Fits Others)
+delimited_by_switch true n m = n
+delimited_by_switch false n m = m

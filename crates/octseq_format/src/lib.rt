@@ -33,7 +33,7 @@ pub use choice::{OneOf2, OneOf3, OneOf4, OneOf5, OneOf6, OneOf7, OneOf8};
 pub use counted::Length;
 pub use ended::ZeroEnded;
 pub use exactly::Exactly;
-pub use families::{Then, Through, When, Within};
+pub use families::{Switch, Then, Through, When, Within, WithinBy};
 pub use family::{Any, Case, Family, Others, TellsKey};
 pub use fields::{Fields, Of};
 pub use filter::{Test, Where};
