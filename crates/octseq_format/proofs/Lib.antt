@@ -1,4 +1,5 @@
 pub mod BitSteps
+pub mod CompactSizes
 pub mod Copies
 pub mod EightOctets
 pub mod Lens

@@ -2,6 +2,8 @@ pub mod Answer
 pub mod Bits
 pub mod Canonical
 pub mod Case
+pub mod Choice
+pub mod CompactSize
 pub mod Counted
 pub mod Either
 pub mod Ended
@@ -17,5 +19,6 @@ pub mod Rest
 pub mod Row
 pub mod Text
 pub mod Turns
+pub mod Varying
 pub mod Walk
 pub mod Where

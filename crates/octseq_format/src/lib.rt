@@ -4,6 +4,7 @@
 pub mod answer;
 pub mod bits;
 pub mod case;
+pub mod compact_size;
 pub mod counted;
 pub mod ended;
 pub mod exactly;
