@@ -5,5 +5,6 @@ pub mod EightOctets
 pub mod Lens
 pub mod Nones
 pub mod Parts
+pub mod Quics
 pub mod RowSteps
 pub mod Wholes

@@ -15,6 +15,7 @@ pub mod Octets
 pub mod Optional
 pub mod Pair
 pub mod Part
+pub mod Quic
 pub mod Rest
 pub mod Row
 pub mod Text
