@@ -3,6 +3,7 @@ ghost use Rattle.std.specs.Prelude.{◌≡◌, ◌≤◌, ◌<◌, ◌+◌, ◌+
 ghost use Rattle.std.specs.Prelude.{IsNone, IsSome, IfSome};
 ghost use Rattle.octseq.specs.Limit.{IsWithin};
 ghost use Rattle.octseq.specs.Parser.{window, sequence};
+ghost use Rattle.octseq.specs.Window.{left};
 ghost use Rattle.octseq_format.specs.Canonical.{IsCanonical};
 ghost use Rattle.octseq_format.specs.Laws.{Relation, NoneAt, IsOne, IsOnward, IsDelimited};
 
@@ -38,7 +39,8 @@ pub trait Number {
         ensures malformed { IsErr result → NoneAt is_at (window parser.old) }
         ensures kept { OnErr result (window parser.new ≡ window parser.old) }
         ensures same { sequence parser.new ≡ sequence parser.old }
-        ensures end { (window parser.new).end ≡ (window parser.old).end };
+        ensures end { (window parser.new).end ≡ (window parser.old).end }
+        ensures onward { left (window parser.new) ≤ left (window parser.old) };
 
     /// Returns the minimum number of octets of a number.
     fn least_octets() -> usize
