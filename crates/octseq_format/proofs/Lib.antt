@@ -1,8 +1,10 @@
 pub mod BitSteps
+pub mod CompactSizes
 pub mod Copies
 pub mod EightOctets
 pub mod Lens
 pub mod Nones
 pub mod Parts
+pub mod Quics
 pub mod RowSteps
 pub mod Wholes

@@ -1,14 +1,11 @@
 -- Numbers as the bits of a larger one.
-use Rattle.std.specs.Prelude.{◌≡◌, ℕ, ◌+◌, ◌*◌, ◌/◌, ◌%◌, ◌<◌, ◌≤◌, ◌^◌, Bool, true, false}
-use Rattle.std.specs.Prelude.{length, cond, refl}
+use Rattle.std.specs.Prelude.{◌≡◌, ◌≢◌, ℕ, ◌+◌, ◌*◌, ◌/◌, ◌%◌, ◌<◌, ◌≤◌, ◌^◌, Bool, true, false}
+use Rattle.std.specs.Prelude.{List, length, cond, refl}
 use Rattle.std.proofs.Common.{sym, ap, ◌∙◌, subst, arith}
 use Rattle.std.proofs.Math.Nat.{mul-le-mul_right}
 use Rattle.std.proofs.lemmas.Nat.{div-mul-add, mod-mul-add, pow-add}
-use Rattle.octseq.specs.Integer.{be, octets_be}
-use Rattle.octseq.specs.Window.{past}
-use Rattle.octseq_format.specs.Fixed.{IsFixed, one_fixed, onward_fixed, delimited_fixed}
-use Rattle.octseq_format.specs.Integers.{are_be}
-use Rattle.octseq_format.specs.Laws.{Relation, IsOne, IsOnward, IsReadBack, IsDelimited, back_of}
+use Rattle.octseq.specs.Window.{Window, past}
+use Rattle.octseq_format.specs.Laws.{Relation, NoneAt, IsOne, IsOnward, IsReadBack, IsDelimited, back_of}
 use Rattle.octseq_format.specs.Pair.{◌also◌, same_pair}
 
 -- A number is of at most one value.
@@ -27,14 +24,15 @@ both_bits high bits low both = high both.0 * 2 ^ bits + low both.1
 abbrev pub bit_number : Bool → ℕ
 bit_number bit = cond bit 1 0
 
--- It is the number in k octets, big-endian.
-abbrev pub IsBits : {S : Type 0} → ℕ → (S → ℕ) → (S → Type 0) → Relation S
-IsBits k number Fits w a v = IsFixed k be w (number a) v × Fits a
+-- its number is there
+abbrev pub IsBits : {S : Type 0} → Relation ℕ → (S → ℕ) → (S → Type 0) → Relation S
+IsBits Is number Fits w a v = Is w (number a) v × Fits a
 
--- Each fits its bits, and all of them the octets.
-pub record BitsFit {S : Type 0} (k : ℕ) (number : S → ℕ) (Fits : S → Type 0) (said : S) : Type 0 where
+-- Each fits its bits, and the number of all of them fits.
+pub record BitsFit {S : Type 0} (NumberFits : ℕ → Type 0) (number : S → ℕ) (Fits : S → Type 0)
+    (said : S) : Type 0 where
   pub each : Fits said
-  pub count : number said < 256 ^ k
+  pub whole : NumberFits (number said)
 
 pub one_number : (bits : ℕ) → IsOneNumber (λ n. n) (λ n. n < 2 ^ bits)
 one_number bits = record { same = λ a b _ _ same. same }
@@ -92,33 +90,35 @@ module _ {S T : Type 0} {high : S → ℕ} {low : T → ℕ} {High : S → Type 
         omega (arith, whole, power, small);
   }
 
-module _ {S : Type 0} (k : ℕ) (number : S → ℕ) (Fits : S → Type 0) where
-  pub one_bits : IsOneNumber number Fits → IsOne (IsBits k number Fits)
-  one_bits one = record {
+module _ {S : Type 0} {Is : Relation ℕ} (number : S → ℕ) (Fits : S → Type 0) where
+  pub one_bits : IsOne Is → IsOneNumber number Fits → IsOne (IsBits Is number Fits)
+  one_bits one of_one = record {
     same = λ w a b u v is other.
-        let same = (one_fixed k be).same w (number a) (number b) u v is.0 other.0 in
-        (one.same a b is.1 other.1 same.0, same.1);
+        let same = one.same w (number a) (number b) u v is.0 other.0 in
+        (of_one.same a b is.1 other.1 same.0, same.1);
   }
 
-  pub onward_bits : IsOnward k (IsBits k number Fits)
-  onward_bits = record {
-    on = λ w a v ordered is. (onward_fixed k be).on w (number a) v ordered is.0;
-    less = λ w a v is. (onward_fixed k be).less w (number a) v is.0;
+  -- a number that isn't of such bits is there
+  pub other_bits : IsOne Is → (w u : Window) (n : ℕ) → Is w n u → ((a : S) → Fits a → number a ≢ n)
+      → NoneAt (IsBits Is number Fits) w
+  other_bits one w u n is none a v bits = none a bits.1 (one.same w (number a) n v u bits.0 is).0
+
+  pub onward_bits : {least : ℕ} → IsOnward least Is → IsOnward least (IsBits Is number Fits)
+  onward_bits onward = record {
+    on = λ w a v ordered is. onward.on w (number a) v ordered is.0;
+    less = λ w a v is. onward.less w (number a) v is.0;
   }
 
-  pub delimited_bits : IsDelimited (IsBits k number Fits) (λ a. a) (λ said. octets_be k (number said))
-      (BitsFit k number Fits)
-  delimited_bits = record {
-    next = λ w said more fits is.
-        let taken = (delimited_fixed (are_be k)).next w (number said) more fits.count is in
-        let end = past (length (octets_be k (number said))) w in
-        record {
-          it = said;
-          tells = refl;
-          is = (subst (λ n. IsFixed k be w n end) taken.tells taken.is, fits.each);
-        };
-  }
+  module _ {octets : ℕ → List ℕ} {NumberFits : ℕ → Type 0} where
+    pub delimited_bits : IsDelimited Is (λ n. n) octets NumberFits
+        → IsDelimited (IsBits Is number Fits) (λ a. a) (λ said. octets (number said)) (BitsFit NumberFits number Fits)
+    delimited_bits delimited = record {
+      next = λ w said more fits is.
+          let taken = delimited.next w (number said) more fits.whole is in
+          let end = past (length (octets (number said))) w in
+          record { it = said; tells = refl; is = (subst (λ n. Is w n end) taken.tells taken.is, fits.each) };
+    }
 
-  pub bits_read_back : IsReadBack (IsBits k number Fits) (λ a. a) (λ said. octets_be k (number said))
-      (BitsFit k number Fits)
-  bits_read_back = back_of delimited_bits
+    pub bits_read_back : IsDelimited Is (λ n. n) octets NumberFits
+        → IsReadBack (IsBits Is number Fits) (λ a. a) (λ said. octets (number said)) (BitsFit NumberFits number Fits)
+    bits_read_back delimited = back_of (delimited_bits delimited)

@@ -1,6 +1,8 @@
 pub mod Answer
 pub mod Bits
 pub mod Canonical
+pub mod Choice
+pub mod CompactSize
 pub mod Counted
 pub mod Ended
 pub mod Exactly
@@ -14,10 +16,12 @@ pub mod OneOf
 pub mod Optional
 pub mod Pair
 pub mod Part
+pub mod Quic
 pub mod Rest
 pub mod Row
 pub mod Tagged
 pub mod Text
 pub mod Turns
+pub mod Varying
 pub mod Walk
 pub mod Where

@@ -1,7 +1,8 @@
 -- A value that meets a test.
 use Rattle.std.specs.Prelude.{ℕ, List}
 use Rattle.std.proofs.Common.{sym, subst}
-use Rattle.octseq_format.specs.Laws.{Relation, IsOne, IsOnward, IsReadBack, IsDelimited}
+use Rattle.octseq.specs.Window.{Window}
+use Rattle.octseq_format.specs.Laws.{Relation, NoneAt, IsOne, IsOnward, IsReadBack, IsDelimited}
 
 -- what it says meets the test
 abbrev pub IsWhere : {A S : Type 0} → Relation A → (A → S) → (S → Type 0) → Relation A
@@ -14,6 +15,11 @@ WhereFits Fits Holds said = Fits said × Holds said
 module _ {A S : Type 0} (Is : Relation A) (says : A → S) (Holds : S → Type 0) where
   pub one_where : IsOne Is → IsOne (IsWhere Is says Holds)
   one_where one = record { same = λ w a b u v is other. one.same w a b u v is.0 other.0 }
+
+  -- one that doesn't meet the test is there
+  pub other_where : IsOne Is → (w u : Window) (it : A) → Is w it u → ¬ Holds (says it) → NoneAt (IsWhere Is says Holds) w
+  other_where one w u it is fails a v meets =
+      fails (subst (λ a. Holds (says a)) (one.same w a it v u meets.0 is).0 meets.1)
 
   pub onward_where : {least : ℕ} → IsOnward least Is → IsOnward least (IsWhere Is says Holds)
   onward_where onward = record {

@@ -1,7 +1,6 @@
 //! Bit fields: the bits of a number as numbers and flags.
 ghost use Rattle.std.specs.Prelude.{◌≡◌, ◌≢◌, ◌≤◌, ◌<◌, ◌+◌, ◌*◌, ◌/◌, ◌%◌, ◌^◌, ℕ, Bool, IsNone, IfSome, false};
 ghost use Rattle.std.specs.Coded.{Coded, coded_ℕ, coded_bool, coded×};
-ghost use Rattle.octseq.specs.Integer.{octets_be};
 ghost use Rattle.octseq_format.specs.Bits.{IsOneNumber, HasBits, IsBits, BitsFit, both_bits, bit_number, one_number};
 ghost use Rattle.octseq_format.specs.Bits.{has_number, one_bit, has_bit, one_both, has_both, one_bits, onward_bits};
 ghost use Rattle.octseq_format.specs.Bits.{delimited_bits, bits_read_back};
@@ -9,8 +8,8 @@ ghost use Rattle.octseq_format.specs.Canonical.{not_one_way};
 ghost use Rattle.octseq_format.specs.Pair.{◌also◌};
 
 use crate::answer::Yes;
-use crate::counted::Length;
 use crate::format::Format;
+use crate::number::Number;
 use octseq::{AsOctets, Malformed, OctetsBuilder, Parser, Truncate, Turns};
 use std::alloc::AllocError;
 use std::marker::PhantomData;
@@ -280,14 +279,14 @@ impl<A: BitFields, B: BitFields, C: BitFields, D: BitFields> BitFields for (A, B
     }
 }
 
-/// A big-endian number of the width of `L`, split into the bit fields `B`. Bits above those of `B` are zero.
+/// A number, as `L` encodes it, split into the bit fields `B`. Bits above those of `B` are zero.
 #[derive(Debug)]
 pub struct Bits<L, B> {
     number: PhantomData<L>,
     bits: PhantomData<B>,
 }
 
-impl<R: AsOctets + Copy, L: Length, B: BitFields> Format<R> for Bits<L, B> {
+impl<R: AsOctets + Copy, L: Number, B: BitFields> Format<R> for Bits<L, B> {
     type Value = B::Value;
 
     type Delimited = Yes;
@@ -298,21 +297,21 @@ impl<R: AsOctets + Copy, L: Length, B: BitFields> Format<R> for Bits<L, B> {
 
     ghost found = { B.said };
 
-    ghost is_at = { IsBits L.width B.number B.fits };
+    ghost is_at = { IsBits L.is_at B.number B.fits };
 
     ghost Said = { B.Said };
 
     ghost says = { λ said. said };
 
-    ghost octets = { λ said. octets_be L.width (B.number said) };
+    ghost octets = { λ said. L.octets (B.number said) };
 
-    ghost fits = { BitsFit L.width B.number B.fits };
+    ghost fits = { BitsFit L.fits B.number B.fits };
 
-    ghost one = { one_bits L.width B.number B.fits B.one };
+    ghost one = { one_bits B.number B.fits L.one B.one };
 
     ghost found_code = { B.said_code };
 
-    ghost least = { L.width };
+    ghost least = { L.least };
 
     ghost turns_of = { λ _. 0 };
 
@@ -323,9 +322,10 @@ impl<R: AsOctets + Copy, L: Length, B: BitFields> Format<R> for Bits<L, B> {
     ghost key = { λ _. 0 };
 
     #[inline(always)]
+    #[tactic(auto, using(crate::specs::Bits::other_bits))]
     fn parse_counted(parser: &mut Parser<R>, _turns: &mut Turns) -> Result<B::Value, Malformed> {
         let mut ahead = *parser;
-        let number = L::parse_len(&mut ahead)?;
+        let number = L::parse_number(&mut ahead)?;
         let Some(value) = B::split(number) else {
             return Err(Malformed);
         };
@@ -335,7 +335,7 @@ impl<R: AsOctets + Copy, L: Length, B: BitFields> Format<R> for Bits<L, B> {
 
     #[inline(always)]
     fn least_len() -> usize {
-        L::octets()
+        L::least_octets()
     }
 
     #[inline(always)]
@@ -349,13 +349,11 @@ impl<R: AsOctets + Copy, L: Length, B: BitFields> Format<R> for Bits<L, B> {
     }
 
     #[inline(always)]
-    #[tactic(auto, using(octseq::proofs::Written::length_be))]
     fn compose_len(value: &B::Value) -> Option<usize> {
-        L::count_len(B::join(*value)?, 0)
+        L::number_len(B::join(*value)?)
     }
 
     #[inline(always)]
-    #[tactic(auto, using(octseq::proofs::Written::length_be))]
     fn put<Into: OctetsBuilder + Truncate>(
         builder: &mut Into,
         value: &B::Value,
@@ -363,18 +361,18 @@ impl<R: AsOctets + Copy, L: Length, B: BitFields> Format<R> for Bits<L, B> {
         let Some(number) = B::join(*value) else {
             return Err(AllocError);
         };
-        L::put_len(builder, number, 0)
+        L::put_number(builder, number)
     }
 
     ghost one_way = { false };
 
     ghost canonical = { not_one_way };
 
-    ghost onward = { onward_bits L.width B.number B.fits };
+    ghost onward = { onward_bits B.number B.fits L.onward };
 
-    ghost read_back = { bits_read_back L.width B.number B.fits };
+    ghost read_back = { bits_read_back B.number B.fits L.delimited };
 
-    ghost delimited = { λ _. delimited_bits L.width B.number B.fits };
+    ghost delimited = { λ _. delimited_bits B.number B.fits L.delimited };
 
-    ghost moving = { λ _. L.wide };
+    ghost moving = { λ _. L.moving };
 }

@@ -1,23 +1,22 @@
 //! A fixed number.
-ghost use Rattle.std.specs.Prelude.{◌≡◌, ◌<◌, ◌^◌, true};
-ghost use Rattle.octseq.specs.Integer.{octets_be};
+ghost use Rattle.std.specs.Prelude.{◌≡◌};
 ghost use Rattle.octseq_format.specs.Exactly.{IsExactly, coded_unit, one_exactly, onward_exactly};
 ghost use Rattle.octseq_format.specs.Exactly.{delimited_exactly, exactly_read_back, canonical_exactly};
 
 use crate::answer::Yes;
-use crate::counted::Length;
 use crate::format::Format;
+use crate::number::Number;
 use octseq::{AsOctets, Malformed, OctetsBuilder, Parser, Truncate, Turns};
 use std::alloc::AllocError;
 use std::marker::PhantomData;
 
-/// The number `N`, in the width of `L`.
+/// The number `N`, as `L` encodes it.
 #[derive(Debug)]
 pub struct Exactly<L, const N: usize> {
     number: PhantomData<L>,
 }
 
-impl<R: AsOctets + Copy, L: Length, const N: usize> Format<R> for Exactly<L, N> {
+impl<R: AsOctets + Copy, L: Number, const N: usize> Format<R> for Exactly<L, N> {
     type Value = ();
 
     type Delimited = Yes;
@@ -28,21 +27,21 @@ impl<R: AsOctets + Copy, L: Length, const N: usize> Format<R> for Exactly<L, N> 
 
     ghost found = { λ a. a };
 
-    ghost is_at = { IsExactly L.width N };
+    ghost is_at = { IsExactly L.is_at N };
 
     ghost Said = { Unit {0} };
 
     ghost says = { λ a. a };
 
-    ghost octets = { λ _. octets_be L.width N };
+    ghost octets = { λ _. L.octets N };
 
-    ghost fits = { λ _. N < 256 ^ L.width };
+    ghost fits = { λ _. L.fits N };
 
-    ghost one = { one_exactly L.width N };
+    ghost one = { one_exactly N L.one };
 
     ghost found_code = { coded_unit };
 
-    ghost least = { L.width };
+    ghost least = { L.least };
 
     ghost turns_of = { λ _. 0 };
 
@@ -53,9 +52,10 @@ impl<R: AsOctets + Copy, L: Length, const N: usize> Format<R> for Exactly<L, N> 
     ghost key = { λ _. 0 };
 
     #[inline(always)]
+    #[tactic(auto, using(crate::specs::Exactly::other_exactly))]
     fn parse_counted(parser: &mut Parser<R>, _turns: &mut Turns) -> Result<(), Malformed> {
         let mut ahead = *parser;
-        if L::parse_len(&mut ahead)? != N {
+        if L::parse_number(&mut ahead)? != N {
             return Err(Malformed);
         }
         *parser = ahead;
@@ -64,7 +64,7 @@ impl<R: AsOctets + Copy, L: Length, const N: usize> Format<R> for Exactly<L, N> 
 
     #[inline(always)]
     fn least_len() -> usize {
-        L::octets()
+        L::least_octets()
     }
 
     #[inline(always)]
@@ -74,30 +74,28 @@ impl<R: AsOctets + Copy, L: Length, const N: usize> Format<R> for Exactly<L, N> 
 
     #[inline(always)]
     fn is_canonical() -> bool {
-        true
+        L::is_unique()
     }
 
     #[inline(always)]
-    #[tactic(auto, using(octseq::proofs::Written::length_be))]
     fn compose_len(_value: &()) -> Option<usize> {
-        L::count_len(N, 0)
+        L::number_len(N)
     }
 
     #[inline(always)]
-    #[tactic(auto, using(octseq::proofs::Written::length_be))]
     fn put<B: OctetsBuilder + Truncate>(builder: &mut B, _value: &()) -> Result<(), AllocError> {
-        L::put_len(builder, N, 0)
+        L::put_number(builder, N)
     }
 
-    ghost one_way = { true };
+    ghost one_way = { L.one_way };
 
-    ghost canonical = { λ _. canonical_exactly L.width N };
+    ghost canonical = { λ yes. canonical_exactly N (L.canonical yes) };
 
-    ghost onward = { onward_exactly L.width N };
+    ghost onward = { onward_exactly N L.onward };
 
-    ghost read_back = { exactly_read_back L.width N };
+    ghost read_back = { exactly_read_back N L.delimited };
 
-    ghost delimited = { λ _. delimited_exactly L.width N };
+    ghost delimited = { λ _. delimited_exactly N L.delimited };
 
-    ghost moving = { λ _. L.wide };
+    ghost moving = { λ _. L.moving };
 }

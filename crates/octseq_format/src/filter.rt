@@ -1,17 +1,14 @@
 //! Numbers that meet a test.
-ghost use Rattle.std.specs.Prelude.{◌≡◌, ◌<◌, ◌^◌, ℕ, IsTrue, IsFalse, false};
+ghost use Rattle.std.specs.Prelude.{◌≡◌, ℕ, IsTrue, IsFalse, false};
 ghost use Rattle.std.specs.Coded.{coded_ℕ};
-ghost use Rattle.octseq.specs.Integer.{be, octets_be};
-ghost use Rattle.octseq_format.specs.Fixed.{IsFixed, one_fixed, onward_fixed, delimited_fixed};
-ghost use Rattle.octseq_format.specs.Fixed.{fixed_read_back};
-ghost use Rattle.octseq_format.specs.Integers.{are_be};
 ghost use Rattle.octseq_format.specs.Where.{IsWhere, WhereFits, one_where, onward_where};
 ghost use Rattle.octseq_format.specs.Canonical.{not_one_way};
+ghost use Rattle.octseq_format.specs.Laws.{back_of};
 ghost use Rattle.octseq_format.specs.Where.{where_read_back, delimited_where};
 
 use crate::answer::Yes;
-use crate::counted::Length;
 use crate::format::Format;
+use crate::number::Number;
 use octseq::{AsOctets, Malformed, OctetsBuilder, Parser, Truncate, Turns};
 use std::alloc::AllocError;
 use std::marker::PhantomData;
@@ -26,14 +23,14 @@ pub trait Test {
         ensures no { IsFalse result → ¬ holds number };
 }
 
-/// A number of the width of `L` that meets the test `T`.
+/// A number, as `L` encodes it, that meets the test `T`.
 #[derive(Debug)]
 pub struct Where<L, T> {
     number: PhantomData<L>,
     test: PhantomData<T>,
 }
 
-impl<R: AsOctets + Copy, L: Length, T: Test> Format<R> for Where<L, T> {
+impl<R: AsOctets + Copy, L: Number, T: Test> Format<R> for Where<L, T> {
     type Value = usize;
 
     type Delimited = Yes;
@@ -44,21 +41,21 @@ impl<R: AsOctets + Copy, L: Length, T: Test> Format<R> for Where<L, T> {
 
     ghost found = { λ n. n };
 
-    ghost is_at = { IsWhere (IsFixed L.width be) (λ n. n) T.holds };
+    ghost is_at = { IsWhere L.is_at (λ n. n) T.holds };
 
     ghost Said = { ℕ };
 
     ghost says = { λ n. n };
 
-    ghost octets = { octets_be L.width };
+    ghost octets = { L.octets };
 
-    ghost fits = { WhereFits (λ n. n < 256 ^ L.width) T.holds };
+    ghost fits = { WhereFits L.fits T.holds };
 
-    ghost one = { one_where (IsFixed L.width be) (λ n. n) T.holds (one_fixed L.width be) };
+    ghost one = { one_where L.is_at (λ n. n) T.holds L.one };
 
     ghost found_code = { coded_ℕ };
 
-    ghost least = { L.width };
+    ghost least = { L.least };
 
     ghost turns_of = { λ _. 0 };
 
@@ -69,9 +66,10 @@ impl<R: AsOctets + Copy, L: Length, T: Test> Format<R> for Where<L, T> {
     ghost key = { λ _. 0 };
 
     #[inline(always)]
+    #[tactic(auto, using(crate::specs::Where::other_where))]
     fn parse_counted(parser: &mut Parser<R>, _turns: &mut Turns) -> Result<usize, Malformed> {
         let mut ahead = *parser;
-        let number = L::parse_len(&mut ahead)?;
+        let number = L::parse_number(&mut ahead)?;
         if !T::test(number) {
             return Err(Malformed);
         }
@@ -81,7 +79,7 @@ impl<R: AsOctets + Copy, L: Length, T: Test> Format<R> for Where<L, T> {
 
     #[inline(always)]
     fn least_len() -> usize {
-        L::octets()
+        L::least_octets()
     }
 
     #[inline(always)]
@@ -95,31 +93,27 @@ impl<R: AsOctets + Copy, L: Length, T: Test> Format<R> for Where<L, T> {
     }
 
     #[inline(always)]
-    #[tactic(auto, using(octseq::proofs::Written::length_be))]
     fn compose_len(value: &usize) -> Option<usize> {
         if !T::test(*value) {
             return None;
         }
-        L::count_len(*value, 0)
+        L::number_len(*value)
     }
 
     #[inline(always)]
-    #[tactic(auto, using(octseq::proofs::Written::length_be))]
     fn put<B: OctetsBuilder + Truncate>(builder: &mut B, value: &usize) -> Result<(), AllocError> {
-        L::put_len(builder, *value, 0)
+        L::put_number(builder, *value)
     }
 
     ghost one_way = { false };
 
     ghost canonical = { not_one_way };
 
-    ghost onward = { onward_where (IsFixed L.width be) (λ n. n) T.holds (onward_fixed L.width be) };
+    ghost onward = { onward_where L.is_at (λ n. n) T.holds L.onward };
 
-    ghost read_back = { where_read_back (IsFixed L.width be) (λ n. n) T.holds (octets_be L.width)
-        (λ n. n < 256 ^ L.width) (fixed_read_back (are_be L.width)) };
+    ghost read_back = { where_read_back L.is_at (λ n. n) T.holds L.octets L.fits (back_of L.delimited) };
 
-    ghost delimited = { λ _. delimited_where (IsFixed L.width be) (λ n. n) T.holds (octets_be L.width)
-        (λ n. n < 256 ^ L.width) (delimited_fixed (are_be L.width)) };
+    ghost delimited = { λ _. delimited_where L.is_at (λ n. n) T.holds L.octets L.fits L.delimited };
 
-    ghost moving = { λ _. L.wide };
+    ghost moving = { λ _. L.moving };
 }

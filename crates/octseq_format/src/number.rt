@@ -81,3 +81,22 @@ pub trait Number {
 
     ghost canonical: { IsTrue one_way → IsCanonical is_at (λ number. number) octets fits };
 }
+
+/// Appends octets. The caller has checked that they fit.
+///
+/// # Errors
+///
+/// `AllocError` if a request for memory was refused. The content is then unchanged.
+#[inline(always)]
+pub(crate) fn put_octets<B: OctetsBuilder>(
+    builder: &mut B,
+    octets: &[u8],
+) -> Result<(), AllocError>
+    requires { IsWithin B.limit (length (B.content builder.now) + length octets.now) }
+    ensures ok { OnOk result (B.content builder.new ≡ B.content builder.old ++ octets.now) }
+    ensures err { OnErr result (B.content builder.new ≡ B.content builder.old) }
+    ensures memory { IsErr result → B.asks ≡ true }
+    ensures borrows { B.borrows builder.new ≡ B.borrows builder.old }
+{
+    builder.append_slice(octets).map_err(|_| AllocError)
+}
