@@ -69,7 +69,7 @@ impl<R: AsOctets + Copy> NotificationMessage<R> {
         if self.code != 6 || self.subcode != 2 && self.subcode != 4 {
             return Err(Malformed);
         }
-        let text = parse_all::<R, Counted<u8, Text, 0>>(self.data)?;
+        let text = parse_all::<R, Counted<U8, Text, 0>>(self.data)?;
         Ok(text)
     }
 

@@ -30,7 +30,7 @@ pub struct OpenMessage<R: AsOctets> {
 type Front = (U8, U16Be, U16Be, U32Be, Rest);
 
 /// The format of parameters in the long form: two octets, and octets with a length before them.
-type LongPart = (U8, U8, Counted<u16, Rest, 0>);
+type LongPart = (U8, U8, Counted<U16Be, Rest, 0>);
 
 /// Whether a nonzero length comes next, followed by the octet 255.
 pub(crate) fn is_long<R: AsOctets + Copy>(parser: &Parser<R>) -> bool
@@ -60,7 +60,7 @@ impl<R: AsOctets + Copy> OpenMessage<R> {
             let parameters = Parameters::parse_counted(inside, true, turns)?;
             Ok(parameters)
         } else {
-            let inside = parse_all::<R, Counted<u8, Rest, 0>>(parser)?;
+            let inside = parse_all::<R, Counted<U8, Rest, 0>>(parser)?;
             let parameters = Parameters::parse_counted(inside, false, turns)?;
             Ok(parameters)
         }

@@ -14,7 +14,7 @@ use crate::open::is_long;
 use crate::session::SessionConfig;
 use crate::whole::parse_all;
 use octseq::{AsOctets, Parser};
-use octseq_format::{Counted, Format, Length, Rest};
+use octseq_format::{Counted, Format, Length, Rest, U16Be};
 
 /// Reading stops at one place.
 ///
@@ -105,7 +105,7 @@ fn place_in_counted<R: AsOctets + Copy, L: Length>(parser: Parser<R>, form: Form
 }
 
 /// The format of withdrawn routes and of path attributes: octets with a length before them.
-type Part = Counted<u16, Rest, 0>;
+type Part = Counted<U16Be, Rest, 0>;
 
 /// Returns the position where reading stops in an UPDATE, without its header.
 fn place_in_update<R: AsOctets + Copy>(parser: Parser<R>, session: &SessionConfig) -> usize

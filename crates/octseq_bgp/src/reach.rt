@@ -38,7 +38,7 @@ impl<R: AsOctets + Copy> Clone for MpReachNlri<R> {
 }
 
 /// AFI, SAFI, next hops with a length before them, a reserved octet, and what follows.
-type ReachFront = (U16Be, U8, Counted<u8, Rest, 0>, U8, Rest);
+type ReachFront = (U16Be, U8, Counted<U8, Rest, 0>, U8, Rest);
 
 impl<R: AsOctets + Copy> MpReachNlri<R> {
     ghost use Rattle.octseq_bgp.specs.ValueOf.{reach_of};

@@ -50,7 +50,7 @@ impl<R: AsOctets + Copy> Clone for EdnsOption<R> {
 }
 
 impl<R: AsOctets + Copy> Fields<R> for EdnsOption<R> {
-    type Format = (U16Be, Counted<u16, Rest, 0>);
+    type Format = (U16Be, Counted<U16Be, Rest, 0>);
 
     ghost fields = { λ option. (option.code, option.octets) };
 

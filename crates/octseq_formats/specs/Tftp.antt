@@ -2,16 +2,15 @@
 use Rattle.std.specs.Prelude.{ℕ}
 use Rattle.octseq.specs.declared.AsOctets.{Ghosts}
 use Rattle.octseq.specs.declared.parse.Parser.{Parser}
-use Rattle.octseq_format.specs.declared.case.Either.{Either}
+use Rattle.octseq_format.specs.declared.choice.OneOf5.{OneOf5}
 use Rattle.octseq_formats.specs.declared.tftp.Packet.{Packet}
 
 abbrev pub Fields : (R : Type 0) → Ghosts R → Type 0
-Fields R g = Either (Parser R g × Parser R g)
-    (Either (Parser R g × Parser R g) (Either (ℕ × Parser R g) (Either ℕ (ℕ × Parser R g))))
+Fields R g = OneOf5 (Parser R g × Parser R g) (Parser R g × Parser R g) (ℕ × Parser R g) ℕ (ℕ × Parser R g)
 
 abbrev pub packet_fields : {R : Type 0} {g : Ghosts R} → Packet R g → Fields R g
-packet_fields (Packet.Read name mode) = Either.This (name, mode)
-packet_fields (Packet.Write name mode) = Either.Other (Either.This (name, mode))
-packet_fields (Packet.Data block octets) = Either.Other (Either.Other (Either.This (block, octets)))
-packet_fields (Packet.Acknowledgment block) = Either.Other (Either.Other (Either.Other (Either.This block)))
-packet_fields (Packet.Error code words) = Either.Other (Either.Other (Either.Other (Either.Other (code, words))))
+packet_fields (Packet.Read name mode) = OneOf5.First (name, mode)
+packet_fields (Packet.Write name mode) = OneOf5.Second (name, mode)
+packet_fields (Packet.Data block octets) = OneOf5.Third (block, octets)
+packet_fields (Packet.Acknowledgment block) = OneOf5.Fourth block
+packet_fields (Packet.Error code words) = OneOf5.Fifth (code, words)

@@ -1,10 +1,7 @@
 //! DHCP: packets of RFC 2131, 2, with the options of RFC 2132.
 
 use octseq::{AsOctets, Parser};
-use octseq_format::{
-    Case, Counted, Either, Fields, Format, Octets, Of, Optional, Others, Repeated, Rest, Tagged,
-    U8, U16Be, U32Be,
-};
+use octseq_format::{Case, Counted, Fields, Format, Octets, Of, OneOf3, Optional, Others, Repeated, Rest, Tagged, U8, U16Be, U32Be};
 
 /// An option.
 #[derive(Clone, Copy, Debug, Drop)]
@@ -21,31 +18,31 @@ impl<R: AsOctets + Copy> Fields<R> for DhcpOption<R> {
     ghost use Rattle.octseq_formats.specs.Dhcp.{option_fields};
 
     type Format = Tagged<
-        u8,
-        Case<0, Octets<0>, Case<255, Octets<0>, Others<Counted<u8, Rest, 0>>>>,
+        U8,
+        (Case<0, Octets<0>>, Case<255, Octets<0>>, Others<Counted<U8, Rest, 0>>),
     >;
 
     ghost fields = { option_fields };
 
     fn from_fields(parts: <Self::Format as Format<R>>::Value) -> Self {
         match parts {
-            Either::This(_) => DhcpOption::Pad,
-            Either::Other(Either::This(_)) => DhcpOption::End,
-            Either::Other(Either::Other((code, octets))) => DhcpOption::Other(code, octets),
+            OneOf3::First(_) => DhcpOption::Pad,
+            OneOf3::Second(_) => DhcpOption::End,
+            OneOf3::Third((code, octets)) => DhcpOption::Other(code, octets),
         }
     }
 
     fn to_fields(&self) -> <Self::Format as Format<R>>::Value {
         match *self {
-            DhcpOption::Pad => Either::This([]),
-            DhcpOption::End => Either::Other(Either::This([])),
-            DhcpOption::Other(code, octets) => Either::Other(Either::Other((code, octets))),
+            DhcpOption::Pad => OneOf3::First([]),
+            DhcpOption::End => OneOf3::Second([]),
+            DhcpOption::Other(code, octets) => OneOf3::Third((code, octets)),
         }
     }
 }
 
 /// Options after the magic cookie 63 82 53 63, or anything after another number.
-pub type Vendor<R> = Tagged<u32, Case<0x63825363, Repeated<Of<DhcpOption<R>>>, Others<Rest>>>;
+pub type Vendor<R> = Tagged<U32Be, (Case<0x63825363, Repeated<Of<DhcpOption<R>>>>, Others<Rest>)>;
 
 /// A packet: operation, hardware type, length of hardware addresses, hops; transaction, seconds, flags; the addresses
 /// of client, yours, server and relay; the client's hardware address, the server's name, a file's name, and options.

@@ -34,7 +34,7 @@ pub struct Ntp {
 
 impl<R: AsOctets + Copy> Fields<R> for Ntp {
     type Format = (
-        Bits<u8, (Low<2>, Low<3>, Low<3>)>,
+        Bits<U8, (Low<2>, Low<3>, Low<3>)>,
         U8,
         I8,
         I8,

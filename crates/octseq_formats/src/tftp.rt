@@ -1,7 +1,7 @@
 //! TFTP packets: RFC 1350, 5.
 
 use octseq::{AsOctets, Parser};
-use octseq_format::{Case, Either, Fields, Format, Last, Rest, Tagged, U16Be, ZeroEnded};
+use octseq_format::{Case, Fields, Format, OneOf5, Rest, Tagged, U16Be, ZeroEnded};
 
 /// A TFTP packet. Texts are parsers of their octets.
 #[derive(Clone, Copy, Debug, Drop)]
@@ -22,47 +22,35 @@ impl<R: AsOctets + Copy> Fields<R> for Packet<R> {
     ghost use Rattle.octseq_formats.specs.Tftp.{packet_fields};
 
     type Format = Tagged<
-        u16,
-        Case<
-            1,
-            (ZeroEnded, ZeroEnded),
-            Case<
-                2,
-                (ZeroEnded, ZeroEnded),
-                Case<3, (U16Be, Rest), Case<4, U16Be, Last<5, (U16Be, ZeroEnded)>>>,
-            >,
-        >,
+        U16Be,
+        (
+            Case<1, (ZeroEnded, ZeroEnded)>,
+            Case<2, (ZeroEnded, ZeroEnded)>,
+            Case<3, (U16Be, Rest)>,
+            Case<4, U16Be>,
+            Case<5, (U16Be, ZeroEnded)>,
+        ),
     >;
 
     ghost fields = { packet_fields };
 
     fn from_fields(parts: <Self::Format as Format<R>>::Value) -> Self {
         match parts {
-            Either::This((name, mode)) => Packet::Read(name, mode),
-            Either::Other(Either::This((name, mode))) => Packet::Write(name, mode),
-            Either::Other(Either::Other(Either::This((block, octets)))) => Packet::Data(
-                block, octets,
-            ),
-            Either::Other(Either::Other(Either::Other(Either::This(block)))) =>
-                Packet::Acknowledgment(block),
-            Either::Other(Either::Other(Either::Other(Either::Other((code, words))))) =>
-                Packet::Error(code, words),
+            OneOf5::First((name, mode)) => Packet::Read(name, mode),
+            OneOf5::Second((name, mode)) => Packet::Write(name, mode),
+            OneOf5::Third((block, octets)) => Packet::Data(block, octets),
+            OneOf5::Fourth(block) => Packet::Acknowledgment(block),
+            OneOf5::Fifth((code, words)) => Packet::Error(code, words),
         }
     }
 
     fn to_fields(&self) -> <Self::Format as Format<R>>::Value {
         match *self {
-            Packet::Read(name, mode) => Either::This((name, mode)),
-            Packet::Write(name, mode) => Either::Other(Either::This((name, mode))),
-            Packet::Data(block, octets) => Either::Other(Either::Other(Either::This((
-                block, octets,
-            )))),
-            Packet::Acknowledgment(block) => Either::Other(Either::Other(Either::Other(Either::This(
-                block,
-            )))),
-            Packet::Error(code, words) => Either::Other(Either::Other(Either::Other(Either::Other((
-                code, words,
-            ))))),
+            Packet::Read(name, mode) => OneOf5::First((name, mode)),
+            Packet::Write(name, mode) => OneOf5::Second((name, mode)),
+            Packet::Data(block, octets) => OneOf5::Third((block, octets)),
+            Packet::Acknowledgment(block) => OneOf5::Fourth(block),
+            Packet::Error(code, words) => OneOf5::Fifth((code, words)),
         }
     }
 }

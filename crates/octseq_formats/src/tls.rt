@@ -1,11 +1,9 @@
 //! A TLS record with a ClientHello: RFC 8446, 5.1 and 4.1.2.
 use octseq::{AsOctets, Parser};
-use octseq_format::{
-    Counted, Exactly, Fields, Format, Octets, Of, Repeated, Rest, U16Be, U24, Walk,
-};
+use octseq_format::{Counted, Exactly, Fields, Format, Octets, Of, Repeated, Rest, U16Be, U24Be, U8, Walk};
 
 /// An extension: its type, and its data with a length prefix.
-pub type Extension = (U16Be, Counted<u16, Rest, 0>);
+pub type Extension = (U16Be, Counted<U16Be, Rest, 0>);
 
 /// A ClientHello, with its lists as `S` and `E`.
 #[derive(Clone, Copy, Debug, Drop)]
@@ -31,10 +29,10 @@ impl<R: AsOctets + Copy> Fields<R> for Hello<R> {
     type Format = (
         U16Be,
         Octets<32>,
-        Counted<u8, Rest, 0>,
-        Counted<u16, Repeated<U16Be>, 0>,
-        Counted<u8, Rest, 0>,
-        Counted<u16, Repeated<Extension>, 0>,
+        Counted<U8, Rest, 0>,
+        Counted<U16Be, Repeated<U16Be>, 0>,
+        Counted<U8, Rest, 0>,
+        Counted<U16Be, Repeated<Extension>, 0>,
     );
 
     ghost fields = { λ hello. (
@@ -73,7 +71,7 @@ impl<R: AsOctets + Copy> Fields<R> for Hello<R> {
 /// A record of type 22 (handshake): a version, and with a length prefix a message of type 1 (ClientHello) that has a
 /// length of its own.
 pub type Record<R> = (
-    Exactly<u8, 22>,
+    Exactly<U8, 22>,
     U16Be,
-    Counted<u16, (Exactly<u8, 1>, Counted<U24, Of<Hello<R>>, 0>), 0>,
+    Counted<U16Be, (Exactly<U8, 1>, Counted<U24Be, Of<Hello<R>>, 0>), 0>,
 );

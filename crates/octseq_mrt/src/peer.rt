@@ -176,7 +176,7 @@ impl<R: AsOctets + Copy> PeerIndexTable<R> {
     {
         let mut ahead = parser;
         let collector_bgp_id = U32Be::parse(&mut ahead)?;
-        let view_name = <Counted<u16, Rest, 0> as Format<R>>::parse(&mut ahead)?;
+        let view_name = <Counted<U16Be, Rest, 0> as Format<R>>::parse(&mut ahead)?;
         let count = U16Be::parse(&mut ahead)?;
         let first = ahead;
         pass_peers(&mut ahead, count, turns)?;

@@ -63,7 +63,7 @@ impl<R: AsOctets + Copy> EntryParts<R> {
         let peer_index = U16Be::parse(parser)?;
         let originated_time = U32Be::parse(parser)?;
         let path_id = parse_optional(parser, paths)?;
-        let octets = <Counted<u16, Rest, 0> as Format<R>>::parse(parser)?;
+        let octets = <Counted<U16Be, Rest, 0> as Format<R>>::parse(parser)?;
         Ok(EntryParts {
             peer_index,
             originated_time,

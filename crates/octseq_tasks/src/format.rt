@@ -1,10 +1,10 @@
 //! Reading and writing a format.
 use octseq::Array;
-use octseq_format::{Counted, Format, Text, U16Be};
+use octseq_format::{Counted, Format, Text, U16Be, U8};
 use std::alloc::Global;
 
 /// A number in two octets, followed by a text that is preceded by its length in one octet.
-type Packet = (U16Be, Counted<u8, Text, 0>);
+type Packet = (U16Be, Counted<U8, Text, 0>);
 
 /// Reads a packet, and writes one with the next number and the same text.
 pub fn next_packet(alloc: Global, octets: &[u8]) -> anyhow::Result<Array<64>> {

@@ -31,7 +31,7 @@ impl<R: AsOctets + Copy> Clone for Caa<R> {
 }
 
 impl<R: AsOctets + Copy> Fields<R> for Caa<R> {
-    type Format = (U8, Counted<u8, Formed<CaaTag<R>>, 0>, Rest);
+    type Format = (U8, Counted<U8, Formed<CaaTag<R>>, 0>, Rest);
 
     ghost fields = { λ caa. (caa.flags, caa.tag, caa.value) };
 

@@ -81,8 +81,8 @@ impl<R: AsOctets + Copy> Fields<R> for Nsec3<R> {
         U8,
         U8,
         U16Be,
-        Counted<u8, Formed<CharStr<R>>, 0>,
-        Counted<u8, Formed<OwnerHash<R>>, 0>,
+        Counted<U8, Formed<CharStr<R>>, 0>,
+        Counted<U8, Formed<OwnerHash<R>>, 0>,
         Formed<RtypeBitmap<R>>,
     );
 
@@ -145,7 +145,7 @@ impl<R: AsOctets + Copy> Clone for Nsec3param<R> {
 }
 
 impl<R: AsOctets + Copy> Fields<R> for Nsec3param<R> {
-    type Format = (U8, U8, U16Be, Counted<u8, Formed<CharStr<R>>, 0>);
+    type Format = (U8, U8, U16Be, Counted<U8, Formed<CharStr<R>>, 0>);
 
     ghost fields = { λ param. (param.hash_algorithm, param.flags, param.iterations, param.salt) };
 

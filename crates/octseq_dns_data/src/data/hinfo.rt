@@ -4,7 +4,7 @@ ghost use Rattle.std.specs.Prelude.{◌≡◌, ⊤};
 use crate::data::formed::Formed;
 use crate::data::txt::CharStr;
 use octseq::AsOctets;
-use octseq_format::{Counted, Fields, Format};
+use octseq_format::{Counted, Fields, Format, U8};
 use std::alloc::AllocError;
 
 /// Host information: RFC 1035, 3.3.2.
@@ -30,8 +30,8 @@ impl<R: AsOctets + Copy> Clone for Hinfo<R> {
 
 impl<R: AsOctets + Copy> Fields<R> for Hinfo<R> {
     type Format = (
-        Counted<u8, Formed<CharStr<R>>, 0>,
-        Counted<u8, Formed<CharStr<R>>, 0>,
+        Counted<U8, Formed<CharStr<R>>, 0>,
+        Counted<U8, Formed<CharStr<R>>, 0>,
     );
 
     ghost fields = { λ hinfo. (hinfo.cpu, hinfo.os) };

@@ -5,7 +5,7 @@ use crate::data::formed::Formed;
 use crate::data::txt::CharStr;
 use octseq::AsOctets;
 use octseq_dns_name::{DomainName, ParsedName};
-use octseq_format::{Counted, Fields, Format, U16Be};
+use octseq_format::{Counted, Fields, Format, U16Be, U8};
 use std::alloc::AllocError;
 
 /// A naming authority pointer.
@@ -41,9 +41,9 @@ impl<R: AsOctets + Copy> Fields<R> for Naptr<R> {
     type Format = (
         U16Be,
         U16Be,
-        Counted<u8, Formed<CharStr<R>>, 0>,
-        Counted<u8, Formed<CharStr<R>>, 0>,
-        Counted<u8, Formed<CharStr<R>>, 0>,
+        Counted<U8, Formed<CharStr<R>>, 0>,
+        Counted<U8, Formed<CharStr<R>>, 0>,
+        Counted<U8, Formed<CharStr<R>>, 0>,
         DomainName,
     );
 

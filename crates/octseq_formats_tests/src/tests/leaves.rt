@@ -3,12 +3,7 @@ use crate::tests::{compose, read, refusal, unwrap};
 use octseq::compose::ComposeError;
 use octseq::{Array, AsOctets, Malformed, Parser, Turns};
 use octseq_asserts::assert_equal;
-use octseq_format::{
-    Bits, Case, Counted, Either, Exactly, Flag, Format, I8, I16Be, I16Le, I32Be, I32Le, I64Be,
-    I64Le, I128Be, I128Le, Last, Low, Octets, Optional, Others, Repeated, Tagged, Test, Text, U8,
-    U16Be, U16Le, U24Be, U24Le, U32Be, U32Le, U48Be, U48Le, U64Be, U64Le, U128Be, U128Le, Where,
-    ZeroEnded, append_all, parse_many,
-};
+use octseq_format::{Bits, Case, Counted, Either, Exactly, Flag, Format, I8, I16Be, I16Le, I32Be, I32Le, I64Be, I64Le, I128Be, I128Le, Last, Low, Octets, Optional, Others, Repeated, Tagged, Test, Text, U8, U16Be, U16Le, U24Be, U24Le, U32Be, U32Le, U48Be, U48Le, U64Be, U64Le, U128Be, U128Le, Where, ZeroEnded, append_all, parse_many};
 use std::alloc::AllocGlobal;
 use std::fmt::Debug;
 use std::process::Abort;
@@ -91,19 +86,19 @@ impl Test for Known {
 
 #[test]
 fn a_number_may_be_fixed_or_tested(rt: HostRuntime) {
-    is_said::<Exactly<u16, 258>>(&rt, b"\x01\x02", ());
+    is_said::<Exactly<U16Be, 258>>(&rt, b"\x01\x02", ());
     assert_equal!(
         &rt,
-        refusal::<Exactly<u16, 258>, &[u8]>(b"\x01\x03"),
+        refusal::<Exactly<U16Be, 258>, &[u8]>(b"\x01\x03"),
         Some(Malformed)
     );
-    is_said::<Where<u8, Known>>(&rt, b"\x04", 4);
+    is_said::<Where<U8, Known>>(&rt, b"\x04", 4);
     assert_equal!(
         &rt,
-        refusal::<Where<u8, Known>, &[u8]>(b"\x03"),
+        refusal::<Where<U8, Known>, &[u8]>(b"\x03"),
         Some(Malformed)
     );
-    let written: Result<Vec<u8>, _> = compose::<Where<u8, Known>, &[u8], _>(rt.alloc(), &3);
+    let written: Result<Vec<u8>, _> = compose::<Where<U8, Known>, &[u8], _>(rt.alloc(), &3);
     assert_equal!(&rt, written.is_err(), true);
 }
 
@@ -112,17 +107,17 @@ type DnsFlags = (Flag, (Low<4>, Flag, Flag), (Flag, Flag, Low<3>, Low<4>));
 
 #[test]
 fn a_number_may_be_bits(rt: HostRuntime) {
-    is_said::<Bits<u8, (Low<2>, Low<3>, Low<3>)>>(&rt, b"\x23", (0, 4, 3));
-    is_said::<Bits<u16, DnsFlags>>(
+    is_said::<Bits<U8, (Low<2>, Low<3>, Low<3>)>>(&rt, b"\x23", (0, 4, 3));
+    is_said::<Bits<U16Be, DnsFlags>>(
         &rt,
         b"\x85\x83",
         (true, (0, true, false), (true, true, 0, 3)),
     );
-    let value = <Bits<u8, (Low<2>, Low<3>)> as Format<&[u8]>>::parse_whole(b"\x1F".as_slice());
+    let value = <Bits<U8, (Low<2>, Low<3>)> as Format<&[u8]>>::parse_whole(b"\x1F".as_slice());
     assert_equal!(&rt, value, Ok((3, 7)));
-    let refused = refusal::<Bits<u8, (Low<2>, Low<3>)>, &[u8]>(b"\x20");
+    let refused = refusal::<Bits<U8, (Low<2>, Low<3>)>, &[u8]>(b"\x20");
     assert_equal!(&rt, refused, Some(Malformed));
-    let written: Result<Vec<u8>, _> = compose::<Bits<u8, (Low<2>, Low<6>)>, &[u8], _>(
+    let written: Result<Vec<u8>, _> = compose::<Bits<U8, (Low<2>, Low<6>)>, &[u8], _>(
         rt.alloc(),
         &(4, 0),
     );
@@ -214,20 +209,20 @@ fn is_copied<'a, F: Format<&'a [u8]>>(_octets: &'a [u8]) -> bool {
 fn what_is_said_in_one_way_is_copied(rt: HostRuntime) {
     let octets = b"\x01".as_slice();
     assert_equal!(&rt, is_copied::<Repeated<(U8, U16Be)>>(octets), true);
-    assert_equal!(&rt, is_copied::<Counted<u16, Octets<4>, 2>>(octets), true);
-    assert_equal!(&rt, is_copied::<Exactly<u8, 1>>(octets), true);
+    assert_equal!(&rt, is_copied::<Counted<U16Be, Octets<4>, 2>>(octets), true);
+    assert_equal!(&rt, is_copied::<Exactly<U8, 1>>(octets), true);
     assert_equal!(&rt, is_copied::<(U8, Optional<U8>)>(octets), false);
 }
 
 #[test]
 fn a_tag_tells_what_comes(rt: HostRuntime) {
-    is_said::<Tagged<u8, Case<1, U8, Others<U16Be>>>>(&rt, b"\x01\x07", Either::This(7));
-    is_said::<Tagged<u8, Case<1, U8, Others<U16Be>>>>(&rt, b"\x02\0\x07", Either::Other((2, 7)));
-    is_said::<Tagged<u8, Case<1, U8, Last<2, U16Be>>>>(&rt, b"\x02\0\x07", Either::Other(7));
-    let refused = refusal::<Tagged<u8, Case<1, U8, Last<2, U16Be>>>, &[u8]>(b"\x03\0\x07");
+    is_said::<Tagged<U8, Case<1, U8, Others<U16Be>>>>(&rt, b"\x01\x07", Either::This(7));
+    is_said::<Tagged<U8, Case<1, U8, Others<U16Be>>>>(&rt, b"\x02\0\x07", Either::Other((2, 7)));
+    is_said::<Tagged<U8, Case<1, U8, Last<2, U16Be>>>>(&rt, b"\x02\0\x07", Either::Other(7));
+    let refused = refusal::<Tagged<U8, Case<1, U8, Last<2, U16Be>>>, &[u8]>(b"\x03\0\x07");
     assert_equal!(&rt, refused, Some(Malformed));
     let value = Either::Other((1, 7));
-    let written: Result<Vec<u8>, _> = compose::<Tagged<u8, Case<1, U8, Others<U16Be>>>, &[u8], _>(
+    let written: Result<Vec<u8>, _> = compose::<Tagged<U8, Case<1, U8, Others<U16Be>>>, &[u8], _>(
         rt.alloc(),
         &value,
     );

@@ -3,7 +3,7 @@ use crate::tests::{append, compose, unwrap};
 use octseq::compose::ComposeError;
 use octseq::{Array, AsOctets, Malformed, OctetsBuilder, Parser};
 use octseq_asserts::assert_equal;
-use octseq_format::{Counted, Format, Of, Rest, Times, U16Be};
+use octseq_format::{Counted, Format, Of, Rest, Times, U16Be, U8};
 use octseq_formats::ntp::Ntp;
 use octseq_formats::tftp::Packet;
 
@@ -48,23 +48,23 @@ fn octets_that_their_length_cant_count_are_too_long(rt: HostRuntime) {
     let octets = [7; 256];
     let mut content = Array::<4>::new();
     let long = Parser::from_ref(octets.as_slice());
-    let appended = append::<Counted<u8, Rest, 0>, &[u8], _>(&mut content, &long);
+    let appended = append::<Counted<U8, Rest, 0>, &[u8], _>(&mut content, &long);
     assert_equal!(&rt, appended, Err(ComposeError::TooLong));
     let most = Parser::from_ref(&octets[1..]);
-    let appended = append::<Counted<u8, Rest, 0>, &[u8], _>(&mut content, &most);
+    let appended = append::<Counted<U8, Rest, 0>, &[u8], _>(&mut content, &most);
     assert_equal!(&rt, appended, Err(ComposeError::Short));
-    let counted_too = append::<Counted<u8, Rest, 1>, &[u8], _>(&mut content, &most);
+    let counted_too = append::<Counted<U8, Rest, 1>, &[u8], _>(&mut content, &most);
     assert_equal!(&rt, counted_too, Err(ComposeError::TooLong));
 }
 
 #[test]
 fn a_length_may_count_octets_before_it(rt: HostRuntime) {
     let octets = b"\x05ab".as_slice();
-    let value = <Counted<u8, Rest, 3> as Format<&[u8]>>::parse_whole(octets);
+    let value = <Counted<U8, Rest, 3> as Format<&[u8]>>::parse_whole(octets);
     let pos = value.map(|rest| (rest.pos(), rest.len()));
     assert_equal!(&rt, pos, Ok((1, 3)));
     for octets in [b"\x02".as_slice(), b"\x04ab", b"\x06ab"] {
-        let refused = <Counted<u8, Rest, 3> as Format<&[u8]>>::parse_whole(octets);
+        let refused = <Counted<U8, Rest, 3> as Format<&[u8]>>::parse_whole(octets);
         assert_equal!(&rt, refused.err(), Some(Malformed));
     }
 }
@@ -72,10 +72,10 @@ fn a_length_may_count_octets_before_it(rt: HostRuntime) {
 #[test]
 fn a_count_says_how_many(rt: HostRuntime) {
     let octets = b"\x02\0\x01\0\x02".as_slice();
-    let many = <Times<u8, U16Be> as Format<&[u8]>>::parse_whole(octets).map(|walk| walk.len());
+    let many = <Times<U8, U16Be> as Format<&[u8]>>::parse_whole(octets).map(|walk| walk.len());
     assert_equal!(&rt, many, Ok(2));
     for octets in [b"\x02\0\x01\0".as_slice(), b"\x01\0\x01\0\x02", b""] {
-        let refused = <Times<u8, U16Be> as Format<&[u8]>>::parse_whole(octets).err();
+        let refused = <Times<U8, U16Be> as Format<&[u8]>>::parse_whole(octets).err();
         assert_equal!(&rt, refused, Some(Malformed));
     }
 }
