@@ -29,3 +29,6 @@ none_above n bits none =
     let below : n < n / size * size + size = lt-div-mul-add (one-le-pow bits 2 (omega arith)) in
     let zero = ap (λ m. m * size) none in
     omega (arith, below, zero)
+
+pub some_power : (bits : ℕ) → 0 < 2 ^ bits
+some_power bits = one-le-pow bits 2 (omega arith)

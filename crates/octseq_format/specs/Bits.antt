@@ -1,8 +1,9 @@
 -- Numbers as the bits of a larger one.
 use Rattle.std.specs.Prelude.{◌≡◌, ◌≢◌, ℕ, ◌+◌, ◌*◌, ◌/◌, ◌%◌, ◌<◌, ◌≤◌, ◌^◌, Bool, true, false}
-use Rattle.std.specs.Prelude.{List, length, cond, refl}
+use Rattle.std.specs.Prelude.{List, length, cond, min, refl}
 use Rattle.std.proofs.Common.{sym, ap, ◌∙◌, subst, arith}
-use Rattle.std.proofs.Math.Nat.{mul-le-mul_right}
+use Rattle.std.proofs.Math.Decide.{dec_le}
+use Rattle.std.proofs.Math.Nat.{lt_of_not-le, mul-le-mul_left, mul-le-mul_right}
 use Rattle.std.proofs.lemmas.Nat.{div-mul-add, mod-mul-add, pow-add}
 use Rattle.octseq.specs.Window.{Window, past}
 use Rattle.octseq_format.specs.Laws.{Relation, NoneAt, IsOne, IsOnward, IsReadBack, IsDelimited, back_of}
@@ -122,3 +123,25 @@ module _ {S : Type 0} {Is : Relation ℕ} (number : S → ℕ) (Fits : S → Typ
     pub bits_read_back : IsDelimited Is (λ n. n) octets NumberFits
         → IsReadBack (IsBits Is number Fits) (λ a. a) (λ said. octets (number said)) (BitsFit NumberFits number Fits)
     bits_read_back delimited = back_of (delimited_bits delimited)
+
+-- ---- numbers that don't fit
+
+-- a number, or the greatest `usize` if it is greater
+abbrev pub capped : ℕ → ℕ
+capped n = min n 18446744073709551615
+
+pub capped_both : (m n size : ℕ) → 0 < size → capped (capped (capped m * size) + capped n) ≡ capped (m * size + n)
+capped_both m n size some = by (dec_le m 18446744073709551615) where
+  by : Dec (m ≤ 18446744073709551615) → capped (capped (capped m * size) + capped n) ≡ capped (m * size + n)
+  by (yes few) = let same : capped m ≡ m = omega (arith, few) in
+      ap (λ k. capped (capped (k * size) + capped n)) same ∙ omega arith
+  by (no many) =
+      let big = lt_of_not-le many in
+      let here : m * 1 ≤ m * size = mul-le-mul_left m (omega (arith, some)) in
+      let there : capped m * 1 ≤ capped m * size = mul-le-mul_left (capped m) (omega (arith, some)) in
+      omega (arith, big, here, there)
+
+pub capped_high : (m n size : ℕ) → 0 < m → 18446744073709551616 ≤ size → 18446744073709551615 ≡ capped (m * size + n)
+capped_high m n size some big =
+    let more : 1 * size ≤ m * size = mul-le-mul_right size (omega (arith, some)) in
+    omega (arith, more, big)

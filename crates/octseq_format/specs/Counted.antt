@@ -1,14 +1,12 @@
 -- Values after a length or a count of k octets, big-endian. The length includes `extra` octets more, those that a format
 -- has before the value and counts with it.
-use Rattle.std.specs.Prelude.{◌≡◌, ℕ, ◌-◌, ◌<◌, ◌≤◌, ◌^◌, List, map, refl}
-use Rattle.std.specs.List.{AllByRecursion}
+use Rattle.std.specs.Prelude.{ℕ, ◌<◌, ◌^◌, List}
 use Rattle.octseq.specs.Integer.{be, octets_be}
-use Rattle.octseq.specs.Window.{Window, left, next, past, nested}
 use Rattle.octseq_format.specs.Canonical.{IsCanonical}
 use Rattle.octseq_format.specs.Family.{IsSized, SizedFit, sized_number, one_sized, onward_sized, delimited_sized, canonical_sized, one_many_by, onward_many}
 use Rattle.octseq_format.specs.Fixed.{IsFixed, one_fixed, onward_fixed, delimited_fixed, canonical_fixed}
 use Rattle.octseq_format.specs.Integers.{are_be}
-use Rattle.octseq_format.specs.Laws.{Relation, IsOne, IsOnward, IsReadBack, IsDelimited, back_of}
+use Rattle.octseq_format.specs.Laws.{Relation, IsOne, IsOnward, IsReadBack, IsDelimited}
 use Rattle.octseq_format.specs.Row.{Many}
 use Rattle.octseq_format.specs.Tagged.{Tagged, tagged_octets, TaggedFits, one_tagged, onward_tagged, delimited_tagged, canonical_tagged}
 
@@ -47,13 +45,3 @@ module _ {A : Type 0} {Is : Relation A} {k extra : ℕ} where
         → IsCanonical (Counted k extra Is) says (counted_octets k extra octets) (CountFits k extra octets Fits)
     canonical_counted canonical =
         canonical_tagged (canonical_fixed (are_be k)) (canonical_sized canonical) (λ key said fits. fits.many)
-
--- ---- the same, by the octets of the length
-
--- the value is there, in the window of as many octets as the length says
-pub counted_at : {A : Type 0} {Is : Relation A} {k extra : ℕ} (w : Window) (a : A) → k ≤ left w → extra ≤ be (next k w)
-    → be (next k w) - extra ≤ left (past k w)
-    → Is (nested (be (next k w) - extra) (past k w)) a
-    (past (be (next k w) - extra) (nested (be (next k w) - extra) (past k w)))
-    → Counted k extra Is w a (past (be (next k w) - extra) (past k w))
-counted_at {k = k} w a room more few is = (be (next k w), past k w, (room, refl, refl), (more, few, is, refl))

@@ -128,19 +128,20 @@ module _ {A : Type 0} {Number : Relation ℕ} {Is : ByKey A} where
         let ways = both_ways _ _ both in
         canonical_tagged (one ways.0) (family ways.1) (told ways.1)
 
--- ---- one of two numbers, by a question
+-- ---- one of two relations, by a question
 
-pub one_by_switch : {N M : Relation ℕ} (first : Bool) → IsOne N → IsOne M → IsOne (cond first N M)
-one_by_switch true n m = n
-one_by_switch false n m = m
+module _ {A : Type 0} {First Second : Relation A} where
+  pub one_by_switch : (first : Bool) → IsOne First → IsOne Second → IsOne (cond first First Second)
+  one_by_switch true one other = one
+  one_by_switch false one other = other
 
-pub onward_by_switch : {N M : Relation ℕ} {k l : ℕ} (first : Bool) → IsOnward k N → IsOnward l M
-    → IsOnward 0 (cond first N M)
-onward_by_switch true n m = any_onward n
-onward_by_switch false n m = any_onward m
+  pub onward_by_switch : {k l : ℕ} (first : Bool) → IsOnward k First → IsOnward l Second
+      → IsOnward 0 (cond first First Second)
+  onward_by_switch true one other = any_onward one
+  onward_by_switch false one other = any_onward other
 
-pub delimited_by_switch : {N M : Relation ℕ} {n m : ℕ → List ℕ} {Fits Others : ℕ → Type 0} (first : Bool)
-    → IsDelimited N (λ a. a) n Fits → IsDelimited M (λ a. a) m Others
-    → IsDelimited (cond first N M) (λ a. a) (cond first n m) (cond first Fits Others)
-delimited_by_switch true n m = n
-delimited_by_switch false n m = m
+pub delimited_by_switch : {A S : Type 0} {First Second : Relation A} {says : A → S} {x y : S → List ℕ}
+    {Fits Others : S → Type 0} (first : Bool) → IsDelimited First says x Fits → IsDelimited Second says y Others
+    → IsDelimited (cond first First Second) says (cond first x y) (cond first Fits Others)
+delimited_by_switch true one other = one
+delimited_by_switch false one other = other

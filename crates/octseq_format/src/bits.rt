@@ -3,12 +3,13 @@ ghost use Rattle.std.specs.Prelude.{◌≡◌, ◌≢◌, ◌≤◌, ◌<◌, �
 ghost use Rattle.std.specs.Coded.{Coded, coded_ℕ, coded_bool, coded×};
 ghost use Rattle.octseq_format.specs.Bits.{IsOneNumber, HasBits, IsBits, BitsFit, both_bits, bit_number, one_number};
 ghost use Rattle.octseq_format.specs.Bits.{has_number, one_bit, has_bit, one_both, has_both, one_bits, onward_bits};
-ghost use Rattle.octseq_format.specs.Bits.{delimited_bits, bits_read_back};
+ghost use Rattle.octseq_format.specs.Bits.{delimited_bits, bits_read_back, capped};
 ghost use Rattle.octseq_format.specs.Canonical.{not_one_way};
 ghost use Rattle.octseq_format.specs.Pair.{◌also◌};
 
 use crate::answer::Yes;
 use crate::format::Format;
+use crate::keyed::Reckoning;
 use crate::number::Number;
 use octseq::{AsOctets, Malformed, OctetsBuilder, Parser, Truncate, Turns};
 use std::alloc::AllocError;
@@ -53,6 +54,11 @@ pub trait BitFields {
         ensures some { IfSome result (λ joined. joined ≡ number (said value)) }
         ensures fit { IfSome result (λ joined. fits (said value)) }
         ensures none { IsNone result → fits (said value) → 2 ^ 64 ≤ number (said value) };
+
+    /// Returns the number that the fields make up, whether or not they fit their bits, or the greatest `usize` if it is
+    /// greater.
+    fn number_of(value: &Self::Value) -> usize
+        ensures { result ≡ capped (number (said value.now)) };
 }
 
 /// Splits off the lowest bits, those of `B`. Returns the upper bits and the lowest ones.
@@ -75,6 +81,18 @@ fn joined<B: BitFields>(high: usize, low: usize) -> Option<usize>
         return Some(low);
     }
     high.checked_mul(B::size()?)?.checked_add(low)
+}
+
+/// Joins upper bits and the lowest ones, those of `B`, up to the greatest `usize`.
+#[tactic(auto, using(crate::specs::Bits::capped_high))]
+fn capped_sum<B: BitFields>(high: usize, low: usize) -> usize
+    ensures { result ≡ capped (high * 2 ^ B.bits + low) }
+{
+    match B::size() {
+        Some(size) => high.saturating_mul(size).saturating_add(low),
+        None if high == 0 => low,
+        None => usize::MAX,
+    }
 }
 
 /// Returns the number if it fits `N` bits.
@@ -130,6 +148,10 @@ impl<const N: u32> BitFields for Low<N> {
     fn join(value: usize) -> Option<usize> {
         fitting::<N>(value)
     }
+
+    fn number_of(value: &usize) -> usize {
+        *value
+    }
 }
 
 /// One bit, as a `bool`.
@@ -170,6 +192,10 @@ impl BitFields for Flag {
     fn join(value: bool) -> Option<usize> {
         Some(if value { 1 } else { 0 })
     }
+
+    fn number_of(value: &bool) -> usize {
+        if *value { 1 } else { 0 }
+    }
 }
 
 impl<A: BitFields, B: BitFields> BitFields for (A, B) {
@@ -206,6 +232,11 @@ impl<A: BitFields, B: BitFields> BitFields for (A, B) {
         let low = B::join(value.1)?;
         joined::<B>(high, low)
     }
+
+    #[tactic(auto, using(crate::specs::Bits::capped_both, crate::proofs::BitSteps::some_power))]
+    fn number_of(value: &Self::Value) -> usize {
+        capped_sum::<B>(A::number_of(&value.0), B::number_of(&value.1))
+    }
 }
 
 impl<A: BitFields, B: BitFields, C: BitFields> BitFields for (A, B, C) {
@@ -239,6 +270,10 @@ impl<A: BitFields, B: BitFields, C: BitFields> BitFields for (A, B, C) {
 
     fn join(value: Self::Value) -> Option<usize> {
         <(A, (B, C))>::join((value.0, (value.1, value.2)))
+    }
+
+    fn number_of(value: &Self::Value) -> usize {
+        <(A, (B, C))>::number_of(&(value.0, (value.1, value.2)))
     }
 }
 
@@ -276,6 +311,10 @@ impl<A: BitFields, B: BitFields, C: BitFields, D: BitFields> BitFields for (A, B
 
     fn join(value: Self::Value) -> Option<usize> {
         <(A, (B, C, D))>::join((value.0, (value.1, value.2, value.3)))
+    }
+
+    fn number_of(value: &Self::Value) -> usize {
+        <(A, (B, C, D))>::number_of(&(value.0, (value.1, value.2, value.3)))
     }
 }
 
@@ -362,6 +401,95 @@ impl<R: AsOctets + Copy, L: Number, B: BitFields> Format<R> for Bits<L, B> {
             return Err(AllocError);
         };
         L::put_number(builder, number)
+    }
+
+    ghost one_way = { false };
+
+    ghost canonical = { not_one_way };
+
+    ghost onward = { onward_bits B.number B.fits L.onward };
+
+    ghost read_back = { bits_read_back B.number B.fits L.delimited };
+
+    ghost delimited = { λ _. delimited_bits B.number B.fits L.delimited };
+
+    ghost moving = { λ _. L.moving };
+}
+
+/// The same, and the number decides what follows, as `K` reckons.
+#[derive(Debug)]
+pub struct KeyBits<L, B, K> {
+    number: PhantomData<L>,
+    bits: PhantomData<B>,
+    reckoning: PhantomData<K>,
+}
+
+impl<R: AsOctets + Copy, L: Number, B: BitFields, K: Reckoning> Format<R> for KeyBits<L, B, K> {
+    type Value = B::Value;
+
+    type Delimited = Yes;
+
+    type Moving = Yes;
+
+    ghost Found = { B.Said };
+
+    ghost found = { B.said };
+
+    ghost is_at = { IsBits L.is_at B.number B.fits };
+
+    ghost Said = { B.Said };
+
+    ghost says = { λ said. said };
+
+    ghost octets = { λ said. L.octets (B.number said) };
+
+    ghost fits = { BitsFit L.fits B.number B.fits };
+
+    ghost one = { one_bits B.number B.fits L.one B.one };
+
+    ghost found_code = { B.said_code };
+
+    ghost least = { L.least };
+
+    ghost turns_of = { λ _. 0 };
+
+    ghost base = { 0 };
+
+    ghost rate = { 0 };
+
+    ghost key = { λ said. K.of (capped (B.number said)) };
+
+    #[inline(always)]
+    fn parse_counted(parser: &mut Parser<R>, turns: &mut Turns) -> Result<B::Value, Malformed> {
+        <Bits<L, B> as Format<R>>::parse_counted(parser, turns)
+    }
+
+    #[inline(always)]
+    fn least_len() -> usize {
+        L::least_octets()
+    }
+
+    #[inline(always)]
+    fn key_of(value: &Self::Value) -> usize {
+        K::of(B::number_of(value))
+    }
+
+    #[inline(always)]
+    fn is_canonical() -> bool {
+        false
+    }
+
+    #[inline(always)]
+    fn compose_len(value: &B::Value) -> Option<usize> {
+        <Bits<L, B> as Format<R>>::compose_len(value)
+    }
+
+    #[inline(always)]
+    fn put<Into: OctetsBuilder + Truncate>(
+        builder: &mut Into,
+        value: &B::Value,
+    ) -> Result<(), AllocError> {
+        <Bits<L, B> as Format<R>>::put(builder, value)
     }
 
     ghost one_way = { false };

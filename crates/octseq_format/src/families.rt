@@ -1,16 +1,12 @@
 //! Families made of others.
-ghost use Rattle.std.specs.Prelude.{◌≡◌, ◌≤◌, ◌+◌, ◌++◌, ℕ, Bool, cond, length, true, false, refl};
-ghost use Rattle.std.specs.Prelude.{IsErr, IfOk, OnOk, OnErr, IsNone, IsSome, IfSome};
+ghost use Rattle.std.specs.Prelude.{◌≡◌, ◌+◌, ℕ, Bool, cond, false, refl};
 ghost use Rattle.std.specs.Coded.{coded×};
-ghost use Rattle.octseq.specs.Limit.{IsWithin};
-ghost use Rattle.octseq.specs.Parser.{window, sequence};
-ghost use Rattle.octseq.specs.Window.{left};
 ghost use Rattle.octseq_format.specs.Answer.{not_so};
 ghost use Rattle.octseq_format.specs.Canonical.{not_one_way};
 ghost use Rattle.octseq_format.specs.Family.{IsSized, sized_number, SizedFit, one_sized, onward_sized, delimited_sized};
 ghost use Rattle.octseq_format.specs.Family.{any_onward, IsWhen, WhenFits, one_when, onward_when, when_read_back};
 ghost use Rattle.octseq_format.specs.Family.{delimited_when};
-ghost use Rattle.octseq_format.specs.Laws.{NoneAt, back_of};
+ghost use Rattle.octseq_format.specs.Laws.{back_of};
 ghost use Rattle.octseq_format.specs.Pair.{◌then◌, ◌and◌, ◌before◌, ◌also◌, ◌code_then◌, ◌plus◌};
 ghost use Rattle.octseq_format.specs.Pair.{◌one_then◌, ◌onward_then◌, ◌back_then◌, ◌delimited_then◌};
 ghost use Rattle.octseq_format.specs.Tagged.{Tagged, tagged_octets, TaggedFits, one_tagged, onward_tagged};
@@ -446,61 +442,6 @@ pub struct WithinBy<S, N, M, F> {
     family: PhantomData<F>,
 }
 
-/// Reads a length, of one form or the other.
-#[inline(always)]
-fn parse_either<N: Number, M: Number, R: AsOctets>(
-    first: bool,
-    parser: &mut Parser<R>,
-) -> Result<usize, Malformed>
-    ensures value { IfOk result (λ number. (cond first N.is_at M.is_at) (window parser.old) number (window parser.new)) }
-    ensures malformed { IsErr result → NoneAt (cond first N.is_at M.is_at) (window parser.old) }
-    ensures kept { OnErr result (window parser.new ≡ window parser.old) }
-    ensures same { sequence parser.new ≡ sequence parser.old }
-    ensures end { (window parser.new).end ≡ (window parser.old).end }
-    ensures onward { left (window parser.new) ≤ left (window parser.old) }
-{
-    if first {
-        N::parse_number(parser)
-    } else {
-        M::parse_number(parser)
-    }
-}
-
-/// Returns the number of octets of a length, of one form or the other, or `None` if none encode it.
-#[inline(always)]
-fn either_len<N: Number, M: Number>(first: bool, number: usize) -> Option<usize>
-    ensures some { IfSome result (λ len. len ≡ length ((cond first N.octets M.octets) number)) }
-    ensures fit { IsSome result → (cond first N.fits M.fits) number }
-    ensures none { IsNone result → ¬ (cond first N.fits M.fits) number }
-{
-    if first {
-        N::number_len(number)
-    } else {
-        M::number_len(number)
-    }
-}
-
-/// Appends a length, of one form or the other.
-#[inline(always)]
-fn put_either<N: Number, M: Number, B: OctetsBuilder>(
-    first: bool,
-    builder: &mut B,
-    number: usize,
-) -> Result<(), AllocError>
-    requires fit { (cond first N.fits M.fits) number }
-    requires within { IsWithin B.limit (length (B.content builder.now) + length ((cond first N.octets M.octets) number)) }
-    ensures ok { OnOk result (B.content builder.new ≡ B.content builder.old ++ (cond first N.octets M.octets) number) }
-    ensures err { OnErr result (B.content builder.new ≡ B.content builder.old) }
-    ensures memory { IsErr result → B.asks ≡ true }
-    ensures borrows { B.borrows builder.new ≡ B.borrows builder.old }
-{
-    if first {
-        N::put_number(builder, number)
-    } else {
-        M::put_number(builder, number)
-    }
-}
-
 impl<R: AsOctets + Copy, S: Switch, N: Number, M: Number, F: Family<R>> Family<R> for WithinBy<S, N, M, F> {
     type Value = F::Value;
 
@@ -512,7 +453,7 @@ impl<R: AsOctets + Copy, S: Switch, N: Number, M: Number, F: Family<R>> Family<R
 
     ghost covers = { F.covers };
 
-    ghost is_at = { λ key. Tagged (cond (S.on key) N.is_at M.is_at) (IsSized 0 (F.is_at key)) };
+    ghost is_at = { λ key. cond (S.on key) (Tagged N.is_at (IsSized 0 (F.is_at key))) (Tagged M.is_at (IsSized 0 (F.is_at key))) };
 
     ghost Said = { F.Said };
 
@@ -520,11 +461,11 @@ impl<R: AsOctets + Copy, S: Switch, N: Number, M: Number, F: Family<R>> Family<R
 
     ghost tag = { λ _. 0 };
 
-    ghost octets = { λ key. tagged_octets (cond (S.on key) N.octets M.octets) (sized_number 0 (F.octets key)) (λ _. F.octets key) };
+    ghost octets = { λ key. cond (S.on key) (tagged_octets N.octets (sized_number 0 (F.octets key)) (λ _. F.octets key)) (tagged_octets M.octets (sized_number 0 (F.octets key)) (λ _. F.octets key)) };
 
-    ghost fits = { λ key. TaggedFits (cond (S.on key) N.fits M.fits) (sized_number 0 (F.octets key)) (SizedFit 0 (F.octets key) (F.fits key)) };
+    ghost fits = { λ key. cond (S.on key) (TaggedFits N.fits (sized_number 0 (F.octets key)) (SizedFit 0 (F.octets key) (F.fits key))) (TaggedFits M.fits (sized_number 0 (F.octets key)) (SizedFit 0 (F.octets key) (F.fits key))) };
 
-    ghost one = { λ key. one_tagged (one_by_switch (S.on key) N.one M.one) (one_sized (F.one key)) };
+    ghost one = { λ key. one_by_switch (S.on key) (one_tagged N.one (one_sized (F.one key))) (one_tagged M.one (one_sized (F.one key))) };
 
     ghost found_code = { F.found_code };
 
@@ -547,15 +488,11 @@ impl<R: AsOctets + Copy, S: Switch, N: Number, M: Number, F: Family<R>> Family<R
         parser: &mut Parser<R>,
         turns: &mut Turns,
     ) -> Result<Self::Value, Malformed> {
-        let mut ahead = *parser;
-        let len = parse_either::<N, M, R>(S::is_on(key), &mut ahead)?;
-        let mut inside = ahead.parse_parser(len)?;
-        let value = F::parse_by(key, &mut inside, turns)?;
-        if inside.remaining() > 0 {
-            return Err(Malformed);
+        if S::is_on(key) {
+            <Within<N, F> as Family<R>>::parse_by(key, parser, turns)
+        } else {
+            <Within<M, F> as Family<R>>::parse_by(key, parser, turns)
         }
-        *parser = ahead;
-        Ok(value)
     }
 
     #[inline(always)]
@@ -569,36 +506,32 @@ impl<R: AsOctets + Copy, S: Switch, N: Number, M: Number, F: Family<R>> Family<R
     }
 
     #[inline(always)]
-    #[tactic(auto, using(crate::specs::Tagged::tagged_long))]
     fn len_by(key: usize, value: &Self::Value) -> Option<usize> {
-        let len = F::len_by(key, value)?;
-        either_len::<N, M>(S::is_on(key), len)?.checked_add(len)
+        if S::is_on(key) {
+            <Within<N, F> as Family<R>>::len_by(key, value)
+        } else {
+            <Within<M, F> as Family<R>>::len_by(key, value)
+        }
     }
 
     #[inline(always)]
-    #[tactic(auto, using(crate::specs::Tagged::tagged_long))]
     fn put_by<B: OctetsBuilder + Truncate>(
         key: usize,
         builder: &mut B,
         value: &Self::Value,
     ) -> Result<(), AllocError> {
-        let Some(len) = F::len_by(key, value) else {
-            return Err(AllocError);
-        };
-        let before = builder.len();
-        put_either::<N, M, B>(S::is_on(key), builder, len)?;
-        let appended = F::put_by(key, builder, value);
-        if appended.is_err() {
-            builder.truncate(before);
+        if S::is_on(key) {
+            <Within<N, F> as Family<R>>::put_by(key, builder, value)
+        } else {
+            <Within<M, F> as Family<R>>::put_by(key, builder, value)
         }
-        appended
     }
 
-    ghost onward = { λ key. any_onward (onward_tagged (onward_by_switch (S.on key) N.onward M.onward) (onward_sized 0 (F.is_at key))) };
+    ghost onward = { λ key. onward_by_switch (S.on key) (onward_tagged N.onward (onward_sized 0 (F.is_at key))) (onward_tagged M.onward (onward_sized 0 (F.is_at key))) };
 
-    ghost read_back = { λ key. back_of (delimited_tagged (delimited_by_switch (S.on key) N.delimited M.delimited) (delimited_sized (F.read_back key))) };
+    ghost read_back = { λ key. back_of (delimited_by_switch (S.on key) (delimited_tagged N.delimited (delimited_sized (F.read_back key))) (delimited_tagged M.delimited (delimited_sized (F.read_back key)))) };
 
-    ghost delimited = { λ _ key. delimited_tagged (delimited_by_switch (S.on key) N.delimited M.delimited) (delimited_sized (F.read_back key)) };
+    ghost delimited = { λ _ key. delimited_by_switch (S.on key) (delimited_tagged N.delimited (delimited_sized (F.read_back key))) (delimited_tagged M.delimited (delimited_sized (F.read_back key))) };
 
     ghost canonical = { λ yes key. not_one_way yes };
 

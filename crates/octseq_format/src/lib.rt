@@ -29,7 +29,7 @@ pub mod walk;
 pub mod widths;
 
 pub use answer::{And, Answer, No, Yes};
-pub use bits::{BitFields, Bits, Flag, Low};
+pub use bits::{BitFields, Bits, Flag, KeyBits, Low};
 pub use choice::{OneOf2, OneOf3, OneOf4, OneOf5, OneOf6, OneOf7, OneOf8};
 pub use compact_size::CompactSize;
 pub use ended::ZeroEnded;
