@@ -79,6 +79,9 @@ said n fits =
 pub read_quic : AreRead (IsAsLong quic_long) quic_number quic_octets QuicFits
 read_quic = record { whole = λ n fits. (said n fits).0; back = λ n fits. (said n fits).1 }
 
+pub most_quic : (n : ℕ) → QuicFits n → n < 2 ^ 64
+most_quic n fits = omega (arith, fits)
+
 -- ---- the octets of a number, by its size
 
 pub octets_1 : (n : ℕ) → n < 2 ^ 6 → quic_octets n ≡ octets_be 1 (0 + n)

@@ -93,6 +93,8 @@ impl Number for CompactSize {
 
     ghost moving = { Prim.search rules };
 
+    ghost most = { λ _ fits. fits };
+
     ghost delimited = { delimited_varying read_compact };
 
     ghost canonical = { not_one_way };

@@ -1,5 +1,5 @@
 //! Numbers as octets: lengths, counts, tags and keys.
-ghost use Rattle.std.specs.Prelude.{◌≡◌, ◌≤◌, ◌<◌, ◌+◌, ◌++◌, ℕ, Bool, List, length, true, IsTrue, IsErr, IfOk, OnOk, OnErr};
+ghost use Rattle.std.specs.Prelude.{◌≡◌, ◌≤◌, ◌<◌, ◌+◌, ◌^◌, ◌++◌, ℕ, Bool, List, length, true, IsTrue, IsErr, IfOk, OnOk, OnErr};
 ghost use Rattle.std.specs.Prelude.{IsNone, IsSome, IfSome};
 ghost use Rattle.octseq.specs.Limit.{IsWithin};
 ghost use Rattle.octseq.specs.Parser.{window, sequence};
@@ -72,6 +72,9 @@ pub trait Number {
     ghost onward: { IsOnward least is_at };
 
     ghost moving: { 0 < least };
+
+    // Its numbers fit a `usize`.
+    ghost most: { (number : ℕ) → fits number → number < 2 ^ 64 };
 
     // If its octets come next, it is read back.
     ghost delimited: { IsDelimited is_at (λ number. number) octets fits };

@@ -3,7 +3,7 @@ ghost use Rattle.std.specs.Prelude.{◌≡◌, ◌≤◌, ◌<◌, ◌^◌, ℕ,
 ghost use Rattle.std.proofs.Common.{rules};
 ghost use Rattle.octseq_format.specs.Canonical.{not_one_way};
 ghost use Rattle.octseq_format.specs.Quic.{quic_long, quic_number, quic_octets, QuicFits};
-ghost use Rattle.octseq_format.specs.Quic.{apart_quic, read_quic};
+ghost use Rattle.octseq_format.specs.Quic.{apart_quic, read_quic, most_quic};
 ghost use Rattle.octseq_format.specs.Varying.{IsAsLong, Leads, NoneLeads, IsVarying, one_varying, onward_varying};
 ghost use Rattle.octseq_format.specs.Varying.{delimited_varying};
 
@@ -94,6 +94,8 @@ impl Number for QuicInteger {
     ghost onward = { onward_varying quic_number apart_quic };
 
     ghost moving = { Prim.search rules };
+
+    ghost most = { most_quic };
 
     ghost delimited = { delimited_varying read_quic };
 

@@ -2,7 +2,7 @@
 ghost use Rattle.std.specs.Prelude.{◌≡◌, ◌≤◌, ◌<◌, ◌^◌, ℕ, length, true, IsNone, IfSome};
 ghost use Rattle.std.proofs.Common.{rules};
 ghost use Rattle.octseq.specs.Integer.{be, le, octets_be, octets_le};
-ghost use Rattle.octseq_format.specs.Fixed.{IsFixed, one_fixed, onward_fixed};
+ghost use Rattle.octseq_format.specs.Fixed.{IsFixed, one_fixed, onward_fixed, most_fixed};
 ghost use Rattle.octseq_format.specs.Fixed.{delimited_fixed, canonical_fixed};
 ghost use Rattle.octseq_format.specs.Integers.{are_be, are_le};
 
@@ -190,6 +190,8 @@ impl<T: Width> Number for Be<T> {
 
     ghost moving = { T.wide };
 
+    ghost most = { most_fixed T.width T.few };
+
     ghost delimited = { delimited_fixed (are_be T.width) };
 
     ghost canonical = { λ _. canonical_fixed (are_be T.width) };
@@ -243,6 +245,8 @@ impl<T: Width> Number for Le<T> {
     ghost onward = { onward_fixed T.width le };
 
     ghost moving = { T.wide };
+
+    ghost most = { most_fixed T.width T.few };
 
     ghost delimited = { delimited_fixed (are_le T.width) };
 
