@@ -2,6 +2,7 @@ pub mod BitSteps
 pub mod CompactSizes
 pub mod Copies
 pub mod EightOctets
+pub mod Lebs
 pub mod Lens
 pub mod Nones
 pub mod Parts

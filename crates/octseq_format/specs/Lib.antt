@@ -11,6 +11,8 @@ pub mod Exactly
 pub mod Fixed
 pub mod Integers
 pub mod Laws
+pub mod Leb128
+pub mod Minimal
 pub mod Octets
 pub mod Optional
 pub mod Pair

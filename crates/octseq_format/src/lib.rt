@@ -13,6 +13,8 @@ pub mod filter;
 pub mod format;
 pub mod integers;
 pub mod laws;
+pub mod leb128;
+pub mod minimal;
 pub mod number;
 pub mod octets;
 pub mod optional;
@@ -39,6 +41,8 @@ pub use integers::{
     U16Le, U24, U24Be, U24Le, U32Be, U32Le, U48, U48Be, U48Le, U64Be, U64Le, U128Be, U128Le,
 };
 pub use laws::{are_octets, next_is_read_back, one_reading, parse_composed, whole_is_read_back};
+pub use leb128::Leb128;
+pub use minimal::Minimal;
 pub use number::Number;
 pub use octets::{Octets, Rest};
 pub use optional::Optional;
