@@ -1,6 +1,7 @@
 pub mod BitSteps
 pub mod CompactSizes
 pub mod Copies
+pub mod Ders
 pub mod EightOctets
 pub mod Lebs
 pub mod Lens

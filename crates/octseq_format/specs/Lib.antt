@@ -5,6 +5,7 @@ pub mod Case
 pub mod Choice
 pub mod CompactSize
 pub mod Counted
+pub mod Der
 pub mod Either
 pub mod Ended
 pub mod Exactly

@@ -1,5 +1,6 @@
 -- Numbers whose octets show how many there are.
-use Rattle.std.specs.Prelude.{◌≡◌, ℕ, ◌+◌, ◌<◌, ◌≤◌, List, ◌++◌, length, slice_index, refl}
+use Rattle.std.specs.Prelude.{◌≡◌, ℕ, suc, ◌+◌, ◌-◌, ◌<◌, ◌≤◌, List, [], ◌∷◌, ◌++◌, length}
+use Rattle.std.specs.Prelude.{slice_index, slice_range, refl}
 use Rattle.std.proofs.Common.{take, drop, sym, ap, ◌∙◌, subst, arith, length-append, length-take-le, get_or-take}
 use Rattle.std.proofs.Math.Seq.{take-append_seam}
 use Rattle.std.proofs.lemmas.List.{take-append-drop}
@@ -155,6 +156,11 @@ module _ (long : ℕ → ℕ) (some : (first : ℕ) → 0 < long first) where
       let least = some (slice_index (take k xs) 0) in
       let same = ap long (first_taken xs k (omega (arith, whole, all, least))) in
       omega (arith, short, few, whole, all, same)
+
+-- the octets after the first of so many
+pub after_one : (xs : List ℕ) (k : ℕ) → suc k ≤ length xs → drop 1 (take (suc k) xs) ≡ slice_range xs 1 (suc k)
+after_one [] k few = absurd (omega (arith, few))
+after_one (x ∷ xs) k few = let same : k ≡ suc k - 1 = omega arith in ap (λ k. take k xs) same
 
 -- ---- what leads a window
 
