@@ -27,8 +27,8 @@ cut first xs is large few =
     short xs (omega (arith, few, says))
 
 -- if a whole encoding leads, its first octet is this one, and says how many there are
-leading_at : (first : ℕ) (xs : List ℕ) (k : ℕ) → slice_index xs 0 ≡ first → 128 ≤ first → k ≤ length xs → IsDer (take k xs)
-    → (k ≡ first - 127) × (slice_index (take k xs) 0 ≡ first)
+leading_at : (first : ℕ) (xs : List ℕ) (k : ℕ) → slice_index xs 0 ≡ first → 128 ≤ first → k ≤ length xs
+    → IsDer (take k xs) → (k ≡ first - 127) × (slice_index (take k xs) 0 ≡ first)
 leading_at first xs k is large few whole =
     let all = length-take-le k xs few in
     let some = some_der (slice_index (take k xs) 0) in
@@ -64,7 +64,7 @@ zero_head first k xs is large count none j few whole =
     let head = found.1 in
     let same : j ≡ k = found.0 ∙ sym count in
     let next = second (take j xs) ∙ ap (λ ys. slice_index ys 0) (after_first xs j (omega (arith, same, count, large)) few)
-        ∙ ap (λ k. slice_index (slice_range xs 1 k) 0) same in
+    ∙ ap (λ k. slice_index (slice_range xs 1 k) 0) same in
     let some = whole.head (omega (arith, head, large)) in
     omega (arith, next, none, some)
 
@@ -76,7 +76,7 @@ small first k xs is large count few j within whole =
     let head = found.1 in
     let same : j ≡ k = found.0 ∙ sym count in
     let value = followed (take j xs) (omega (arith, head, large))
-        ∙ ap be (after_first xs j (omega (arith, same, count, large)) within) ∙ ap (λ k. be (slice_range xs 1 k)) same in
+    ∙ ap be (after_first xs j (omega (arith, same, count, large)) within) ∙ ap (λ k. be (slice_range xs 1 k)) same in
     let enough = whole.large (omega (arith, head, large)) in
     omega (arith, value, few, enough)
 
@@ -129,7 +129,7 @@ octets_of k n few fits large head =
     let all = length_be k n in
     let same : significant (octets_be 8 n) ≡ ys =
     ap (λ n. significant (octets_be 8 n)) (sym (value_be k n fits))
-        ∙ back_significant ys are.each (omega (arith, all, few)) head in
+    ∙ back_significant ys are.each (omega (arith, all, few)) head in
     octets_long n large ∙ ap (λ ys. (128 + length ys) ∷ ys) same ∙ ap (λ m. (128 + m) ∷ ys) all
     ∙ ap (λ ys. (128 + k) ∷ ys) (sym (last_be k n few))
 

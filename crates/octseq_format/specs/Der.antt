@@ -91,12 +91,12 @@ be_significant [] = refl
 be_significant (x ∷ more) =
     by_test (λ ys. be ys ≡ be (x ∷ more)) (nat_lt 0 x) _ _ (λ _. refl)
     (λ none.
-        let zero_is : x ≤ 0 = ltb-false 0 x none in
-        let rest = be_significant more in
-        let cons = be_cons x more in
-        let same : x ≡ 0 = omega (arith, zero_is) in
-        let cons_zero = ap (λ x. be (x ∷ more)) same ∙ be_cons 0 more in
-        omega (arith, rest, cons_zero))
+    let zero_is : x ≤ 0 = ltb-false 0 x none in
+    let rest = be_significant more in
+    let cons = be_cons x more in
+    let same : x ≡ 0 = omega (arith, zero_is) in
+    let cons_zero = ap (λ x. be (x ∷ more)) same ∙ be_cons 0 more in
+    omega (arith, rest, cons_zero))
 
 length_significant : (xs : List ℕ) → length (significant xs) ≤ length xs
 unfolding significant
@@ -111,10 +111,10 @@ head_significant [] some = absurd (omega (arith, some, be_nil))
 head_significant (x ∷ more) some =
     by_test (λ ys. 0 < slice_index ys 0) (nat_lt 0 x) _ _ (λ here. ltb-true 0 x here)
     (λ none.
-        let zero_is : x ≤ 0 = ltb-false 0 x none in
-        let same : x ≡ 0 = omega (arith, zero_is) in
-        let cons_zero = ap (λ x. be (x ∷ more)) same ∙ be_cons 0 more in
-        head_significant more (omega (arith, some, cons_zero)))
+    let zero_is : x ≤ 0 = ltb-false 0 x none in
+    let same : x ≡ 0 = omega (arith, zero_is) in
+    let cons_zero = ap (λ x. be (x ∷ more)) same ∙ be_cons 0 more in
+    head_significant more (omega (arith, some, cons_zero)))
 
 after_zeros : (m : ℕ) (ys : List ℕ) → 0 < slice_index ys 0 → significant (replicate m 0 ++ ys) ≡ ys
 unfolding significant
@@ -185,12 +185,12 @@ unfolding der_octets
 said n fits =
     by_test (Said n) (nat_lt n 128) _ _ (λ few. short_form n (ltb-true n 128 few))
     (λ more.
-        let large : 128 ≤ n = ltb-false n 128 more in
-        let value : be (octets_be 8 n) ≡ n = value_be 8 n (omega (arith, fits)) in
-        let all = length_significant (octets_be 8 n) in
-        let eight = length_be 8 n in
-        long_form n (significant (octets_be 8 n)) large (be_significant (octets_be 8 n) ∙ value)
-        (omega (arith, all, eight)) (head_significant (octets_be 8 n) (omega (arith, value, large))))
+    let large : 128 ≤ n = ltb-false n 128 more in
+    let value : be (octets_be 8 n) ≡ n = value_be 8 n (omega (arith, fits)) in
+    let all = length_significant (octets_be 8 n) in
+    let eight = length_be 8 n in
+    long_form n (significant (octets_be 8 n)) large (be_significant (octets_be 8 n) ∙ value)
+    (omega (arith, all, eight)) (head_significant (octets_be 8 n) (omega (arith, value, large))))
 
 pub read_der : AreRead IsDer der_length der_octets DerFits
 read_der = record { whole = λ n fits. (said n fits).0; back = λ n fits. (said n fits).1 }
@@ -222,7 +222,8 @@ written (x ∷ ys) each whole = by (dec_le 128 x) where
       let few : x < 128 = lt_of_not-le small in
       let value = itself (x ∷ ys) few in
       let long = whole.long ∙ alone x few in
-      (omega (arith, value, few), ap der_octets value ∙ octets_short x few ∙ ap (λ ys. x ∷ ys) (sym (none ys (omega (arith, long)))))
+      let empty = none ys (omega (arith, long)) in
+      (omega (arith, value, few), ap der_octets value ∙ octets_short x few ∙ ap (λ ys. x ∷ ys) (sym empty))
 
 pub written_der : AreWritten IsDer der_length der_octets DerFits
 written_der = record { once = λ n. le_prop {n = suc n} {m = 2 ^ 64}; written = written }

@@ -82,10 +82,10 @@ said zero n few = alone n (omega (arith, few))
 said (suc k) n few =
     by_test (Said n) (nat_lt n 128) _ _ (λ small. alone n (ltb-true n 128 small))
     (λ large.
-        let power = pow-suc 128 (suc k) in
-        let more = said k (n / 128) (omega (arith, few, power)) in
-        let value = more.1 in
-        (inr (omega arith, more.0), omega (arith, value)))
+    let power = pow-suc 128 (suc k) in
+    let more = said k (n / 128) (omega (arith, few, power)) in
+    let value = more.1 in
+    (inr (omega arith, more.0), omega (arith, value)))
 
 pub read_leb128 : (most bits : ℕ) → AreRead (IsLeb128 most bits) leb128 leb128_octets (LebFits most bits)
 read_leb128 most bits = record {

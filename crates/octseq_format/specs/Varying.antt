@@ -48,8 +48,10 @@ module _ {Whole : List ℕ → Type 0} (reading : List ℕ → ℕ) (apart : Are
   pub one_varying : IsOne (IsVarying Whole reading)
   one_varying = record {
     same = λ w a b u v is other.
-        let same = apart.same (rest w) is.many other.many is.leads.few other.leads.few is.leads.whole other.leads.whole in (
-          is.leads.value ∙ ap (λ k. reading (take k (rest w))) same ∙ sym other.leads.value,
+        let first = is.leads in
+        let second = other.leads in
+        let same = apart.same (rest w) is.many other.many first.few second.few first.whole second.whole in (
+          first.value ∙ ap (λ k. reading (take k (rest w))) same ∙ sym second.value,
           is.past ∙ ap (λ k. past k w) same ∙ sym other.past,
         );
   }
@@ -108,7 +110,7 @@ module _ {Whole : List ℕ → Type 0} {reading : List ℕ → ℕ} {octets : �
         let room = length_rest w in
         let few = is.leads.few in
         let each = each_taken k (rest w) (each_taken (left w) (drop w.position w.octets)
-            (each_dropped w.position w.octets sound.each)) in
+        (each_dropped w.position w.octets sound.each)) in
         let back = are.written xs each is.leads.whole in (
           subst Fits (sym is.leads.value) back.0,
           sym (take-append-drop k (rest w))

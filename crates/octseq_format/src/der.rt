@@ -102,7 +102,10 @@ impl Number for DerLength {
             0x100_0000..=0xFFFF_FFFF => put_octets(builder, &[0x84, e, f, g, h]),
             0x1_0000_0000..=0xFF_FFFF_FFFF => put_octets(builder, &[0x85, d, e, f, g, h]),
             0x100_0000_0000..=0xFFFF_FFFF_FFFF => put_octets(builder, &[0x86, c, d, e, f, g, h]),
-            0x1_0000_0000_0000..=0xFF_FFFF_FFFF_FFFF => put_octets(builder, &[0x87, b, c, d, e, f, g, h]),
+            0x1_0000_0000_0000..=0xFF_FFFF_FFFF_FFFF => put_octets(
+                builder,
+                &[0x87, b, c, d, e, f, g, h],
+            ),
             _ => put_octets(builder, &[0x88, a, b, c, d, e, f, g, h]),
         }
     }

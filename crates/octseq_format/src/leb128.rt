@@ -79,8 +79,7 @@ fn encoded(number: usize) -> ([u8; MAX_GROUPS], usize)
 /// has one group, and its highest bit says that another follows. There are at most `MAX` octets. It is written in the
 /// fewest, and read also in more.
 ///
-/// Protocol Buffers has `Leb128<10, 64>`, WebAssembly `Leb128<5, 32>` and `Leb128<10, 64>`, and MQTT 5.0, 1.5.5,
-/// `Leb128<4, 28>`.
+/// Protocol Buffers has `Leb128<10, 64>`, and WebAssembly `Leb128<5, 32>` and `Leb128<10, 64>`.
 #[derive(Debug)]
 pub struct Leb128<const MAX: usize, const BITS: u32>;
 
