@@ -8,7 +8,7 @@ use Rattle.octseq_format.specs.CompactSize.{compact_long, compact_size, compact_
 use Rattle.octseq_format.specs.CompactSize.{alone, itself, followed, octets_1, octets_3, octets_5, octets_9}
 use Rattle.octseq.proofs.Written.{made_le_2, made_le_4, made_le_8}
 use Rattle.std.specs.Int.{w8, w16, w32, w64, to_le_bytes}
-use Rattle.octseq_format.specs.Varying.{IsAsLong, Leads, NoneLeads, long_leads, none_long}
+use Rattle.octseq_format.specs.Varying.{IsAsLong, Leads, NoneLeads, long_leads, none_long, after_one}
 
 -- fewer octets than the first one says
 pub short : (first k : ℕ) → compact_long first ≡ k → (xs : List ℕ) → slice_index xs 0 ≡ first → length xs < k
@@ -16,10 +16,6 @@ pub short : (first k : ℕ) → compact_long first ≡ k → (xs : List ℕ) →
 short first k long xs is few =
     let same = ap compact_long is in
     none_long compact_long some_compact xs (omega (arith, same, long, few))
-
-after_one : (xs : List ℕ) (k : ℕ) → suc k ≤ length xs → drop 1 (take (suc k) xs) ≡ slice_range xs 1 (suc k)
-after_one [] k few = absurd (omega arith)
-after_one (x ∷ xs) k few = let same : k ≡ suc k - 1 = omega arith in ap (λ k. take k xs) same
 
 -- a number after the first one
 pub after_first : (first k : ℕ) → 253 ≤ first → compact_long first ≡ suc k → (xs : List ℕ)

@@ -1,7 +1,9 @@
 pub mod BitSteps
 pub mod CompactSizes
 pub mod Copies
+pub mod Ders
 pub mod EightOctets
+pub mod Lebs
 pub mod Lens
 pub mod Nones
 pub mod Parts

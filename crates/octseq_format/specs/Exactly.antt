@@ -30,7 +30,8 @@ module _ {Is : Relation ℕ} (n : ℕ) where
     delimited_exactly delimited = record {
       next = λ w said more fits is.
           let taken = delimited.next w n more fits is in
-          record { it = said; tells = refl; is = subst (λ m. Is w m (past (length (octets n)) w)) taken.tells taken.is };
+          let end = past (length (octets n)) w in
+          record { it = said; tells = refl; is = subst (λ m. Is w m end) taken.tells taken.is };
     }
 
     pub exactly_read_back : IsDelimited Is (λ m. m) octets Fits

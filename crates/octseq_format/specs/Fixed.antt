@@ -1,6 +1,7 @@
 -- Values of a fixed number of octets, whatever they are.
-use Rattle.std.specs.Prelude.{◌≡◌, ℕ, ◌≤◌, List, ◌++◌, length, refl}
+use Rattle.std.specs.Prelude.{◌≡◌, ℕ, ◌<◌, ◌≤◌, ◌^◌, List, ◌++◌, length, refl}
 use Rattle.std.proofs.Common.{sym, ap, ◌∙◌, subst, arith}
+use Rattle.std.proofs.Math.Nat.{pow-le-pow_right}
 use Rattle.octseq.specs.Window.{Window, left, next, rest, past}
 use Rattle.octseq.proofs.WindowsAfter.{front_comes_next}
 use Rattle.octseq.proofs.Windows.{next_and_rest}
@@ -18,6 +19,12 @@ pub record AreFixed {A : Type 0} (k : ℕ) (reading : List ℕ → A) (octets : 
   pub back : (a : A) → Fits a → reading (octets a) ≡ a
   pub once : (a : A) → IsProp (Fits a)
   pub written : (xs : List ℕ) → length xs ≡ k → AreOctets xs → Fits (reading xs) × (octets (reading xs) ≡ xs)
+
+-- numbers of at most 8 octets fit 64 bits
+pub most_fixed : (k : ℕ) → k ≤ 8 → (n : ℕ) → n < 256 ^ k → n < 2 ^ 64
+most_fixed k few n fits =
+    let most : 256 ^ k ≤ 256 ^ 8 = pow-le-pow_right (omega arith) few in
+    omega (arith, most, fits)
 
 module _ {A : Type 0} (k : ℕ) (reading : List ℕ → A) where
   pub one_fixed : IsOne (IsFixed k reading)

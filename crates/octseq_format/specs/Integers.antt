@@ -2,7 +2,7 @@
 use Rattle.std.specs.Prelude.{◌≡◌, ℕ, suc, ℤ, pos, negsuc, ◌-◌, ◌*◌, ◌<◌, ◌≤◌, ◌^◌, List, refl}
 use Rattle.std.proofs.Common.{ap, sym, ◌∙◌, subst, arith}
 use Rattle.std.proofs.Math.Decide.{dec_le}
-use Rattle.std.proofs.Math.Nat.{lt_of_not-le, pow-le-pow_right}
+use Rattle.std.proofs.Math.Nat.{lt_of_not-le}
 use Rattle.std.specs.Coded.{Coded, coded_ℕ, coded_ℤ, le_prop}
 use Rattle.octseq.specs.Integer.{be, le, signed, octets_be, octets_le, IsSigned, unsigned}
 use Rattle.octseq.proofs.Written.{length_be, length_le, value_be, value_le, signed_unsigned}
@@ -117,10 +117,3 @@ octet_kind kind = record {
   are_be = kind.are_be;
   are_le = kind.are_be;
 }
-
--- a number of at most 8 octets fits a `usize`
-pub few_octets : {k n : ℕ} → k ≤ 8 → n < 256 ^ k → n < 2 ^ 64
-few_octets {k} few fits =
-    let most : 256 ^ k ≤ 256 ^ 8 = pow-le-pow_right (omega arith) few in
-    let whole : 256 ^ 8 ≡ 2 ^ 64 = refl in
-    omega (arith, most, fits, whole)

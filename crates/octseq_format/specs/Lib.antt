@@ -4,6 +4,7 @@ pub mod Canonical
 pub mod Choice
 pub mod CompactSize
 pub mod Counted
+pub mod Der
 pub mod Ended
 pub mod Exactly
 pub mod Family
@@ -11,6 +12,8 @@ pub mod Fixed
 pub mod Integers
 pub mod Keyed
 pub mod Laws
+pub mod Leb128
+pub mod Minimal
 pub mod Octets
 pub mod OneOf
 pub mod Optional

@@ -1,5 +1,6 @@
 -- Numbers whose octets show how many there are.
-use Rattle.std.specs.Prelude.{◌≡◌, ℕ, ◌+◌, ◌<◌, ◌≤◌, List, ◌++◌, length, slice_index, refl}
+use Rattle.std.specs.Prelude.{◌≡◌, ℕ, suc, ◌+◌, ◌-◌, ◌<◌, ◌≤◌, List, [], ◌∷◌, ◌++◌, length}
+use Rattle.std.specs.Prelude.{slice_index, slice_range, refl}
 use Rattle.std.proofs.Common.{take, drop, sym, ap, ◌∙◌, subst, arith, length-append, length-take-le, get_or-take}
 use Rattle.std.proofs.Math.Seq.{take-append_seam}
 use Rattle.std.proofs.lemmas.List.{take-append-drop}
@@ -47,8 +48,10 @@ module _ {Whole : List ℕ → Type 0} (reading : List ℕ → ℕ) (apart : Are
   pub one_varying : IsOne (IsVarying Whole reading)
   one_varying = record {
     same = λ w a b u v is other.
-        let same = apart.same (rest w) is.many other.many is.leads.few other.leads.few is.leads.whole other.leads.whole in (
-          is.leads.value ∙ ap (λ k. reading (take k (rest w))) same ∙ sym other.leads.value,
+        let first = is.leads in
+        let second = other.leads in
+        let same = apart.same (rest w) is.many other.many first.few second.few first.whole second.whole in (
+          first.value ∙ ap (λ k. reading (take k (rest w))) same ∙ sym second.value,
           is.past ∙ ap (λ k. past k w) same ∙ sym other.past,
         );
   }
@@ -107,7 +110,7 @@ module _ {Whole : List ℕ → Type 0} {reading : List ℕ → ℕ} {octets : �
         let room = length_rest w in
         let few = is.leads.few in
         let each = each_taken k (rest w) (each_taken (left w) (drop w.position w.octets)
-            (each_dropped w.position w.octets sound.each)) in
+        (each_dropped w.position w.octets sound.each)) in
         let back = are.written xs each is.leads.whole in (
           subst Fits (sym is.leads.value) back.0,
           sym (take-append-drop k (rest w))
@@ -155,6 +158,11 @@ module _ (long : ℕ → ℕ) (some : (first : ℕ) → 0 < long first) where
       let least = some (slice_index (take k xs) 0) in
       let same = ap long (first_taken xs k (omega (arith, whole, all, least))) in
       omega (arith, short, few, whole, all, same)
+
+-- the octets after the first of so many
+pub after_one : (xs : List ℕ) (k : ℕ) → suc k ≤ length xs → drop 1 (take (suc k) xs) ≡ slice_range xs 1 (suc k)
+after_one [] k few = absurd (omega (arith, few))
+after_one (x ∷ xs) k few = let same : k ≡ suc k - 1 = omega arith in ap (λ k. take k xs) same
 
 -- ---- what leads a window
 

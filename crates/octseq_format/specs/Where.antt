@@ -17,7 +17,8 @@ module _ {A S : Type 0} (Is : Relation A) (says : A → S) (Holds : S → Type 0
   one_where one = record { same = λ w a b u v is other. one.same w a b u v is.0 other.0 }
 
   -- one that doesn't meet the test is there
-  pub other_where : IsOne Is → (w u : Window) (it : A) → Is w it u → ¬ Holds (says it) → NoneAt (IsWhere Is says Holds) w
+  pub other_where : IsOne Is → (w u : Window) (it : A) → Is w it u → ¬ Holds (says it)
+      → NoneAt (IsWhere Is says Holds) w
   other_where one w u it is fails a v meets =
       fails (subst (λ a. Holds (says a)) (one.same w a it v u meets.0 is).0 meets.1)
 

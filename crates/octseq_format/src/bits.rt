@@ -97,7 +97,7 @@ fn capped_sum<B: BitFields>(high: usize, low: usize) -> usize
 
 /// Returns the number if it fits `N` bits.
 #[tactic(auto, using(crate::proofs::BitSteps::long_power, crate::proofs::BitSteps::none_above))]
-fn fitting<const N: u32>(number: usize) -> Option<usize>
+pub(crate) fn fitting<const N: u32>(number: usize) -> Option<usize>
     ensures some { IfSome result (λ value. (value ≡ number) × (number < 2 ^ N)) }
     ensures none { IsNone result → 2 ^ N ≤ number }
 {

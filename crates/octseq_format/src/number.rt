@@ -88,10 +88,7 @@ pub trait Number {
 ///
 /// `AllocError` if a request for memory was refused. The content is then unchanged.
 #[inline(always)]
-pub(crate) fn put_octets<B: OctetsBuilder>(
-    builder: &mut B,
-    octets: &[u8],
-) -> Result<(), AllocError>
+pub(crate) fn put_octets<B: OctetsBuilder>(builder: &mut B, octets: &[u8]) -> Result<(), AllocError>
     requires { IsWithin B.limit (length (B.content builder.now) + length octets.now) }
     ensures ok { OnOk result (B.content builder.new ≡ B.content builder.old ++ octets.now) }
     ensures err { OnErr result (B.content builder.new ≡ B.content builder.old) }

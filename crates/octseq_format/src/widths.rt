@@ -2,9 +2,9 @@
 ghost use Rattle.std.specs.Prelude.{◌≡◌, ◌≤◌, ◌<◌, ◌^◌, ℕ, length, true, IsNone, IfSome};
 ghost use Rattle.std.proofs.Common.{rules};
 ghost use Rattle.octseq.specs.Integer.{be, le, octets_be, octets_le};
-ghost use Rattle.octseq_format.specs.Fixed.{IsFixed, one_fixed, onward_fixed};
+ghost use Rattle.octseq_format.specs.Fixed.{IsFixed, one_fixed, onward_fixed, most_fixed};
 ghost use Rattle.octseq_format.specs.Fixed.{delimited_fixed, canonical_fixed};
-ghost use Rattle.octseq_format.specs.Integers.{are_be, are_le, few_octets};
+ghost use Rattle.octseq_format.specs.Integers.{are_be, are_le};
 
 use crate::integers::{Be, Le, U24, U48};
 use crate::number::Number;
@@ -194,7 +194,7 @@ impl<T: Width> Number for Be<T> {
 
     ghost canonical = { λ _. canonical_fixed (are_be T.width) };
 
-    ghost small = { λ n fits. few_octets T.few fits };
+    ghost small = { most_fixed T.width T.few };
 }
 
 impl<T: Width> Number for Le<T> {
@@ -250,5 +250,5 @@ impl<T: Width> Number for Le<T> {
 
     ghost canonical = { λ _. canonical_fixed (are_le T.width) };
 
-    ghost small = { λ n fits. few_octets T.few fits };
+    ghost small = { most_fixed T.width T.few };
 }
