@@ -290,7 +290,8 @@ pub enum OneOf4<A, B, C, D> {
 
 impl<A: TellsKey, B: TellsKey, C: TellsKey, D: TellsKey> TellsKey for (A, B, C, D) {}
 
-impl<R: AsOctets + Copy, A: Family<R>, B: Family<R>, C: Family<R>, D: Family<R>> Family<R> for (A, B, C, D)
+impl<R: AsOctets + Copy, A: Family<R>, B: Family<R>, C: Family<R>, D: Family<R>> Family<R>
+    for (A, B, C, D)
 where
     C::Delimited: And<D::Delimited>,
     B::Delimited: And<<C::Delimited as And<D::Delimited>>::Joined>,
@@ -300,7 +301,9 @@ where
 
     type Value = OneOf4<A::Value, B::Value, C::Value, D::Value>;
 
-    type Delimited = <A::Delimited as And<<B::Delimited as And<<C::Delimited as And<D::Delimited>>::Joined>>::Joined>>::Joined;
+    type Delimited = <A::Delimited as And<
+        <B::Delimited as And<<C::Delimited as And<D::Delimited>>::Joined>>::Joined,
+    >>::Joined;
 
     ghost Found = { A.Found ⊎ (B.Found ⊎ (C.Found ⊎ D.Found)) };
 
@@ -437,20 +440,36 @@ pub enum OneOf5<A, B, C, D, E> {
     Fifth(E),
 }
 
-impl<A: TellsKey, B: TellsKey, C: TellsKey, D: TellsKey, E: TellsKey> TellsKey for (A, B, C, D, E) {}
+impl<A: TellsKey, B: TellsKey, C: TellsKey, D: TellsKey, E: TellsKey> TellsKey
+    for (A, B, C, D, E) {}
 
-impl<R: AsOctets + Copy, A: Family<R>, B: Family<R>, C: Family<R>, D: Family<R>, E: Family<R>> Family<R> for (A, B, C, D, E)
+impl<
+    R: AsOctets + Copy,
+    A: Family<R>,
+    B: Family<R>,
+    C: Family<R>,
+    D: Family<R>,
+    E: Family<R>,
+> Family<R> for (A, B, C, D, E)
 where
     D::Delimited: And<E::Delimited>,
     C::Delimited: And<<D::Delimited as And<E::Delimited>>::Joined>,
     B::Delimited: And<<C::Delimited as And<<D::Delimited as And<E::Delimited>>::Joined>>::Joined>,
-    A::Delimited: And<<B::Delimited as And<<C::Delimited as And<<D::Delimited as And<E::Delimited>>::Joined>>::Joined>>::Joined>,
+    A::Delimited: And<
+        <B::Delimited as And<
+            <C::Delimited as And<<D::Delimited as And<E::Delimited>>::Joined>>::Joined,
+        >>::Joined,
+    >,
 {
     ghost use Rattle.octseq_format.specs.OneOf.{one_of_5};
 
     type Value = OneOf5<A::Value, B::Value, C::Value, D::Value, E::Value>;
 
-    type Delimited = <A::Delimited as And<<B::Delimited as And<<C::Delimited as And<<D::Delimited as And<E::Delimited>>::Joined>>::Joined>>::Joined>>::Joined;
+    type Delimited = <A::Delimited as And<
+        <B::Delimited as And<
+            <C::Delimited as And<<D::Delimited as And<E::Delimited>>::Joined>>::Joined,
+        >>::Joined,
+    >>::Joined;
 
     ghost Found = { A.Found ⊎ (B.Found ⊎ (C.Found ⊎ (D.Found ⊎ E.Found))) };
 
@@ -541,13 +560,21 @@ where
                 C::len_by(key, value)
             }
             OneOf5::Fourth(value) => {
-                if A::has_format(key) || B::has_format(key) || C::has_format(key) || !D::has_format(key) {
+                if A::has_format(key)
+                    || B::has_format(key)
+                    || C::has_format(key)
+                    || !D::has_format(key)
+                {
                     return None;
                 }
                 D::len_by(key, value)
             }
             OneOf5::Fifth(value) => {
-                if A::has_format(key) || B::has_format(key) || C::has_format(key) || D::has_format(key) {
+                if A::has_format(key)
+                    || B::has_format(key)
+                    || C::has_format(key)
+                    || D::has_format(key)
+                {
                     return None;
                 }
                 E::len_by(key, value)
@@ -598,21 +625,46 @@ pub enum OneOf6<A, B, C, D, E, F> {
     Sixth(F),
 }
 
-impl<A: TellsKey, B: TellsKey, C: TellsKey, D: TellsKey, E: TellsKey, F: TellsKey> TellsKey for (A, B, C, D, E, F) {}
+impl<A: TellsKey, B: TellsKey, C: TellsKey, D: TellsKey, E: TellsKey, F: TellsKey> TellsKey
+    for (A, B, C, D, E, F) {}
 
-impl<R: AsOctets + Copy, A: Family<R>, B: Family<R>, C: Family<R>, D: Family<R>, E: Family<R>, F: Family<R>> Family<R> for (A, B, C, D, E, F)
+impl<
+    R: AsOctets + Copy,
+    A: Family<R>,
+    B: Family<R>,
+    C: Family<R>,
+    D: Family<R>,
+    E: Family<R>,
+    F: Family<R>,
+> Family<R> for (A, B, C, D, E, F)
 where
     E::Delimited: And<F::Delimited>,
     D::Delimited: And<<E::Delimited as And<F::Delimited>>::Joined>,
     C::Delimited: And<<D::Delimited as And<<E::Delimited as And<F::Delimited>>::Joined>>::Joined>,
-    B::Delimited: And<<C::Delimited as And<<D::Delimited as And<<E::Delimited as And<F::Delimited>>::Joined>>::Joined>>::Joined>,
-    A::Delimited: And<<B::Delimited as And<<C::Delimited as And<<D::Delimited as And<<E::Delimited as And<F::Delimited>>::Joined>>::Joined>>::Joined>>::Joined>,
+    B::Delimited: And<
+        <C::Delimited as And<
+            <D::Delimited as And<<E::Delimited as And<F::Delimited>>::Joined>>::Joined,
+        >>::Joined,
+    >,
+    A::Delimited: And<
+        <B::Delimited as And<
+            <C::Delimited as And<
+                <D::Delimited as And<<E::Delimited as And<F::Delimited>>::Joined>>::Joined,
+            >>::Joined,
+        >>::Joined,
+    >,
 {
     ghost use Rattle.octseq_format.specs.OneOf.{one_of_6};
 
     type Value = OneOf6<A::Value, B::Value, C::Value, D::Value, E::Value, F::Value>;
 
-    type Delimited = <A::Delimited as And<<B::Delimited as And<<C::Delimited as And<<D::Delimited as And<<E::Delimited as And<F::Delimited>>::Joined>>::Joined>>::Joined>>::Joined>>::Joined;
+    type Delimited = <A::Delimited as And<
+        <B::Delimited as And<
+            <C::Delimited as And<
+                <D::Delimited as And<<E::Delimited as And<F::Delimited>>::Joined>>::Joined,
+            >>::Joined,
+        >>::Joined,
+    >>::Joined;
 
     ghost Found = { A.Found ⊎ (B.Found ⊎ (C.Found ⊎ (D.Found ⊎ (E.Found ⊎ F.Found)))) };
 
@@ -705,19 +757,33 @@ where
                 C::len_by(key, value)
             }
             OneOf6::Fourth(value) => {
-                if A::has_format(key) || B::has_format(key) || C::has_format(key) || !D::has_format(key) {
+                if A::has_format(key)
+                    || B::has_format(key)
+                    || C::has_format(key)
+                    || !D::has_format(key)
+                {
                     return None;
                 }
                 D::len_by(key, value)
             }
             OneOf6::Fifth(value) => {
-                if A::has_format(key) || B::has_format(key) || C::has_format(key) || D::has_format(key) || !E::has_format(key) {
+                if A::has_format(key)
+                    || B::has_format(key)
+                    || C::has_format(key)
+                    || D::has_format(key)
+                    || !E::has_format(key)
+                {
                     return None;
                 }
                 E::len_by(key, value)
             }
             OneOf6::Sixth(value) => {
-                if A::has_format(key) || B::has_format(key) || C::has_format(key) || D::has_format(key) || E::has_format(key) {
+                if A::has_format(key)
+                    || B::has_format(key)
+                    || C::has_format(key)
+                    || D::has_format(key)
+                    || E::has_format(key)
+                {
                     return None;
                 }
                 F::len_by(key, value)
@@ -771,22 +837,65 @@ pub enum OneOf7<A, B, C, D, E, F, G> {
     Seventh(G),
 }
 
-impl<A: TellsKey, B: TellsKey, C: TellsKey, D: TellsKey, E: TellsKey, F: TellsKey, G: TellsKey> TellsKey for (A, B, C, D, E, F, G) {}
+impl<
+    A: TellsKey,
+    B: TellsKey,
+    C: TellsKey,
+    D: TellsKey,
+    E: TellsKey,
+    F: TellsKey,
+    G: TellsKey,
+> TellsKey for (A, B, C, D, E, F, G) {}
 
-impl<R: AsOctets + Copy, A: Family<R>, B: Family<R>, C: Family<R>, D: Family<R>, E: Family<R>, F: Family<R>, G: Family<R>> Family<R> for (A, B, C, D, E, F, G)
+impl<
+    R: AsOctets + Copy,
+    A: Family<R>,
+    B: Family<R>,
+    C: Family<R>,
+    D: Family<R>,
+    E: Family<R>,
+    F: Family<R>,
+    G: Family<R>,
+> Family<R> for (A, B, C, D, E, F, G)
 where
     F::Delimited: And<G::Delimited>,
     E::Delimited: And<<F::Delimited as And<G::Delimited>>::Joined>,
     D::Delimited: And<<E::Delimited as And<<F::Delimited as And<G::Delimited>>::Joined>>::Joined>,
-    C::Delimited: And<<D::Delimited as And<<E::Delimited as And<<F::Delimited as And<G::Delimited>>::Joined>>::Joined>>::Joined>,
-    B::Delimited: And<<C::Delimited as And<<D::Delimited as And<<E::Delimited as And<<F::Delimited as And<G::Delimited>>::Joined>>::Joined>>::Joined>>::Joined>,
-    A::Delimited: And<<B::Delimited as And<<C::Delimited as And<<D::Delimited as And<<E::Delimited as And<<F::Delimited as And<G::Delimited>>::Joined>>::Joined>>::Joined>>::Joined>>::Joined>,
+    C::Delimited: And<
+        <D::Delimited as And<
+            <E::Delimited as And<<F::Delimited as And<G::Delimited>>::Joined>>::Joined,
+        >>::Joined,
+    >,
+    B::Delimited: And<
+        <C::Delimited as And<
+            <D::Delimited as And<
+                <E::Delimited as And<<F::Delimited as And<G::Delimited>>::Joined>>::Joined,
+            >>::Joined,
+        >>::Joined,
+    >,
+    A::Delimited: And<
+        <B::Delimited as And<
+            <C::Delimited as And<
+                <D::Delimited as And<
+                    <E::Delimited as And<<F::Delimited as And<G::Delimited>>::Joined>>::Joined,
+                >>::Joined,
+            >>::Joined,
+        >>::Joined,
+    >,
 {
     ghost use Rattle.octseq_format.specs.OneOf.{one_of_7};
 
     type Value = OneOf7<A::Value, B::Value, C::Value, D::Value, E::Value, F::Value, G::Value>;
 
-    type Delimited = <A::Delimited as And<<B::Delimited as And<<C::Delimited as And<<D::Delimited as And<<E::Delimited as And<<F::Delimited as And<G::Delimited>>::Joined>>::Joined>>::Joined>>::Joined>>::Joined>>::Joined;
+    type Delimited = <A::Delimited as And<
+        <B::Delimited as And<
+            <C::Delimited as And<
+                <D::Delimited as And<
+                    <E::Delimited as And<<F::Delimited as And<G::Delimited>>::Joined>>::Joined,
+                >>::Joined,
+            >>::Joined,
+        >>::Joined,
+    >>::Joined;
 
     ghost Found = { A.Found ⊎ (B.Found ⊎ (C.Found ⊎ (D.Found ⊎ (E.Found ⊎ (F.Found ⊎ G.Found))))) };
 
@@ -881,25 +990,46 @@ where
                 C::len_by(key, value)
             }
             OneOf7::Fourth(value) => {
-                if A::has_format(key) || B::has_format(key) || C::has_format(key) || !D::has_format(key) {
+                if A::has_format(key)
+                    || B::has_format(key)
+                    || C::has_format(key)
+                    || !D::has_format(key)
+                {
                     return None;
                 }
                 D::len_by(key, value)
             }
             OneOf7::Fifth(value) => {
-                if A::has_format(key) || B::has_format(key) || C::has_format(key) || D::has_format(key) || !E::has_format(key) {
+                if A::has_format(key)
+                    || B::has_format(key)
+                    || C::has_format(key)
+                    || D::has_format(key)
+                    || !E::has_format(key)
+                {
                     return None;
                 }
                 E::len_by(key, value)
             }
             OneOf7::Sixth(value) => {
-                if A::has_format(key) || B::has_format(key) || C::has_format(key) || D::has_format(key) || E::has_format(key) || !F::has_format(key) {
+                if A::has_format(key)
+                    || B::has_format(key)
+                    || C::has_format(key)
+                    || D::has_format(key)
+                    || E::has_format(key)
+                    || !F::has_format(key)
+                {
                     return None;
                 }
                 F::len_by(key, value)
             }
             OneOf7::Seventh(value) => {
-                if A::has_format(key) || B::has_format(key) || C::has_format(key) || D::has_format(key) || E::has_format(key) || F::has_format(key) {
+                if A::has_format(key)
+                    || B::has_format(key)
+                    || C::has_format(key)
+                    || D::has_format(key)
+                    || E::has_format(key)
+                    || F::has_format(key)
+                {
                     return None;
                 }
                 G::len_by(key, value)
@@ -956,23 +1086,89 @@ pub enum OneOf8<A, B, C, D, E, F, G, H> {
     Eighth(H),
 }
 
-impl<A: TellsKey, B: TellsKey, C: TellsKey, D: TellsKey, E: TellsKey, F: TellsKey, G: TellsKey, H: TellsKey> TellsKey for (A, B, C, D, E, F, G, H) {}
+impl<
+    A: TellsKey,
+    B: TellsKey,
+    C: TellsKey,
+    D: TellsKey,
+    E: TellsKey,
+    F: TellsKey,
+    G: TellsKey,
+    H: TellsKey,
+> TellsKey for (A, B, C, D, E, F, G, H) {}
 
-impl<R: AsOctets + Copy, A: Family<R>, B: Family<R>, C: Family<R>, D: Family<R>, E: Family<R>, F: Family<R>, G: Family<R>, H: Family<R>> Family<R> for (A, B, C, D, E, F, G, H)
+impl<
+    R: AsOctets + Copy,
+    A: Family<R>,
+    B: Family<R>,
+    C: Family<R>,
+    D: Family<R>,
+    E: Family<R>,
+    F: Family<R>,
+    G: Family<R>,
+    H: Family<R>,
+> Family<R> for (A, B, C, D, E, F, G, H)
 where
     G::Delimited: And<H::Delimited>,
     F::Delimited: And<<G::Delimited as And<H::Delimited>>::Joined>,
     E::Delimited: And<<F::Delimited as And<<G::Delimited as And<H::Delimited>>::Joined>>::Joined>,
-    D::Delimited: And<<E::Delimited as And<<F::Delimited as And<<G::Delimited as And<H::Delimited>>::Joined>>::Joined>>::Joined>,
-    C::Delimited: And<<D::Delimited as And<<E::Delimited as And<<F::Delimited as And<<G::Delimited as And<H::Delimited>>::Joined>>::Joined>>::Joined>>::Joined>,
-    B::Delimited: And<<C::Delimited as And<<D::Delimited as And<<E::Delimited as And<<F::Delimited as And<<G::Delimited as And<H::Delimited>>::Joined>>::Joined>>::Joined>>::Joined>>::Joined>,
-    A::Delimited: And<<B::Delimited as And<<C::Delimited as And<<D::Delimited as And<<E::Delimited as And<<F::Delimited as And<<G::Delimited as And<H::Delimited>>::Joined>>::Joined>>::Joined>>::Joined>>::Joined>>::Joined>,
+    D::Delimited: And<
+        <E::Delimited as And<
+            <F::Delimited as And<<G::Delimited as And<H::Delimited>>::Joined>>::Joined,
+        >>::Joined,
+    >,
+    C::Delimited: And<
+        <D::Delimited as And<
+            <E::Delimited as And<
+                <F::Delimited as And<<G::Delimited as And<H::Delimited>>::Joined>>::Joined,
+            >>::Joined,
+        >>::Joined,
+    >,
+    B::Delimited: And<
+        <C::Delimited as And<
+            <D::Delimited as And<
+                <E::Delimited as And<
+                    <F::Delimited as And<<G::Delimited as And<H::Delimited>>::Joined>>::Joined,
+                >>::Joined,
+            >>::Joined,
+        >>::Joined,
+    >,
+    A::Delimited: And<
+        <B::Delimited as And<
+            <C::Delimited as And<
+                <D::Delimited as And<
+                    <E::Delimited as And<
+                        <F::Delimited as And<<G::Delimited as And<H::Delimited>>::Joined>>::Joined,
+                    >>::Joined,
+                >>::Joined,
+            >>::Joined,
+        >>::Joined,
+    >,
 {
     ghost use Rattle.octseq_format.specs.OneOf.{one_of_8};
 
-    type Value = OneOf8<A::Value, B::Value, C::Value, D::Value, E::Value, F::Value, G::Value, H::Value>;
+    type Value = OneOf8<
+        A::Value,
+        B::Value,
+        C::Value,
+        D::Value,
+        E::Value,
+        F::Value,
+        G::Value,
+        H::Value,
+    >;
 
-    type Delimited = <A::Delimited as And<<B::Delimited as And<<C::Delimited as And<<D::Delimited as And<<E::Delimited as And<<F::Delimited as And<<G::Delimited as And<H::Delimited>>::Joined>>::Joined>>::Joined>>::Joined>>::Joined>>::Joined>>::Joined;
+    type Delimited = <A::Delimited as And<
+        <B::Delimited as And<
+            <C::Delimited as And<
+                <D::Delimited as And<
+                    <E::Delimited as And<
+                        <F::Delimited as And<<G::Delimited as And<H::Delimited>>::Joined>>::Joined,
+                    >>::Joined,
+                >>::Joined,
+            >>::Joined,
+        >>::Joined,
+    >>::Joined;
 
     ghost Found = { A.Found ⊎ (B.Found ⊎ (C.Found ⊎ (D.Found ⊎ (E.Found ⊎ (F.Found ⊎ (G.Found ⊎ H.Found)))))) };
 
@@ -1069,31 +1265,60 @@ where
                 C::len_by(key, value)
             }
             OneOf8::Fourth(value) => {
-                if A::has_format(key) || B::has_format(key) || C::has_format(key) || !D::has_format(key) {
+                if A::has_format(key)
+                    || B::has_format(key)
+                    || C::has_format(key)
+                    || !D::has_format(key)
+                {
                     return None;
                 }
                 D::len_by(key, value)
             }
             OneOf8::Fifth(value) => {
-                if A::has_format(key) || B::has_format(key) || C::has_format(key) || D::has_format(key) || !E::has_format(key) {
+                if A::has_format(key)
+                    || B::has_format(key)
+                    || C::has_format(key)
+                    || D::has_format(key)
+                    || !E::has_format(key)
+                {
                     return None;
                 }
                 E::len_by(key, value)
             }
             OneOf8::Sixth(value) => {
-                if A::has_format(key) || B::has_format(key) || C::has_format(key) || D::has_format(key) || E::has_format(key) || !F::has_format(key) {
+                if A::has_format(key)
+                    || B::has_format(key)
+                    || C::has_format(key)
+                    || D::has_format(key)
+                    || E::has_format(key)
+                    || !F::has_format(key)
+                {
                     return None;
                 }
                 F::len_by(key, value)
             }
             OneOf8::Seventh(value) => {
-                if A::has_format(key) || B::has_format(key) || C::has_format(key) || D::has_format(key) || E::has_format(key) || F::has_format(key) || !G::has_format(key) {
+                if A::has_format(key)
+                    || B::has_format(key)
+                    || C::has_format(key)
+                    || D::has_format(key)
+                    || E::has_format(key)
+                    || F::has_format(key)
+                    || !G::has_format(key)
+                {
                     return None;
                 }
                 G::len_by(key, value)
             }
             OneOf8::Eighth(value) => {
-                if A::has_format(key) || B::has_format(key) || C::has_format(key) || D::has_format(key) || E::has_format(key) || F::has_format(key) || G::has_format(key) {
+                if A::has_format(key)
+                    || B::has_format(key)
+                    || C::has_format(key)
+                    || D::has_format(key)
+                    || E::has_format(key)
+                    || F::has_format(key)
+                    || G::has_format(key)
+                {
                     return None;
                 }
                 H::len_by(key, value)

@@ -442,7 +442,8 @@ pub struct WithinBy<S, N, M, F> {
     family: PhantomData<F>,
 }
 
-impl<R: AsOctets + Copy, S: Switch, N: Number, M: Number, F: Family<R>> Family<R> for WithinBy<S, N, M, F> {
+impl<R: AsOctets + Copy, S: Switch, N: Number, M: Number, F: Family<R>> Family<R>
+    for WithinBy<S, N, M, F> {
     type Value = F::Value;
 
     type Delimited = Yes;

@@ -295,7 +295,9 @@ impl<
     #[inline(always)]
     #[tactic(auto, unfolding(crate::specs::Pair::both_say))]
     fn key_of(value: &Self::Value) -> usize {
-        A::key_of(&value.0).saturating_add(B::key_of(&value.1).saturating_add(C::key_of(&value.2).saturating_add(D::key_of(&value.3))))
+        A::key_of(&value.0).saturating_add(B::key_of(&value.1).saturating_add(C::key_of(
+            &value.2,
+        ).saturating_add(D::key_of(&value.3))))
     }
 
     #[inline(always)]
@@ -397,7 +399,9 @@ impl<
     #[inline(always)]
     #[tactic(auto, unfolding(crate::specs::Pair::both_say))]
     fn key_of(value: &Self::Value) -> usize {
-        A::key_of(&value.0).saturating_add(B::key_of(&value.1).saturating_add(C::key_of(&value.2).saturating_add(D::key_of(&value.3).saturating_add(E::key_of(&value.4)))))
+        A::key_of(&value.0).saturating_add(B::key_of(&value.1).saturating_add(C::key_of(
+            &value.2,
+        ).saturating_add(D::key_of(&value.3).saturating_add(E::key_of(&value.4)))))
     }
 
     #[inline(always)]
@@ -516,7 +520,11 @@ impl<
     #[inline(always)]
     #[tactic(auto, unfolding(crate::specs::Pair::both_say))]
     fn key_of(value: &Self::Value) -> usize {
-        A::key_of(&value.0).saturating_add(B::key_of(&value.1).saturating_add(C::key_of(&value.2).saturating_add(D::key_of(&value.3).saturating_add(E::key_of(&value.4).saturating_add(F::key_of(&value.5))))))
+        A::key_of(&value.0).saturating_add(B::key_of(&value.1).saturating_add(C::key_of(
+            &value.2,
+        ).saturating_add(D::key_of(&value.3).saturating_add(E::key_of(&value.4).saturating_add(
+            F::key_of(&value.5),
+        )))))
     }
 
     #[inline(always)]
@@ -652,7 +660,11 @@ impl<
     #[inline(always)]
     #[tactic(auto, unfolding(crate::specs::Pair::both_say))]
     fn key_of(value: &Self::Value) -> usize {
-        A::key_of(&value.0).saturating_add(B::key_of(&value.1).saturating_add(C::key_of(&value.2).saturating_add(D::key_of(&value.3).saturating_add(E::key_of(&value.4).saturating_add(F::key_of(&value.5).saturating_add(G::key_of(&value.6)))))))
+        A::key_of(&value.0).saturating_add(B::key_of(&value.1).saturating_add(C::key_of(
+            &value.2,
+        ).saturating_add(D::key_of(&value.3).saturating_add(E::key_of(&value.4).saturating_add(
+            F::key_of(&value.5).saturating_add(G::key_of(&value.6)),
+        )))))
     }
 
     #[inline(always)]
@@ -797,7 +809,13 @@ impl<
     #[inline(always)]
     #[tactic(auto, unfolding(crate::specs::Pair::both_say))]
     fn key_of(value: &Self::Value) -> usize {
-        A::key_of(&value.0).saturating_add(B::key_of(&value.1).saturating_add(C::key_of(&value.2).saturating_add(D::key_of(&value.3).saturating_add(E::key_of(&value.4).saturating_add(F::key_of(&value.5).saturating_add(G::key_of(&value.6).saturating_add(H::key_of(&value.7))))))))
+        A::key_of(&value.0).saturating_add(B::key_of(&value.1).saturating_add(C::key_of(
+            &value.2,
+        ).saturating_add(D::key_of(&value.3).saturating_add(E::key_of(&value.4).saturating_add(
+            F::key_of(&value.5).saturating_add(G::key_of(&value.6).saturating_add(H::key_of(
+                &value.7,
+            ))),
+        )))))
     }
 
     #[inline(always)]

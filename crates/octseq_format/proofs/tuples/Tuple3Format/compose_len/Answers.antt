@@ -17,9 +17,9 @@ returns g c =
     let sc = fc.says (fc.found v.2) in
     let nc = c.compose_len-from_c.ensures in
     let hb = both_has_len fb.octets (fc.octets) fb.fits (fc.fits) (sb, sc) _ _ _
-        (has_len fb.octets fb.fits sb _ nb.some nb.fit nb.none)
-        (has_len fc.octets fc.fits sc _ nc.some nc.fit nc.none) c.both_len-from_b.ensures in
+    (has_len fb.octets fb.fits sb _ nb.some nb.fit nb.none)
+    (has_len fc.octets fc.fits sc _ nc.some nc.fit nc.none) c.both_len-from_b.ensures in
     let ha = both_has_len fa.octets (fb.octets before fc.octets) fa.fits (fb.fits also fc.fits) (sa, (sb, sc)) _ _ _
-        (has_len fa.octets fa.fits sa _ na.some na.fit na.none)
-        hb c.both_len.ensures in
+    (has_len fa.octets fa.fits sa _ na.some na.fit na.none)
+    hb c.both_len.ensures in
     record { some = len_some _ _ _ _ ha; fit = len_fit _ _ _ _ ha; none = len_none _ _ _ _ ha }

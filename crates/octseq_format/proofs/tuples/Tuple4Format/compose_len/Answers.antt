@@ -20,12 +20,12 @@ returns g c =
     let sd = fd.says (fd.found v.3) in
     let nd = c.compose_len-from_d.ensures in
     let hc = both_has_len fc.octets (fd.octets) fc.fits (fd.fits) (sc, sd) _ _ _
-        (has_len fc.octets fc.fits sc _ nc.some nc.fit nc.none)
-        (has_len fd.octets fd.fits sd _ nd.some nd.fit nd.none) c.both_len-from_c.ensures in
+    (has_len fc.octets fc.fits sc _ nc.some nc.fit nc.none)
+    (has_len fd.octets fd.fits sd _ nd.some nd.fit nd.none) c.both_len-from_c.ensures in
     let hb = both_has_len fb.octets (fc.octets before fd.octets) fb.fits (fc.fits also fd.fits) (sb, (sc, sd)) _ _ _
-        (has_len fb.octets fb.fits sb _ nb.some nb.fit nb.none)
-        hc c.both_len-from_b.ensures in
+    (has_len fb.octets fb.fits sb _ nb.some nb.fit nb.none)
+    hc c.both_len-from_b.ensures in
     let ha = both_has_len fa.octets (fb.octets before fc.octets before fd.octets) fa.fits (fb.fits also fc.fits also fd.fits) (sa, (sb, (sc, sd))) _ _ _
-        (has_len fa.octets fa.fits sa _ na.some na.fit na.none)
-        hb c.both_len.ensures in
+    (has_len fa.octets fa.fits sa _ na.some na.fit na.none)
+    hb c.both_len.ensures in
     record { some = len_some _ _ _ _ ha; fit = len_fit _ _ _ _ ha; none = len_none _ _ _ _ ha }

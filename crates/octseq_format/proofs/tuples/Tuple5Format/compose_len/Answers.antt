@@ -23,15 +23,15 @@ returns g c =
     let se = fe.says (fe.found v.4) in
     let ne = c.compose_len-from_e.ensures in
     let hd = both_has_len fd.octets (fe.octets) fd.fits (fe.fits) (sd, se) _ _ _
-        (has_len fd.octets fd.fits sd _ nd.some nd.fit nd.none)
-        (has_len fe.octets fe.fits se _ ne.some ne.fit ne.none) c.both_len-from_d.ensures in
+    (has_len fd.octets fd.fits sd _ nd.some nd.fit nd.none)
+    (has_len fe.octets fe.fits se _ ne.some ne.fit ne.none) c.both_len-from_d.ensures in
     let hc = both_has_len fc.octets (fd.octets before fe.octets) fc.fits (fd.fits also fe.fits) (sc, (sd, se)) _ _ _
-        (has_len fc.octets fc.fits sc _ nc.some nc.fit nc.none)
-        hd c.both_len-from_c.ensures in
+    (has_len fc.octets fc.fits sc _ nc.some nc.fit nc.none)
+    hd c.both_len-from_c.ensures in
     let hb = both_has_len fb.octets (fc.octets before fd.octets before fe.octets) fb.fits (fc.fits also fd.fits also fe.fits) (sb, (sc, (sd, se))) _ _ _
-        (has_len fb.octets fb.fits sb _ nb.some nb.fit nb.none)
-        hc c.both_len-from_b.ensures in
+    (has_len fb.octets fb.fits sb _ nb.some nb.fit nb.none)
+    hc c.both_len-from_b.ensures in
     let ha = both_has_len fa.octets (fb.octets before fc.octets before fd.octets before fe.octets) fa.fits (fb.fits also fc.fits also fd.fits also fe.fits) (sa, (sb, (sc, (sd, se)))) _ _ _
-        (has_len fa.octets fa.fits sa _ na.some na.fit na.none)
-        hb c.both_len.ensures in
+    (has_len fa.octets fa.fits sa _ na.some na.fit na.none)
+    hb c.both_len.ensures in
     record { some = len_some _ _ _ _ ha; fit = len_fit _ _ _ _ ha; none = len_none _ _ _ _ ha }

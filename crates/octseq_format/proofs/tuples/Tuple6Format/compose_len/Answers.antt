@@ -26,18 +26,18 @@ returns g c =
     let sf = ff.says (ff.found v.5) in
     let nf = c.compose_len-from_f.ensures in
     let he = both_has_len fe.octets (ff.octets) fe.fits (ff.fits) (se, sf) _ _ _
-        (has_len fe.octets fe.fits se _ ne.some ne.fit ne.none)
-        (has_len ff.octets ff.fits sf _ nf.some nf.fit nf.none) c.both_len-from_e.ensures in
+    (has_len fe.octets fe.fits se _ ne.some ne.fit ne.none)
+    (has_len ff.octets ff.fits sf _ nf.some nf.fit nf.none) c.both_len-from_e.ensures in
     let hd = both_has_len fd.octets (fe.octets before ff.octets) fd.fits (fe.fits also ff.fits) (sd, (se, sf)) _ _ _
-        (has_len fd.octets fd.fits sd _ nd.some nd.fit nd.none)
-        he c.both_len-from_d.ensures in
+    (has_len fd.octets fd.fits sd _ nd.some nd.fit nd.none)
+    he c.both_len-from_d.ensures in
     let hc = both_has_len fc.octets (fd.octets before fe.octets before ff.octets) fc.fits (fd.fits also fe.fits also ff.fits) (sc, (sd, (se, sf))) _ _ _
-        (has_len fc.octets fc.fits sc _ nc.some nc.fit nc.none)
-        hd c.both_len-from_c.ensures in
+    (has_len fc.octets fc.fits sc _ nc.some nc.fit nc.none)
+    hd c.both_len-from_c.ensures in
     let hb = both_has_len fb.octets (fc.octets before fd.octets before fe.octets before ff.octets) fb.fits (fc.fits also fd.fits also fe.fits also ff.fits) (sb, (sc, (sd, (se, sf)))) _ _ _
-        (has_len fb.octets fb.fits sb _ nb.some nb.fit nb.none)
-        hc c.both_len-from_b.ensures in
+    (has_len fb.octets fb.fits sb _ nb.some nb.fit nb.none)
+    hc c.both_len-from_b.ensures in
     let ha = both_has_len fa.octets (fb.octets before fc.octets before fd.octets before fe.octets before ff.octets) fa.fits (fb.fits also fc.fits also fd.fits also fe.fits also ff.fits) (sa, (sb, (sc, (sd, (se, sf))))) _ _ _
-        (has_len fa.octets fa.fits sa _ na.some na.fit na.none)
-        hb c.both_len.ensures in
+    (has_len fa.octets fa.fits sa _ na.some na.fit na.none)
+    hb c.both_len.ensures in
     record { some = len_some _ _ _ _ ha; fit = len_fit _ _ _ _ ha; none = len_none _ _ _ _ ha }
