@@ -1,7 +1,10 @@
 //! DHCP: packets of RFC 2131, 2, with the options of RFC 2132.
 
 use octseq::{AsOctets, Parser};
-use octseq_format::{Case, Counted, Fields, Format, Octets, Of, OneOf3, Optional, Others, Repeated, Rest, Tagged, U8, U16Be, U32Be};
+use octseq_format::{
+    Case, Counted, Fields, Format, Octets, Of, OneOf3, Optional, Others, Repeated, Rest, Tagged,
+    U8, U16Be, U32Be,
+};
 
 /// An option.
 #[derive(Clone, Copy, Debug, Drop)]
@@ -19,7 +22,11 @@ impl<R: AsOctets + Copy> Fields<R> for DhcpOption<R> {
 
     type Format = Tagged<
         U8,
-        (Case<0, Octets<0>>, Case<255, Octets<0>>, Others<Counted<U8, Rest, 0>>),
+        (
+            Case<0, Octets<0>>,
+            Case<255, Octets<0>>,
+            Others<Counted<U8, Rest, 0>>,
+        ),
     >;
 
     ghost fields = { option_fields };
