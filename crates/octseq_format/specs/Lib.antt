@@ -3,6 +3,7 @@ pub mod Bits
 pub mod Canonical
 pub mod Choice
 pub mod CompactSize
+pub mod Conditional
 pub mod Counted
 pub mod Ended
 pub mod Exactly
@@ -11,6 +12,7 @@ pub mod Fixed
 pub mod Integers
 pub mod Keyed
 pub mod Laws
+pub mod Nothing
 pub mod Octets
 pub mod OneOf
 pub mod Optional
