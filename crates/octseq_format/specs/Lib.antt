@@ -24,6 +24,8 @@ pub mod Row
 pub mod Tagged
 pub mod Text
 pub mod Turns
+pub mod Until
 pub mod Varying
 pub mod Walk
 pub mod Where
+pub mod Whole
