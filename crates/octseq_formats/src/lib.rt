@@ -2,7 +2,13 @@
 #![tactic(auto)]
 
 pub mod bgp;
+pub mod bitcoin;
 pub mod dhcp;
+pub mod mqtt;
 pub mod ntp;
+pub mod protobuf;
+pub mod quic;
+pub mod socks5;
 pub mod tftp;
 pub mod tls;
+pub mod wasm;

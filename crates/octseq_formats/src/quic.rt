@@ -1,9 +1,9 @@
 //! Long headers of QUIC: RFC 9000, 17.2, and RFC 8999, 6.
-ghost use Rattle.std.specs.Prelude.{◌≡◌, ◌≤◌, ◌+◌, ◌*◌, ◌/◌, ◌%◌, min, nat_le, if◌then◌else◌};
+ghost use Rattle.std.specs.Prelude.{◌≤◌, ◌/◌, ◌%◌, nat_le, if◌then◌else◌};
 
 use octseq_format::{
-    Case, Counted, Key, Keyed, QuicInteger, Reckoning, Repeated, Rest, Sized, Tagged, Test, U8,
-    U32Be, When,
+    Any, Case, Counted, Key, Keyed, QuicInteger, Reckoning, Repeated, Rest, Sized, Tagged, Test,
+    U8, U32Be, When,
 };
 
 /// The type of a packet, from its first octet: 0 to 3 for a long header, 4 for a short one.
@@ -53,3 +53,30 @@ pub type ConnectionId = Tagged<U8, When<AtMostTwenty, Sized<Rest, 0>>>;
 
 /// Octets after their length.
 pub type Field = Counted<QuicInteger, Rest, 0>;
+
+/// A key of version 0, whatever the type.
+#[derive(Debug)]
+pub struct IsNegotiation;
+
+impl Test for IsNegotiation {
+    ghost holds = { λ key. (8 ≤ key) × (key ≤ 11) };
+
+    fn test(key: usize) -> bool {
+        8 <= key && key <= 11
+    }
+}
+
+/// What follows a first octet and a version: two connection identifiers, then by the type of version 1: Initial (0) a
+/// token, what its length counts, and what is left of the datagram; 0-RTT (1) and Handshake (2) the same without a
+/// token; Retry (3) a token and a tag of 16 octets. A Version Negotiation (version 0) has a list of versions.
+pub type Body = (
+    Case<0, (ConnectionId, ConnectionId, Field, Field, Rest)>,
+    Case<1, (ConnectionId, ConnectionId, Field, Rest)>,
+    Case<2, (ConnectionId, ConnectionId, Field, Rest)>,
+    Case<3, (ConnectionId, ConnectionId, Rest)>,
+    When<IsNegotiation, Any<(Counted<U8, Rest, 0>, Counted<U8, Rest, 0>, Repeated<U32Be>)>>,
+);
+
+/// A datagram that begins with a long header: a first octet, a version, and what they decide. The lowest bits of the
+/// first octet are protected.
+pub type LongHeader = Keyed<(Key<U8, PacketType>, Key<U32Be, VersionPart>), Body>;

@@ -33,4 +33,8 @@ pub type Section = Tagged<
 >;
 
 /// A module: a magic number, the version 1, and sections. Their order is for the caller to check.
-pub type Module = (Exactly<U32Be, 0x0061_736D>, Exactly<U32Le, 1>, Repeated<Section>);
+pub type Module = (
+    Exactly<U32Be, 0x0061_736D>,
+    Exactly<U32Le, 1>,
+    Repeated<Section>,
+);
