@@ -2,8 +2,8 @@
 
 use octseq::{AsOctets, Parser};
 use octseq_format::{
-    Case, Counted, Fields, Format, Octets, Of, OneOf3, Optional, Others, Repeated, Rest, Tagged,
-    U8, U16Be, U32Be,
+    Case, Counted, Exactly, Fields, Format, Nothing, Octets, Of, OneOf3, Optional, Others,
+    Repeated, Rest, Tagged, U8, U16Be, U32Be, Until,
 };
 
 /// An option.
@@ -63,4 +63,19 @@ pub type Bootp<R> = (
     Octets<64>,
     Octets<128>,
     Optional<Vendor<R>>,
+);
+
+/// Options: their codes, and octets after their length. 0 is padding without a length, 255 the end.
+pub type Options = Until<U8, 255, (Case<0, Nothing>, Others<Counted<U8, Rest, 0>>)>;
+
+/// A DHCP packet: the fields of [`Bootp`], the magic cookie, options up to their end, and what follows them.
+pub type Packet = (
+    (U8, U8, U8, U8),
+    (U32Be, U16Be, U16Be),
+    (U32Be, U32Be, U32Be, U32Be),
+    Octets<16>,
+    Octets<64>,
+    Octets<128>,
+    Exactly<U32Be, 0x6382_5363>,
+    (Options, Rest),
 );

@@ -67,6 +67,7 @@ fn compose<F: Format<R>, R: AsOctets + Copy, B: EmptyBuilder + Truncate>(
 
 mod dhcp;
 mod families;
+mod keyed;
 mod leaves;
 mod limits;
 mod ntp;
