@@ -3,6 +3,7 @@
 
 pub mod bgp;
 pub mod bitcoin;
+pub mod cbor;
 pub mod dhcp;
 pub mod mqtt;
 pub mod ntp;
@@ -12,3 +13,4 @@ pub mod socks5;
 pub mod tftp;
 pub mod tls;
 pub mod wasm;
+pub mod websocket;
