@@ -4,7 +4,7 @@ use crate::tests::{read, unwrap};
 use octseq::AsOctets;
 use octseq_asserts::assert_true;
 use octseq_format::Format;
-use octseq_formats::{bitcoin, cbor, dhcp, mqtt, protobuf, quic, socks5, wasm, websocket};
+use octseq_formats::{bitcoin, cbor, dhcp, mqtt, msgpack, protobuf, quic, socks5, wasm, websocket};
 use std::alloc::AllocGlobal;
 use std::process::Abort;
 
@@ -378,7 +378,7 @@ fn wasm_packets(rt: HostRuntime) {
 
 #[test]
 fn websocket_packets(rt: HostRuntime) {
-    let packets: [&[u8]; 5] = [
+    let packets: [&[u8]; 7] = [
         b"\x81\x85\x8DZ\xD8w\xC5?\xB4\x1B\xE2",
         b"\x81\x05Hello",
         b"\x82~\x00~\x01\x01\x01\x01\x01\x01\x01\x01\x01\x01\x01\x01\x01\x01\x01\x01\x01\
@@ -397,19 +397,14 @@ fn websocket_packets(rt: HostRuntime) {
           \xA8\xD9(s\xAC\xE5\x14O\x90\xE1\x10K\x94\xED\x1CG\x98\xE9\x18C\x9C\xF5\x04_\x80\
           \xF1\x00[\x84\xFD\x0CW\x88\xF9\x08S\x8C\x85t/\xF0\x81p+\xF4",
         b"\x89\x80\xD1\xB8\x87O",
+        b"\x82\x7F\x00\x00\x00\x00\x00\x00\x00\x03abc",
+        b"\x81\xFE\x00\x05\x11\"3DYG_(~",
     ];
     for octets in packets {
         let _packet = read::<websocket::Frame, &[u8]>(&rt, octets);
         for len in 0..octets.len() {
             is_refused::<websocket::Frame, &[u8]>(&rt, &octets[..len]);
         }
-    }
-    let longer: [&[u8]; 2] = [
-        b"\x82\x7F\x00\x00\x00\x00\x00\x00\x00\x03abc",
-        b"\x81\xFE\x00\x05\x11\"3DYG_(~",
-    ];
-    for octets in longer {
-        is_shortened::<websocket::Frame, &[u8]>(&rt, octets, octets.len());
     }
     let malformed: [&[u8]; 3] = [
         b"\x81\x85\xA4\xF5\x15y\xEC\x90",
@@ -429,7 +424,7 @@ fn websocket_packets(rt: HostRuntime) {
 
 #[test]
 fn cbor_packets(rt: HostRuntime) {
-    let packets: [&[u8]; 11] = [
+    let packets: [&[u8]; 13] = [
         b"\x19\x03\xE8",
         b"\x1B\xFF\xFF\xFF\xFF\xFF\xFF\xFF\xFF",
         b"8c",
@@ -442,16 +437,35 @@ fn cbor_packets(rt: HostRuntime) {
         b"\xA2aa\x01ab\x82\x02\x03",
         b"_B\x01\x02C\x03\x04\x05\xFF",
         b"\xBFaa\x01ab\x9F\x02\x03\xFF\xFF",
+        b"\x18\x17",
+        b"\x1B\x00\x00\x00\x00\x00\x00\x00\x01",
     ];
     for octets in packets {
         let _packet = read::<cbor::Items, &[u8]>(&rt, octets);
     }
-    let longer: [&[u8]; 2] = [b"\x18\x17", b"\x1B\x00\x00\x00\x00\x00\x00\x00\x01"];
-    for octets in longer {
-        is_shortened::<cbor::Items, &[u8]>(&rt, octets, octets.len());
-    }
     let malformed: [&[u8]; 2] = [b"Z\xFF\xFF\xFF\xFF\x00", b"\x1C"];
     for octets in malformed {
         is_refused::<cbor::Items, &[u8]>(&rt, octets);
+    }
+}
+
+#[test]
+fn msgpack_packets(rt: HostRuntime) {
+    let packets: [&[u8]; 6] = [
+        b"\x82\xA7compact\xC3\xA6schema\x00",
+        b"\x9B\x01\xFF\x7F\xCC\x80\xE0\xD0\xDF\xCD\xFF\xFF\xCE\x00\x01\x00\x00\xD2\x80\x00\
+          \x00\x00\xCF\x80\x00\x00\x00\x00\x00\x00\x00\xD3\x80\x00\x00\x00\x00\x00\x00\x00",
+        b"\x94\xA0\xA1a\xBFxxxxxxxxxxxxxxxxxxxxxxxxxxxxxxx\xD9 xxxxxxxxxxxxxxxxxxxxxxxxxxx\
+          xxxxx",
+        b"\xC4\x02\x00\x01",
+        b"\x93\xCB?\xF8\x00\x00\x00\x00\x00\x00\xC0\xC2",
+        b"\xCD\x00\x05",
+    ];
+    for octets in packets {
+        let _packet = read::<msgpack::Items, &[u8]>(&rt, octets);
+    }
+    let malformed: [&[u8]; 2] = [b"\xC1", b"\xDA\x01\x00abc"];
+    for octets in malformed {
+        is_refused::<msgpack::Items, &[u8]>(&rt, octets);
     }
 }
