@@ -26,6 +26,30 @@ fn is_refused<F: Format<R>, R: AsOctets + Copy>(rt: &impl Abort, octets: R) {
 }
 
 #[test]
+fn bitcoin_message_packets(rt: HostRuntime) {
+    let packets: [&[u8]; 2] = [
+        b"\xF9\xBE\xB4\xD9inv\x00\x00\x00\x00\x00\x00\x00\x00\x00I\x00\x00\x00\xDAp\x1D\
+          \xD8\x02\x01\x00\x00\x00\xDF\xA13>\x7F?\xE1\x03\x0F\xB3s^\xE3y\x03\x84\xB7u\xB0\
+          \x9E\xF9\x09l\xFF\x80)\x18\x933\xBB\x1E\xC6\x02\x00\x00\x00\x99\xF1d\x8FG\x19\
+          \xBF7)\xF5wF(\xCEI\xCA\x0Bw\xD3\x92*\x83\xE5\xC5\x1D\xC4so\xD6\xBD\x8C\x8E",
+        b"\xF9\xBE\xB4\xD9verack\x00\x00\x00\x00\x00\x00\x00\x00\x00\x00]\xF6\xE0\xE2",
+    ];
+    for octets in packets {
+        let _packet = read::<bitcoin::Message, &[u8]>(&rt, octets);
+        for len in 0..octets.len() {
+            is_refused::<bitcoin::Message, &[u8]>(&rt, &octets[..len]);
+        }
+    }
+    let malformed: [&[u8]; 1] = [
+        b"\xF9\xBE\xB4\xD9ping\x00\x00\x00\x00\x00\x00\x00\x00\x09\x00\x00\x00\xA8\xB4\x12\
+          \xA6cIs>\xBEHd!",
+    ];
+    for octets in malformed {
+        is_refused::<bitcoin::Message, &[u8]>(&rt, octets);
+    }
+}
+
+#[test]
 fn bitcoin_packets(rt: HostRuntime) {
     let packets: [&[u8]; 2] = [
         b"\x01\x00\x00\x00\x01\x00\x00\x00\x00\x00\x00\x00\x00\x00\x00\x00\x00\x00\x00\x00\
