@@ -1,5 +1,5 @@
 //! Messages of Bitcoin, and transactions with and without witnesses: BIP 144.
-ghost use Rattle.std.specs.Prelude.{◌≡◌, ◌*◌, ◌/◌, ◌%◌, min, nat_eq, if◌then◌else◌};
+ghost use Rattle.std.specs.Prelude.{◌≡◌, ◌*◌, ◌/◌, ◌%◌, ◌||◌, min, nat_eq, if◌then◌else◌};
 
 use octseq_format::{
     Any, Case, CompactSize, Counted, Exactly, Itself, Key, Keyed, ManyBy, Octets, Reckoning, Rest,
@@ -45,12 +45,10 @@ pub type Transaction = Keyed<
 pub struct Command;
 
 impl Reckoning for Command {
-    ghost of = { λ name. if nat_eq name 7597130033286414336 then 1 else (if nat_eq name 7450489163402862848 then 1 else 0) };
+    ghost of = { λ name. if (nat_eq name 7597139363792683008 || nat_eq name 7450489133034922240) then 1 else 0 };
 
     fn of(name: usize) -> usize {
-        if name == 0x696E_7600_0000_0000 {
-            1
-        } else if name == 0x6765_7464_6174_6100 {
+        if name == 0x696E_7600_0000_0000 || name == 0x6765_7464_6174_6100 {
             1
         } else {
             0

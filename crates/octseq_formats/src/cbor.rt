@@ -47,7 +47,7 @@ impl Test for IsString {
 pub struct IsOpen;
 
 impl Test for IsOpen {
-    ghost holds = { λ first. (first ≡ 0x9F) ⊎ ((first ≡ 0xBF) ⊎ (first ≡ 0xFF)) };
+    ghost holds = { λ first. (first ≡ 159) ⊎ ((first ≡ 191) ⊎ (first ≡ 255)) };
 
     fn test(first: usize) -> bool {
         first == 0x9F || first == 0xBF || first == 0xFF

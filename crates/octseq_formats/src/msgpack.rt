@@ -23,7 +23,7 @@ impl Reckoning for ShortLength {
 pub struct IsAlone;
 
 impl Test for IsAlone {
-    ghost holds = { λ first. (first ≤ 0x9F) ⊎ ((first ≡ 0xC0) ⊎ (((0xC2 ≤ first) × (first ≤ 0xC3)) ⊎ (0xE0 ≤ first))) };
+    ghost holds = { λ first. (first ≤ 159) ⊎ ((first ≡ 192) ⊎ (((194 ≤ first) × (first ≤ 195)) ⊎ (224 ≤ first))) };
 
     fn test(first: usize) -> bool {
         first <= 0x9F || first == 0xC0 || 0xC2 <= first && first <= 0xC3 || 0xE0 <= first
@@ -35,7 +35,7 @@ impl Test for IsAlone {
 pub struct IsShort;
 
 impl Test for IsShort {
-    ghost holds = { λ first. (0xA0 ≤ first) × (first ≤ 0xBF) };
+    ghost holds = { λ first. (160 ≤ first) × (first ≤ 191) };
 
     fn test(first: usize) -> bool {
         0xA0 <= first && first <= 0xBF
