@@ -16,6 +16,7 @@ pub mod Nothing
 pub mod Octets
 pub mod OneOf
 pub mod Optional
+pub mod Padding
 pub mod Pair
 pub mod Part
 pub mod Quic
