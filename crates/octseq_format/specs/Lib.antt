@@ -1,6 +1,7 @@
 pub mod Answer
 pub mod Bits
 pub mod Canonical
+pub mod Checked
 pub mod Choice
 pub mod CompactSize
 pub mod Conditional

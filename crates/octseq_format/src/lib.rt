@@ -3,6 +3,7 @@
 
 pub mod answer;
 pub mod bits;
+pub mod checked;
 pub mod choice;
 pub mod compact_size;
 pub mod conditional;
@@ -35,6 +36,7 @@ pub mod widths;
 
 pub use answer::{And, Answer, No, Yes};
 pub use bits::{BitFields, Bits, Flag, Low};
+pub use checked::{Checked, Checksum};
 pub use choice::{OneOf2, OneOf3, OneOf4, OneOf5, OneOf6, OneOf7, OneOf8};
 pub use compact_size::CompactSize;
 pub use conditional::If;
