@@ -1,10 +1,12 @@
 -- A value and a checksum of its octets.
-use Rattle.std.specs.Prelude.{◌≡◌, ℕ, ◌+◌, ◌-◌, List, ◌++◌, length, refl}
+use Rattle.std.specs.Prelude.{◌≡◌, Bool, ◌&&◌, IsTrue, ℕ, ◌+◌, ◌-◌, List, ◌++◌, length, refl}
 use Rattle.std.proofs.Common.{sym, ap, ◌∙◌, subst, arith, length-append, append_assoc}
 use Rattle.octseq.specs.Window.{Window, next, rest, past}
 use Rattle.octseq.proofs.WindowsAfter.{front_comes_next}
+use Rattle.octseq_format.specs.Canonical.{IsCanonical, both_ways}
 use Rattle.octseq_format.specs.Laws.{Relation, NoneAt, IsOne, IsOnward, IsReadBack, IsDelimited, back_of}
 use Rattle.octseq_format.specs.Pair.{past_both}
+use Rattle.octseq_format.specs.Whole.{octets_taken}
 
 -- the octets from a window's position to a later one's
 abbrev pub between : Window → Window → List ℕ
@@ -57,8 +59,8 @@ module _ {A : Type 0} (sum : List ℕ → ℕ) {Is : Relation A} {Number : Relat
   }
 
   module _ {S : Type 0} {says : A → S} {octets : S → List ℕ} {Fits : S → Type 0} {number : ℕ → List ℕ}
-      {NumberFits : ℕ → Type 0} {width : ℕ} where
-    pub delimited_checked : AreSums sum number NumberFits width → IsDelimited Is says octets Fits
+      {NumberFits : ℕ → Type 0} where
+    pub delimited_checked : {width : ℕ} → AreSums sum number NumberFits width → IsDelimited Is says octets Fits
         → IsDelimited Number (λ n. n) number NumberFits
         → IsDelimited (IsChecked sum Is Number) says (checked_octets sum octets number) Fits
     delimited_checked sums one two = record {
@@ -84,10 +86,35 @@ module _ {A : Type 0} (sum : List ℕ → ℕ) {Is : Relation A} {Number : Relat
           };
     }
 
-    pub checked_read_back : AreSums sum number NumberFits width → IsDelimited Is says octets Fits
+    pub checked_read_back : {width : ℕ} → AreSums sum number NumberFits width → IsDelimited Is says octets Fits
         → IsDelimited Number (λ n. n) number NumberFits
         → IsReadBack (IsChecked sum Is Number) says (checked_octets sum octets number) Fits
     checked_read_back sums one two = back_of (delimited_checked sums one two)
+
+    pub canonical_checked : {least : ℕ} {a b : Bool} → IsOnward least Is → (IsTrue a → IsCanonical Is says octets Fits)
+        → (IsTrue b → IsCanonical Number (λ n. n) number NumberFits) → IsTrue (a && b)
+        → IsCanonical (IsChecked sum Is Number) says (checked_octets sum octets number) Fits
+    canonical_checked onward first second both =
+        let ways = both_ways _ _ both in
+        let one = first ways.0 in
+        let two = second ways.1 in
+        record {
+          once = one.once;
+          written = λ w a v sound is.
+              let u = is.0 in
+              let x = octets (says a) in
+              let there = one.written w a u sound is.1 in
+              let ends = two.written u (sum (between w u)) v (one.on w a u sound is.1) is.2 in
+              let taken = octets_taken onward one w a u sound is.1 in
+              let many : u.position - w.position ≡ length x = omega (arith, taken) in
+              let come = front_comes_next w x (rest u) (length x) there.1 refl in
+              let same : between w u ≡ x = ap (λ n. next n w) many ∙ come.1 in (
+                there.0,
+                there.1 ∙ ap (λ o. x ++ o) (ends.1 ∙ ap (λ o. number (sum o) ++ rest v) same)
+                    ∙ sym (append_assoc x (number (sum x)) (rest v)),
+              );
+          on = λ w a v sound is. two.on is.0 (sum (between w is.0)) v (one.on w a is.0 sound is.1) is.2;
+        }
 
 -- the number of octets with those of the checksum
 pub checked_long : (x y : List ℕ) → length (x ++ y) ≡ length x + length y

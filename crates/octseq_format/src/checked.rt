@@ -1,9 +1,8 @@
 //! Values with a checksum of their octets.
-ghost use Rattle.std.specs.Prelude.{◌≡◌, ◌+◌, ℕ, List, refl, false};
-ghost use Rattle.octseq_format.specs.Canonical.{not_one_way};
+ghost use Rattle.std.specs.Prelude.{◌≡◌, ◌+◌, ℕ, List, refl, ◌&&◌};
 ghost use Rattle.octseq_format.specs.Checked.{IsChecked, checked_octets, AreSums, one_checked};
 ghost use Rattle.octseq_format.specs.Checked.{onward_checked, checked_read_back};
-ghost use Rattle.octseq_format.specs.Checked.{delimited_checked};
+ghost use Rattle.octseq_format.specs.Checked.{delimited_checked, canonical_checked};
 ghost use Rattle.octseq_format.specs.Pair.{some_more};
 
 use crate::answer::Yes;
@@ -76,7 +75,7 @@ impl<R: AsOctets + Copy, A: Format<R, Delimited = Yes>, S: Checksum> Format<R> f
 
     ghost key = { A.key };
 
-    ghost one_way = { false };
+    ghost one_way = { A.one_way && S.Sum.one_way };
 
     #[inline(always)]
     #[tactic(auto, using(crate::specs::Checked::other_checksum))]
@@ -103,7 +102,7 @@ impl<R: AsOctets + Copy, A: Format<R, Delimited = Yes>, S: Checksum> Format<R> f
 
     #[inline(always)]
     fn is_canonical() -> bool {
-        false
+        A::is_canonical() && S::Sum::is_unique()
     }
 
     #[inline(always)]
@@ -128,7 +127,7 @@ impl<R: AsOctets + Copy, A: Format<R, Delimited = Yes>, S: Checksum> Format<R> f
         appended
     }
 
-    ghost canonical = { not_one_way };
+    ghost canonical = { canonical_checked S.of A.onward A.canonical S.Sum.canonical };
 
     ghost onward = { onward_checked S.of A.onward S.Sum.onward };
 
