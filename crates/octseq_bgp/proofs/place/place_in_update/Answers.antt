@@ -3,6 +3,9 @@ use Rattle.octseq.specs.Parser.{window}
 use Rattle.octseq.specs.Window.{Window}
 use Rattle.octseq_bgp.proofs.place.place_in_update.Goals as goal
 
+pub returns-in_default : goal.returns-in_default
+returns-in_default g c = inr (c.in_default.ensures.malformed refl, c.pos.ensures.position)
+
 pub returns-in_default-parse : goal.returns-in_default-parse
 returns-in_default-parse g c =
     let kept = c.in_default-parse.ensures.kept in
