@@ -3,6 +3,7 @@ use Rattle.std.proofs.Common.{◌≡◌, ℕ, ◌+◌, ◌-◌, ◌≤◌, List,
 use mathlib.Core.Logic.{inl, inr}
 use Rattle.octseq.specs.Integer.{be}
 use Rattle.octseq.specs.Window.{Window, left, next}
+use Rattle.octseq_format.proofs.Parts.{part_of_counted}
 use Rattle.octseq_bgp.specs.Family.{afi_number}
 use Rattle.octseq_bgp.specs.Value.{Reach, IsReach}
 use Rattle.octseq_bgp.specs.declared.family.AfiSafiType.{AfiSafiType}
@@ -40,8 +41,8 @@ pub apart : (s : SessionConfig) (w : Window) (r : Reach) → IsReach s w r → (
 apart s w r reach inside alone =
     let octets = drop w.position w.octets in
     let afi = reach.front.1.1.1 ∙ ap be (next_octets w 2) in
-    let counted = alone.1.1 in
-    let same = ap left counted.1.0 in
+    let counted = part_of_counted 1 w inside alone.1.0 alone.1.1 in
+    let same = ap left counted.1 in
     let size : left inside ≡ be (next 1 w) = omega (arith, same) in
     first_counts octets (afi_number r.family) (left inside) afi (small_number r.family) (size ∙ ap be (next_octets w 1))
     (some_size (left inside) alone.2)

@@ -1,12 +1,30 @@
-use Rattle.std.proofs.Common.{◌≡◌, ◌<◌, List, length, ap, subst, arith}
+use Rattle.std.proofs.Common.{◌≡◌, ◌<◌, List, length, refl, ap, subst, arith}
 use Rattle.octseq.specs.Parser.{window}
 use Rattle.octseq.specs.Window.{left}
+use Rattle.octseq_bgp.specs.Entry.{IsCounted}
 use Rattle.octseq_bgp.specs.Fills.{Whole}
+use Rattle.octseq_bgp.specs.OneEntry.{one_number}
 use Rattle.octseq_mrt.specs.OneListed.{peer_code, one_peer, peer_moves}
 use Rattle.octseq_mrt.specs.Peer.{Peer, IsPeer}
 use Rattle.octseq_mrt.proofs.Filled.{ahead_as, times_of, not_whole}
 use Rattle.octseq_mrt.proofs.OneRecord.{IsTable, one_table_at}
 use Rattle.octseq_mrt.proofs.peer.PeerIndexTable.parse_counted.Goals as goal
+
+pub returns-in_err-view_name-clause-malformed : goal.returns-in_err-view_name-clause-malformed
+returns-in_err-view_name-clause-malformed g c = λ _ table is.
+    let parts = is.1 in
+    let there = ((one_number 4).same (window c.args.parser) table.collector_bgp_id _ parts.0 (window c.parse.new.parser)
+    parts.1 c.in_ok-collector_bgp_id.ensures.value).1 in
+    c.in_err-view_name.ensures.malformed refl table.view_name parts.2.0
+    (subst (λ u. IsCounted 2 u table.view_name parts.2.0) there parts.2.1)
+
+pub invariant_of-result : goal.invariant_of-result
+invariant_of-result g c =
+    let v = window c.pass_peers.new.parser in
+    let here = c.remaining.ensures.left in
+    let none = c.if-remaining-gt0.false in
+    let all = c.in_ok-pass_peers.ensures.peers in
+    record { ahead = (all.0, ∣ (v, (all.1.1, omega (arith, here, none))) ∣₁) }
 
 pub returns-then-remaining-gt0-clause-malformed : goal.returns-then-remaining-gt0-clause-malformed
 returns-then-remaining-gt0-clause-malformed g c = λ _ table.
