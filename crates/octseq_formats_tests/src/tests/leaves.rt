@@ -3,7 +3,12 @@ use crate::tests::{compose, read, refusal, unwrap};
 use octseq::compose::ComposeError;
 use octseq::{Array, AsOctets, Malformed, Parser, Turns};
 use octseq_asserts::assert_equal;
-use octseq_format::{Bits, Case, Counted, Either, Exactly, Flag, Format, I8, I16Be, I16Le, I32Be, I32Le, I64Be, I64Le, I128Be, I128Le, Last, Low, Octets, Optional, Others, Repeated, Tagged, Test, Text, U8, U16Be, U16Le, U24Be, U24Le, U32Be, U32Le, U48Be, U48Le, U64Be, U64Le, U128Be, U128Le, Where, ZeroEnded, append_all, parse_many};
+use octseq_format::{
+    Bits, Case, Counted, Either, Exactly, Flag, Format, I8, I16Be, I16Le, I32Be, I32Le, I64Be,
+    I64Le, I128Be, I128Le, Last, Low, Octets, Optional, Others, Repeated, Tagged, Test, Text, U8,
+    U16Be, U16Le, U24Be, U24Le, U32Be, U32Le, U48Be, U48Le, U64Be, U64Le, U128Be, U128Le, Where,
+    ZeroEnded, append_all, parse_many,
+};
 use std::alloc::AllocGlobal;
 use std::fmt::Debug;
 use std::process::Abort;

@@ -3,7 +3,7 @@ use crate::tests::{append, compose, unwrap};
 use octseq::compose::ComposeError;
 use octseq::{Array, AsOctets, Malformed, OctetsBuilder, Parser};
 use octseq_asserts::assert_equal;
-use octseq_format::{Counted, Format, Of, Rest, Times, U16Be, U8};
+use octseq_format::{Counted, Format, Of, Rest, Times, U8, U16Be};
 use octseq_formats::ntp::Ntp;
 use octseq_formats::tftp::Packet;
 
