@@ -1,6 +1,7 @@
 -- Reading octets that are a message stops at their end.
 use Rattle.std.proofs.Common.{◌≡◌, ◌+◌, ◌≤◌, ℕ, List, length, inl, inr, refl, sym, ap, ◌∙◌, subst, arith}
 use Rattle.octseq.specs.Window.{Window, left, past, at, whole}
+use Rattle.octseq_format.proofs.Parts.{part_of_counted}
 use Rattle.octseq_bgp.specs.Entry.{Entry, IsEntry, IsCounted}
 use Rattle.octseq_bgp.specs.Fills.{Whole, Fills}
 use Rattle.octseq_bgp.specs.Message.{Message, IsBody, IsMessage, IsNotification, IsRouteRefresh}
@@ -14,10 +15,10 @@ use Rattle.octseq_bgp.specs.declared.session.SessionConfig.{SessionConfig}
 -- octets after their length that end with a window
 counted_end : (k : ℕ) (w inside : Window) → 1 ≤ k → Whole (IsCounted k) w inside → w.end ≡ inside.end
 counted_end k w inside some is =
-    let counted = is.1 in
+    let counted = part_of_counted k w inside is.0 is.1 in
     let room = counted.0.0 in
-    let fits = counted.0.2 in
-    let here = ap (λ (x : Window). x.end) counted.1.0 in
+    let fits = counted.0.1 in
+    let here = ap (λ (x : Window). x.end) counted.1 in
     let there = ap left counted.2 in
     let ends = is.2 in
     omega (arith, some, room, fits, here, there, ends)
@@ -37,7 +38,7 @@ parameters_end w row (HasParameters.long long marks is fills) =
 
 -- they have at least one octet
 parameters_some : (w : Window) (row : List Entry) → HasParameters w row → 1 ≤ left w
-parameters_some w row (HasParameters.short _ inside is _) = is.1.0.0
+parameters_some w row (HasParameters.short _ inside is _) = is.1.2.0
 parameters_some w row (HasParameters.long long _ _ _) = let two = long.0 in omega (arith, two)
 
 open_end : (w : Window) (o : Open) → IsOpen w o → OpenStop w w.end
@@ -55,6 +56,10 @@ open_end w o is =
 
 -- ---- UPDATE
 
+-- the window past octets after their length has the same end
+same_end : (k : ℕ) (w inside v : Window) → IsCounted k w inside v → v.end ≡ w.end
+same_end k w inside v is = ap (λ (x : Window). x.end) (part_of_counted k w inside v is).2
+
 update_end : (s : SessionConfig) (w : Window) (u : Update) → IsUpdate s w u → UpdateStop s w w.end
 update_end s w u is =
     let f = prefix_form s family.Ipv4Unicast in
@@ -62,7 +67,7 @@ update_end s w u is =
     let announced : Fills (IsEntry f) parts.2.0 is.announced.0 =
     subst (λ x. Fills (IsEntry f) x is.announced.0) parts.2.2.0 is.announced.1 in
     let ends : w.end ≡ parts.2.0.end =
-    sym (ap (λ (x : Window). x.end) parts.2.1.2 ∙ ap (λ (x : Window). x.end) parts.1.2) in
+    sym (same_end 2 parts.0 is.parts.1.0 parts.2.0 parts.2.1 ∙ same_end 2 w is.parts.0 parts.0 parts.1) in
     inl (
       is.parts.0,
       parts.0,

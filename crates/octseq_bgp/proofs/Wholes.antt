@@ -1,6 +1,7 @@
 -- A window is filled by at most one value, and what is read of it has no more octets.
 use Rattle.std.proofs.Common.{◌≡◌, ℕ, ◌+◌, ◌≤◌, List, map, sym, ap, ◌∙◌, arith}
 use Rattle.octseq.specs.Window.{Window, left}
+use Rattle.octseq_format.proofs.Parts.{part_of_counted}
 use Rattle.octseq_format.specs.Laws.{Relation, IsOne}
 use Rattle.octseq_format.specs.Row.{one_to}
 use Rattle.octseq_bgp.specs.Entry.{Entry, IsCounted, IsEntry}
@@ -24,7 +25,8 @@ one_nlri f w row others a b = a.2 ∙ ap (map (nlri_in f)) (one_fills f w a.0 b.
 -- octets after their length, and what follows them, aren't more than the window has
 pub counted_left : (k : ℕ) (w inside v : Window) → IsCounted k w inside v → left inside + left v ≤ left w
 counted_left k w inside v is =
-    let here = ap left is.1.0 in
-    let there = ap left is.2 in
-    let room = is.0 in
+    let part = part_of_counted k w inside v is in
+    let here = ap left part.1 in
+    let there = ap left part.2 in
+    let room = part.0 in
     omega (arith, here, there, room)

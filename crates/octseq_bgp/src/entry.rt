@@ -10,7 +10,7 @@ ghost use Rattle.octseq_bgp.specs.Fills.{Fills};
 ghost use Rattle.octseq_bgp.specs.OneEntry.{EntriesAhead, entries_once};
 
 use octseq::{AsOctets, Malformed, Parser, Turns};
-use octseq_format::{Counted, Format, Rest, U16Be, U32Be, U8};
+use octseq_format::{Counted, Format, Rest, U8, U16Be, U32Be};
 use std::alloc::AllocError;
 
 /// The form of an entry.

@@ -14,7 +14,7 @@ use crate::open::is_long;
 use crate::session::SessionConfig;
 use crate::whole::parse_all;
 use octseq::{AsOctets, Parser};
-use octseq_format::{Counted, Format, Length, Rest, U16Be};
+use octseq_format::{Be, Counted, Format, Rest, U16Be, Width};
 
 /// Reading stops at one place.
 ///
@@ -95,10 +95,10 @@ fn place_in_parameters<R: AsOctets + Copy>(parser: Parser<R>) -> usize
 }
 
 /// Returns the position where reading stops in entries with their length before them.
-fn place_in_counted<R: AsOctets + Copy, L: Length>(parser: Parser<R>, form: Form) -> usize
+fn place_in_counted<R: AsOctets + Copy, L: Width>(parser: Parser<R>, form: Form) -> usize
     ensures { CountedStop L.width form (window parser) result }
 {
-    match parse_all::<R, Counted<L, Rest, 0>>(parser) {
+    match parse_all::<R, Counted<Be<L>, Rest, 0>>(parser) {
         Ok(inside) => place_in_entries(inside, form),
         Err(_) => parser.pos(),
     }

@@ -31,6 +31,19 @@ fn read<F: Format<R>, R: AsOctets + Copy>(rt: &(impl AllocGlobal + Abort), octet
     value
 }
 
+/// Checks what a whole slice says by a format, and that it is written back.
+fn is_said<'a, F: Format<&'a [u8]>>(
+    rt: &(impl AllocGlobal + Abort),
+    octets: &'a [u8],
+    wanted: F::Value,
+)
+where
+    F::Value: PartialEq + Debug,
+{
+    let value = read::<F, &[u8]>(rt, octets);
+    assert_equal!(rt, value, wanted);
+}
+
 /// Returns the error of octets that aren't a value, or `None`.
 fn refusal<F: Format<R>, R: AsOctets + Copy>(octets: R) -> Option<Malformed> {
     F::parse_whole(octets).err()
@@ -53,10 +66,12 @@ fn compose<F: Format<R>, R: AsOctets + Copy, B: EmptyBuilder + Truncate>(
 }
 
 mod dhcp;
+mod families;
 mod keyed;
 mod leaves;
 mod limits;
 mod ntp;
+mod numbers;
 mod refused;
 mod tftp;
 mod tls;

@@ -5,9 +5,10 @@ use Rattle.std.specs.Coded.{Coded, Coded-set, coded_list, le_prop}
 use mathlib.Core.HLevel.{⊥_prop}
 use Rattle.octseq.specs.Integer.{be}
 use Rattle.octseq.specs.Window.{Window, left}
+use Rattle.octseq_format.specs.Counted.{Times}
 use Rattle.octseq_format.specs.Fixed.{onward_fixed}
 use Rattle.octseq_format.specs.Laws.{Relation, NoneAt, IsOne, IsMoving}
-use Rattle.octseq_format.specs.Row.{Row, Many, Times}
+use Rattle.octseq_format.specs.Row.{Row, Many}
 use Rattle.octseq_bgp.specs.Entry.{IsEntry, IsNumber}
 use Rattle.octseq_bgp.specs.Fills.{Whole, Fills}
 use Rattle.octseq_bgp.specs.declared.entry.Form.TheVariants as form
@@ -137,8 +138,7 @@ parts_left paths w parts v is =
 -- a count, followed by that many values
 pub times_of : {A : Type 0} (Is : Relation A) (w u v : Window) (count : ℕ) (row : List A) → IsNumber 2 w count u
     → Many count Is u row v → Times 2 Is w row v
-times_of Is w u v count row number many =
-    (number.0, (many.0 ∙ number.1, subst (λ x. Row Is x row v) number.2 many.1))
+times_of Is w u v count row number many = (count, u, number, many)
 
 -- if octets are left after a value, no such value fills the window
 pub not_whole : {A : Type 0} (Is : Relation A) → IsOne Is → (w v : Window) (a : A) → Is w a v → 0 < left v → (b : A)

@@ -2,10 +2,10 @@
 use Rattle.std.proofs.Common.{◌≡◌, ℕ, Bool, true, false, Option, List, if◌then◌else◌, nat_eq, refl, sym, ap, ◌∙◌, subst}
 use mathlib.Core.Logic.{inl, inr}
 use Rattle.octseq.specs.Window.{Window, whole}
+use Rattle.octseq_format.specs.Counted.{Times, one_times}
 use Rattle.octseq_format.specs.Laws.{Relation, IsOne, one_by}
 use Rattle.octseq_format.specs.Pair.{◌then◌, ◌one_then◌}
 use Rattle.octseq_format.specs.Rest.{one_rest}
-use Rattle.octseq_format.specs.Row.{Times, one_times}
 use Rattle.octseq_bgp.specs.Entry.{IsNumber, IsCounted, IsPrefix}
 use Rattle.octseq_bgp.specs.Family.{afi_of}
 use Rattle.octseq_bgp.specs.OneEntry.{one_number, one_octets, one_next, one_deciding, one_prefix}

@@ -1,9 +1,9 @@
 -- The peer index table: RFC 6396, 4.3.1.
 use Rattle.std.specs.Prelude.{◌/◌, ◌%◌, Bool, if◌then◌else◌, nat_eq, ℕ, List}
 use Rattle.octseq.specs.Window.{Window}
+use Rattle.octseq_format.specs.Counted.{Times}
 use Rattle.octseq_format.specs.Laws.{Relation}
 use Rattle.octseq_format.specs.Pair.{◌then◌}
-use Rattle.octseq_format.specs.Row.{Times}
 use Rattle.octseq_bgp.specs.Entry.{IsNumber, IsCounted, ◌deciding◌}
 use Rattle.octseq_bgp.specs.Fills.{Whole}
 use Rattle.octseq_bgp.specs.Path.{asn_size}

@@ -2,9 +2,9 @@
 -- ids).
 use Rattle.std.specs.Prelude.{◌≡◌, ◌⊎◌, Bool, true, false, ℕ, Option, Some, None, List}
 use Rattle.octseq.specs.Window.{Window, left}
+use Rattle.octseq_format.specs.Counted.{Times}
 use Rattle.octseq_format.specs.Laws.{Relation}
 use Rattle.octseq_format.specs.Pair.{◌then◌}
-use Rattle.octseq_format.specs.Row.{Times}
 use Rattle.octseq_bgp.specs.Entry.{Entry, IsEntry, IsNumber, IsCounted, IsPrefix}
 use Rattle.octseq_bgp.specs.Family.{afi_of}
 use Rattle.octseq_bgp.specs.Fills.{Whole, Fills}

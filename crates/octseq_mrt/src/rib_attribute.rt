@@ -13,7 +13,7 @@ ghost use Rattle.octseq_mrt.specs.Rib.{rib_session, is_next_hop_size, IsNextHopA
 use octseq::{AsOctets, Malformed, Parser, Turns};
 use octseq_bgp::whole::parse_all;
 use octseq_bgp::{AttributeValue, Flags, PathAttribute, SessionConfig};
-use octseq_format::{Counted, Format, Rest, U16Be, U8};
+use octseq_format::{Counted, Format, Rest, U8, U16Be};
 use std::alloc::AllocError;
 
 /// A type, and octets with a length of one octet before them.

@@ -2,7 +2,7 @@
 use crate::tests::{read, refusal, unwrap};
 use octseq::AsOctets;
 use octseq_asserts::{assert_equal, assert_true};
-use octseq_format::{Either, Of, Walk};
+use octseq_format::{Of, OneOf2, Walk};
 use octseq_formats::dhcp::{Bootp, DhcpOption};
 use std::alloc::AllocGlobal;
 use std::process::Abort;
@@ -49,7 +49,7 @@ fn is_packet<R: AsOctets + Copy>(
     assert_equal!(rt, (transaction, flags), (wanted.0, wanted.1));
     assert_equal!(rt, &hardware[..6], wanted.2.as_slice());
     match vendor {
-        Some(Either::This(walk)) => has_options(rt, walk, options),
+        Some(OneOf2::First(walk)) => has_options(rt, walk, options),
         _ => assert_equal!(rt, "no options", "options"),
     }
 }

@@ -1,30 +1,14 @@
 //! Each format once: octets, and what they say.
-use crate::tests::{compose, read, refusal, unwrap};
+use crate::tests::{compose, is_said, refusal, unwrap};
 use octseq::compose::ComposeError;
 use octseq::{Array, AsOctets, Malformed, Parser, Turns};
 use octseq_asserts::assert_equal;
 use octseq_format::{
-    Bits, Case, Counted, Either, Exactly, Flag, Format, I8, I16Be, I16Le, I32Be, I32Le, I64Be,
-    I64Le, I128Be, I128Le, Last, Low, Octets, Optional, Others, Repeated, Tagged, Test, Text, U8,
-    U16Be, U16Le, U24Be, U24Le, U32Be, U32Le, U48Be, U48Le, U64Be, U64Le, U128Be, U128Le, Where,
+    Bits, Case, Counted, Exactly, Flag, Format, I8, I16Be, I16Le, I32Be, I32Le, I64Be, I64Le,
+    I128Be, I128Le, Low, Octets, OneOf2, Optional, Others, Repeated, Tagged, Test, Text, U8, U16Be,
+    U16Le, U24Be, U24Le, U32Be, U32Le, U48Be, U48Le, U64Be, U64Le, U128Be, U128Le, Where,
     ZeroEnded, append_all, parse_many,
 };
-use std::alloc::AllocGlobal;
-use std::fmt::Debug;
-use std::process::Abort;
-
-/// Checks what a whole slice says by a format, and that it is written back.
-fn is_said<'a, F: Format<&'a [u8]>>(
-    rt: &(impl AllocGlobal + Abort),
-    octets: &'a [u8],
-    wanted: F::Value,
-)
-where
-    F::Value: PartialEq + Debug,
-{
-    let value = read::<F, &[u8]>(rt, octets);
-    assert_equal!(rt, value, wanted);
-}
 
 #[test]
 fn integers_are_big_endian(rt: HostRuntime) {
@@ -221,13 +205,13 @@ fn what_is_said_in_one_way_is_copied(rt: HostRuntime) {
 
 #[test]
 fn a_tag_tells_what_comes(rt: HostRuntime) {
-    is_said::<Tagged<U8, Case<1, U8, Others<U16Be>>>>(&rt, b"\x01\x07", Either::This(7));
-    is_said::<Tagged<U8, Case<1, U8, Others<U16Be>>>>(&rt, b"\x02\0\x07", Either::Other((2, 7)));
-    is_said::<Tagged<U8, Case<1, U8, Last<2, U16Be>>>>(&rt, b"\x02\0\x07", Either::Other(7));
-    let refused = refusal::<Tagged<U8, Case<1, U8, Last<2, U16Be>>>, &[u8]>(b"\x03\0\x07");
+    is_said::<Tagged<U8, (Case<1, U8>, Others<U16Be>)>>(&rt, b"\x01\x07", OneOf2::First(7));
+    is_said::<Tagged<U8, (Case<1, U8>, Others<U16Be>)>>(&rt, b"\x02\0\x07", OneOf2::Second((2, 7)));
+    is_said::<Tagged<U8, (Case<1, U8>, Case<2, U16Be>)>>(&rt, b"\x02\0\x07", OneOf2::Second(7));
+    let refused = refusal::<Tagged<U8, (Case<1, U8>, Case<2, U16Be>)>, &[u8]>(b"\x03\0\x07");
     assert_equal!(&rt, refused, Some(Malformed));
-    let value = Either::Other((1, 7));
-    let written: Result<Vec<u8>, _> = compose::<Tagged<U8, Case<1, U8, Others<U16Be>>>, &[u8], _>(
+    let value = OneOf2::Second((1, 7));
+    let written: Result<Vec<u8>, _> = compose::<Tagged<U8, (Case<1, U8>, Others<U16Be>)>, &[u8], _>(
         rt.alloc(),
         &value,
     );
