@@ -41,8 +41,8 @@ pub mod widths;
 
 pub use answer::{And, Answer, No, Or, Yes};
 pub use bits::{BitFields, Bits, Flag, KeyBits, Low};
-pub use choice::{OneOf2, OneOf3, OneOf4, OneOf5};
 pub use checked::{Checked, Checksum};
+pub use choice::{OneOf2, OneOf3, OneOf4, OneOf5};
 pub use compact_size::CompactSize;
 pub use conditional::If;
 pub use der::DerLength;

@@ -6,7 +6,6 @@ pub mod bitcoin;
 pub mod cbor;
 pub mod dhcp;
 pub mod mqtt;
-pub mod msgpack;
 pub mod ntp;
 pub mod protobuf;
 pub mod quic;

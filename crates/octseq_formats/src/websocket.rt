@@ -1,5 +1,5 @@
 //! Frames of WebSocket: RFC 6455, 5.2 and 5.5.
-ghost use Rattle.std.specs.Prelude.{◌≡◌, ◌≤◌, ◌/◌, ◌%◌, nat_le, if◌then◌else◌};
+ghost use Rattle.std.specs.Prelude.{◌≡◌, ◌≤◌, ◌+◌, ◌*◌, ◌/◌, ◌%◌, nat_le, if◌then◌else◌};
 
 use octseq_format::{
     Any, Case, Counted, Itself, Key, Keyed, Octets, Reckoning, Rest, Sized, Test, Then, Through,

@@ -2,7 +2,7 @@
 use crate::tests::{read, refusal, unwrap};
 use octseq::AsOctets;
 use octseq_asserts::{assert_equal, assert_true};
-use octseq_format::{Of, OneOf2, Walk};
+use octseq_format::OneOf2;
 use octseq_formats::dhcp::{Bootp, DhcpOption};
 use std::alloc::AllocGlobal;
 use std::process::Abort;
@@ -17,27 +17,6 @@ fn packet(rt: &(impl AllocGlobal + Abort), first: &[u8], options: &[u8]) -> Vec<
     octets
 }
 
-/// Compares options: their codes and octets. Padding is 0, the end 255.
-fn has_options<R: AsOctets + Copy>(
-    rt: &impl Abort,
-    options: Walk<R, Of<DhcpOption<R>>>,
-    wanted: &[(usize, &[u8])],
-) {
-    assert_equal!(rt, options.len(), wanted.len());
-    let mut options = options;
-    for &(code, octets) in wanted {
-        match options.next() {
-            Some(DhcpOption::Other(other, value)) => {
-                assert_equal!(rt, other, code);
-                assert_equal!(rt, value.peek_all(), octets);
-            }
-            Some(DhcpOption::Pad) => assert_equal!(rt, 0, code),
-            Some(DhcpOption::End) => assert_equal!(rt, 255, code),
-            None => assert_equal!(rt, "no option", "an option"),
-        }
-    }
-}
-
 /// Reads a packet, checks that it is written back, and compares it.
 fn is_packet<R: AsOctets + Copy>(
     rt: &(impl AllocGlobal + Abort),
@@ -48,9 +27,21 @@ fn is_packet<R: AsOctets + Copy>(
     let (_, (transaction, _, flags), _, hardware, _, _, vendor) = read::<Bootp<R>, R>(rt, octets);
     assert_equal!(rt, (transaction, flags), (wanted.0, wanted.1));
     assert_equal!(rt, &hardware[..6], wanted.2.as_slice());
-    match vendor {
-        Some(OneOf2::First(walk)) => has_options(rt, walk, options),
-        _ => assert_equal!(rt, "no options", "options"),
+    let Some(OneOf2::First(walk)) = vendor else {
+        return assert_equal!(rt, "no options", "options");
+    };
+    assert_equal!(rt, walk.len(), options.len());
+    let mut walk = walk;
+    for &(code, octets) in options {
+        match walk.next() {
+            Some(DhcpOption::Other(other, value)) => {
+                assert_equal!(rt, other, code);
+                assert_equal!(rt, value.peek_all(), octets);
+            }
+            Some(DhcpOption::Pad) => assert_equal!(rt, 0, code),
+            Some(DhcpOption::End) => assert_equal!(rt, 255, code),
+            None => assert_equal!(rt, "no option", "an option"),
+        }
     }
 }
 

@@ -4,7 +4,7 @@ use crate::tests::{read, unwrap};
 use octseq::AsOctets;
 use octseq_asserts::assert_true;
 use octseq_format::Format;
-use octseq_formats::{bitcoin, cbor, dhcp, mqtt, msgpack, protobuf, quic, socks5, wasm, websocket};
+use octseq_formats::{bitcoin, cbor, dhcp, mqtt, protobuf, quic, socks5, wasm, websocket};
 use std::alloc::AllocGlobal;
 use std::process::Abort;
 
@@ -25,6 +25,16 @@ fn is_refused<F: Format<R>, R: AsOctets + Copy>(rt: &impl Abort, octets: R) {
     assert_true!(rt, refused);
 }
 
+/// Reads and writes back a packet.
+fn bitcoin_message<R: AsOctets + Copy>(rt: &(impl AllocGlobal + Abort), octets: R) {
+    let _packet = read::<bitcoin::Message, R>(rt, octets);
+}
+
+/// Checks that the octets are no packet.
+fn no_bitcoin_message<R: AsOctets + Copy>(rt: &impl Abort, octets: R) {
+    is_refused::<bitcoin::Message, R>(rt, octets);
+}
+
 #[test]
 fn bitcoin_message_packets(rt: HostRuntime) {
     let packets: [&[u8]; 2] = [
@@ -35,9 +45,9 @@ fn bitcoin_message_packets(rt: HostRuntime) {
         b"\xF9\xBE\xB4\xD9verack\x00\x00\x00\x00\x00\x00\x00\x00\x00\x00]\xF6\xE0\xE2",
     ];
     for octets in packets {
-        let _packet = read::<bitcoin::Message, &[u8]>(&rt, octets);
+        bitcoin_message(&rt, octets);
         for len in 0..octets.len() {
-            is_refused::<bitcoin::Message, &[u8]>(&rt, &octets[..len]);
+            no_bitcoin_message(&rt, &octets[..len]);
         }
     }
     let malformed: [&[u8]; 1] = [
@@ -45,8 +55,23 @@ fn bitcoin_message_packets(rt: HostRuntime) {
           \xA6cIs>\xBEHd!",
     ];
     for octets in malformed {
-        is_refused::<bitcoin::Message, &[u8]>(&rt, octets);
+        no_bitcoin_message(&rt, octets);
     }
+}
+
+/// Reads and writes back a packet.
+fn bitcoin<R: AsOctets + Copy>(rt: &(impl AllocGlobal + Abort), octets: R) {
+    let _packet = read::<bitcoin::Transaction, R>(rt, octets);
+}
+
+/// Checks that the octets are no packet.
+fn no_bitcoin<R: AsOctets + Copy>(rt: &impl Abort, octets: R) {
+    is_refused::<bitcoin::Transaction, R>(rt, octets);
+}
+
+/// Checks that a packet is written in fewer octets.
+fn shorter_bitcoin<R: AsOctets + Copy>(rt: &(impl AllocGlobal + Abort), octets: R, len: usize) {
+    is_shortened::<bitcoin::Transaction, R>(rt, octets, len);
 }
 
 #[test]
@@ -69,9 +94,9 @@ fn bitcoin_packets(rt: HostRuntime) {
           \x86\xD0/\xF8\xE32\x8B\xBD\x02B\xB2\x0A\xF3BY\x90\xAC\x00\x00\x00\x00",
     ];
     for octets in packets {
-        let _packet = read::<bitcoin::Transaction, &[u8]>(&rt, octets);
+        bitcoin(&rt, octets);
         for len in 0..octets.len() {
-            is_refused::<bitcoin::Transaction, &[u8]>(&rt, &octets[..len]);
+            no_bitcoin(&rt, &octets[..len]);
         }
     }
     let longer: [&[u8]; 1] = [
@@ -84,7 +109,7 @@ fn bitcoin_packets(rt: HostRuntime) {
           \x0B\x8DW\x8ALp+k\xF1\x1D_\xAC\x00\x00\x00\x00",
     ];
     for octets in longer {
-        is_shortened::<bitcoin::Transaction, &[u8]>(&rt, octets, octets.len());
+        shorter_bitcoin(&rt, octets, octets.len());
     }
     let malformed: [&[u8]; 2] = [
         b"\x01\x00\x00\x00\x01\x00\x00\x00\x00\x00\x00\x00\x00\x00\x00\x00\x00\x00\x00\x00\
@@ -103,8 +128,18 @@ fn bitcoin_packets(rt: HostRuntime) {
           \x8ALp+k\xF1\x1D_\xAC\x00\x00\x00\x00",
     ];
     for octets in malformed {
-        is_refused::<bitcoin::Transaction, &[u8]>(&rt, octets);
+        no_bitcoin(&rt, octets);
     }
+}
+
+/// Reads and writes back a packet.
+fn dhcp<R: AsOctets + Copy>(rt: &(impl AllocGlobal + Abort), octets: R) {
+    let _packet = read::<dhcp::Packet, R>(rt, octets);
+}
+
+/// Checks that the octets are no packet.
+fn no_dhcp<R: AsOctets + Copy>(rt: &impl Abort, octets: R) {
+    is_refused::<dhcp::Packet, R>(rt, octets);
 }
 
 #[test]
@@ -151,7 +186,7 @@ fn dhcp_packets(rt: HostRuntime) {
           \x00\x00\x00\x00\x00\x00c\x82Sc5\x01\x054\x01\x01\xFF",
     ];
     for octets in packets {
-        let _packet = read::<dhcp::Packet, &[u8]>(&rt, octets);
+        dhcp(&rt, octets);
     }
     let malformed: [&[u8]; 2] = [
         b"\x01\x01\x06\x00\xFA\x95\x0F(\x00\x00\x00\x00\x00\x00\x00\x00\x00\x00\x00\x00\
@@ -182,8 +217,23 @@ fn dhcp_packets(rt: HostRuntime) {
           \x06abc",
     ];
     for octets in malformed {
-        is_refused::<dhcp::Packet, &[u8]>(&rt, octets);
+        no_dhcp(&rt, octets);
     }
+}
+
+/// Reads and writes back a packet.
+fn mqtt<R: AsOctets + Copy>(rt: &(impl AllocGlobal + Abort), octets: R) {
+    let _packet = read::<mqtt::Packet, R>(rt, octets);
+}
+
+/// Checks that the octets are no packet.
+fn no_mqtt<R: AsOctets + Copy>(rt: &impl Abort, octets: R) {
+    is_refused::<mqtt::Packet, R>(rt, octets);
+}
+
+/// Checks that a packet is written in fewer octets.
+fn shorter_mqtt<R: AsOctets + Copy>(rt: &(impl AllocGlobal + Abort), octets: R, len: usize) {
+    is_shortened::<mqtt::Packet, R>(rt, octets, len);
 }
 
 #[test]
@@ -197,14 +247,14 @@ fn mqtt_packets(rt: HostRuntime) {
         b"\x82\x18\x00\x01\x00\x0Broom/+/heat\x02\x00\x05alarm\x02",
     ];
     for octets in packets {
-        let _packet = read::<mqtt::Packet, &[u8]>(&rt, octets);
+        mqtt(&rt, octets);
         for len in 0..octets.len() {
-            is_refused::<mqtt::Packet, &[u8]>(&rt, &octets[..len]);
+            no_mqtt(&rt, &octets[..len]);
         }
     }
     let longer: [&[u8]; 1] = [b"0\x85\x80\x00\x00\x01axy"];
     for octets in longer {
-        is_shortened::<mqtt::Packet, &[u8]>(&rt, octets, octets.len());
+        shorter_mqtt(&rt, octets, octets.len());
     }
     let malformed: [&[u8]; 3] = [
         b"\x10,\x00\x04MQTT\x04\xEE\x00<\x00\x01b\x00\x04gon",
@@ -213,8 +263,23 @@ fn mqtt_packets(rt: HostRuntime) {
           \x00\x00\x00\x00\x00\x00\x00",
     ];
     for octets in malformed {
-        is_refused::<mqtt::Packet, &[u8]>(&rt, octets);
+        no_mqtt(&rt, octets);
     }
+}
+
+/// Reads and writes back a packet.
+fn protobuf<R: AsOctets + Copy>(rt: &(impl AllocGlobal + Abort), octets: R) {
+    let _packet = read::<protobuf::Message, R>(rt, octets);
+}
+
+/// Checks that the octets are no packet.
+fn no_protobuf<R: AsOctets + Copy>(rt: &impl Abort, octets: R) {
+    is_refused::<protobuf::Message, R>(rt, octets);
+}
+
+/// Checks that a packet is written in fewer octets.
+fn shorter_protobuf<R: AsOctets + Copy>(rt: &(impl AllocGlobal + Abort), octets: R, len: usize) {
+    is_shortened::<protobuf::Message, R>(rt, octets, len);
 }
 
 #[test]
@@ -228,16 +293,31 @@ fn protobuf_packets(rt: HostRuntime) {
         b"\x09\x9A\x99\x99\x99\x99\x99\xF1?",
     ];
     for octets in packets {
-        let _packet = read::<protobuf::Message, &[u8]>(&rt, octets);
+        protobuf(&rt, octets);
     }
     let longer: [&[u8]; 1] = [b"\x08\x96\x81\x80\x00"];
     for octets in longer {
-        is_shortened::<protobuf::Message, &[u8]>(&rt, octets, octets.len());
+        shorter_protobuf(&rt, octets, octets.len());
     }
     let malformed: [&[u8]; 2] = [b"\x08\x96", b"\x12\x07test"];
     for octets in malformed {
-        is_refused::<protobuf::Message, &[u8]>(&rt, octets);
+        no_protobuf(&rt, octets);
     }
+}
+
+/// Reads and writes back a packet.
+fn quic<R: AsOctets + Copy>(rt: &(impl AllocGlobal + Abort), octets: R) {
+    let _packet = read::<quic::LongHeader, R>(rt, octets);
+}
+
+/// Checks that the octets are no packet.
+fn no_quic<R: AsOctets + Copy>(rt: &impl Abort, octets: R) {
+    is_refused::<quic::LongHeader, R>(rt, octets);
+}
+
+/// Checks that a packet is written in fewer octets.
+fn shorter_quic<R: AsOctets + Copy>(rt: &(impl AllocGlobal + Abort), octets: R, len: usize) {
+    is_shortened::<quic::LongHeader, R>(rt, octets, len);
 }
 
 #[test]
@@ -252,7 +332,7 @@ fn quic_packets(rt: HostRuntime) {
           \x89\x18P\xAB\xBD\xCA= 9\x8C'dV\xCB\xC4!X@}\xD0t\xEE",
     ];
     for octets in packets {
-        let _packet = read::<quic::LongHeader, &[u8]>(&rt, octets);
+        quic(&rt, octets);
     }
     let longer: [&[u8]; 2] = [
         b"\xCC\x00\x00\x00\x01\x12\x00\xD1J-\x08n;\xB7Am%\x06\x87\x02\xA7\xD1\x8E\xD0\x14\
@@ -303,7 +383,7 @@ fn quic_packets(rt: HostRuntime) {
           \xA5\xA7\xF6=D\xB0ny\x0B\xC1n!\x9D\xDB*\xBA\x19\xA4o\x0B\x81\xBF\xB5?2O\xD3Q\x8F",
     ];
     for octets in longer {
-        is_shortened::<quic::LongHeader, &[u8]>(&rt, octets, octets.len());
+        shorter_quic(&rt, octets, octets.len());
     }
     let malformed: [&[u8]; 2] = [
         b"\xC0\x00\x00\x00\x01\x15$\x02\x8E\xEB>\xAA\xE2\xBD\xDC\xFC^~\xE3\xAC\x0Em\xBD_\
@@ -312,23 +392,43 @@ fn quic_packets(rt: HostRuntime) {
           X\xB02\xA8\xAD\x1E\x98$6\xF9?/\x87\xB9)\xC5\x87\x01ki@m\xF7-\xD8",
     ];
     for octets in malformed {
-        is_refused::<quic::LongHeader, &[u8]>(&rt, octets);
+        no_quic(&rt, octets);
     }
+}
+
+/// Reads and writes back a packet.
+fn socks5_methods<R: AsOctets + Copy>(rt: &(impl AllocGlobal + Abort), octets: R) {
+    let _packet = read::<socks5::Methods, R>(rt, octets);
+}
+
+/// Checks that the octets are no packet.
+fn no_socks5_methods<R: AsOctets + Copy>(rt: &impl Abort, octets: R) {
+    is_refused::<socks5::Methods, R>(rt, octets);
 }
 
 #[test]
 fn socks5_methods_packets(rt: HostRuntime) {
     let packets: [&[u8]; 1] = [b"\x05\x02\x00\x01"];
     for octets in packets {
-        let _packet = read::<socks5::Methods, &[u8]>(&rt, octets);
+        socks5_methods(&rt, octets);
         for len in 0..octets.len() {
-            is_refused::<socks5::Methods, &[u8]>(&rt, &octets[..len]);
+            no_socks5_methods(&rt, &octets[..len]);
         }
     }
     let malformed: [&[u8]; 1] = [b"\x05\x03\x00\x01"];
     for octets in malformed {
-        is_refused::<socks5::Methods, &[u8]>(&rt, octets);
+        no_socks5_methods(&rt, octets);
     }
+}
+
+/// Reads and writes back a packet.
+fn socks5_request<R: AsOctets + Copy>(rt: &(impl AllocGlobal + Abort), octets: R) {
+    let _packet = read::<socks5::Request, R>(rt, octets);
+}
+
+/// Checks that the octets are no packet.
+fn no_socks5_request<R: AsOctets + Copy>(rt: &impl Abort, octets: R) {
+    is_refused::<socks5::Request, R>(rt, octets);
 }
 
 #[test]
@@ -340,9 +440,9 @@ fn socks5_request_packets(rt: HostRuntime) {
           \x00\x09",
     ];
     for octets in packets {
-        let _packet = read::<socks5::Request, &[u8]>(&rt, octets);
+        socks5_request(&rt, octets);
         for len in 0..octets.len() {
-            is_refused::<socks5::Request, &[u8]>(&rt, &octets[..len]);
+            no_socks5_request(&rt, &octets[..len]);
         }
     }
     let malformed: [&[u8]; 2] = [
@@ -350,8 +450,18 @@ fn socks5_request_packets(rt: HostRuntime) {
         b"\x05\x01\x00\x02\x7F\x00\x00\x01F\xA0",
     ];
     for octets in malformed {
-        is_refused::<socks5::Request, &[u8]>(&rt, octets);
+        no_socks5_request(&rt, octets);
     }
+}
+
+/// Reads and writes back a packet.
+fn socks5_reply<R: AsOctets + Copy>(rt: &(impl AllocGlobal + Abort), octets: R) {
+    let _packet = read::<socks5::Reply, R>(rt, octets);
+}
+
+/// Checks that the octets are no packet.
+fn no_socks5_reply<R: AsOctets + Copy>(rt: &impl Abort, octets: R) {
+    is_refused::<socks5::Reply, R>(rt, octets);
 }
 
 #[test]
@@ -361,11 +471,26 @@ fn socks5_reply_packets(rt: HostRuntime) {
         b"\x05\x05\x00\x01\x00\x00\x00\x00\x00\x00",
     ];
     for octets in packets {
-        let _packet = read::<socks5::Reply, &[u8]>(&rt, octets);
+        socks5_reply(&rt, octets);
         for len in 0..octets.len() {
-            is_refused::<socks5::Reply, &[u8]>(&rt, &octets[..len]);
+            no_socks5_reply(&rt, &octets[..len]);
         }
     }
+}
+
+/// Reads and writes back a packet.
+fn wasm<R: AsOctets + Copy>(rt: &(impl AllocGlobal + Abort), octets: R) {
+    let _packet = read::<wasm::Module, R>(rt, octets);
+}
+
+/// Checks that the octets are no packet.
+fn no_wasm<R: AsOctets + Copy>(rt: &impl Abort, octets: R) {
+    is_refused::<wasm::Module, R>(rt, octets);
+}
+
+/// Checks that a packet is written in fewer octets.
+fn shorter_wasm<R: AsOctets + Copy>(rt: &(impl AllocGlobal + Abort), octets: R, len: usize) {
+    is_shortened::<wasm::Module, R>(rt, octets, len);
 }
 
 #[test]
@@ -378,7 +503,7 @@ fn wasm_packets(rt: HostRuntime) {
         b"\x00asm\x01\x00\x00\x00",
     ];
     for octets in packets {
-        let _packet = read::<wasm::Module, &[u8]>(&rt, octets);
+        wasm(&rt, octets);
     }
     let longer: [&[u8]; 1] = [
         b"\x00asm\x01\x00\x00\x00\x01\x87\x80\x80\x80\x00\x01`\x02\x7F\x7F\x01\x7F\x03\x82\
@@ -386,7 +511,7 @@ fn wasm_packets(rt: HostRuntime) {
           \x80\x80\x00\x01\x87\x80\x80\x80\x00\x00 \x00 \x01j\x0B",
     ];
     for octets in longer {
-        is_shortened::<wasm::Module, &[u8]>(&rt, octets, octets.len());
+        shorter_wasm(&rt, octets, octets.len());
     }
     let malformed: [&[u8]; 3] = [
         b"\x00asm\x01\x00\x00\x00\x01\x07\x01`\x02\x7F\x7F\x01\x7F\x03\x02\x01\x00\x07\x07\
@@ -396,8 +521,18 @@ fn wasm_packets(rt: HostRuntime) {
         b"\x00asm\x01\x00\x00\x00\x01\x87\x80\x80\x80\x80\x00\x00",
     ];
     for octets in malformed {
-        is_refused::<wasm::Module, &[u8]>(&rt, octets);
+        no_wasm(&rt, octets);
     }
+}
+
+/// Reads and writes back a packet.
+fn websocket<R: AsOctets + Copy>(rt: &(impl AllocGlobal + Abort), octets: R) {
+    let _packet = read::<websocket::Frame, R>(rt, octets);
+}
+
+/// Checks that the octets are no packet.
+fn no_websocket<R: AsOctets + Copy>(rt: &impl Abort, octets: R) {
+    is_refused::<websocket::Frame, R>(rt, octets);
 }
 
 #[test]
@@ -425,9 +560,9 @@ fn websocket_packets(rt: HostRuntime) {
         b"\x81\xFE\x00\x05\x11\"3DYG_(~",
     ];
     for octets in packets {
-        let _packet = read::<websocket::Frame, &[u8]>(&rt, octets);
+        websocket(&rt, octets);
         for len in 0..octets.len() {
-            is_refused::<websocket::Frame, &[u8]>(&rt, &octets[..len]);
+            no_websocket(&rt, &octets[..len]);
         }
     }
     let malformed: [&[u8]; 3] = [
@@ -442,8 +577,18 @@ fn websocket_packets(rt: HostRuntime) {
           \x00\x00\x00\x00\x00\x00\x00\x00\x00\x00\x00\x00",
     ];
     for octets in malformed {
-        is_refused::<websocket::Frame, &[u8]>(&rt, octets);
+        no_websocket(&rt, octets);
     }
+}
+
+/// Reads and writes back a packet.
+fn cbor<R: AsOctets + Copy>(rt: &(impl AllocGlobal + Abort), octets: R) {
+    let _packet = read::<cbor::Items, R>(rt, octets);
+}
+
+/// Checks that the octets are no packet.
+fn no_cbor<R: AsOctets + Copy>(rt: &impl Abort, octets: R) {
+    is_refused::<cbor::Items, R>(rt, octets);
 }
 
 #[test]
@@ -465,31 +610,10 @@ fn cbor_packets(rt: HostRuntime) {
         b"\x1B\x00\x00\x00\x00\x00\x00\x00\x01",
     ];
     for octets in packets {
-        let _packet = read::<cbor::Items, &[u8]>(&rt, octets);
+        cbor(&rt, octets);
     }
     let malformed: [&[u8]; 2] = [b"Z\xFF\xFF\xFF\xFF\x00", b"\x1C"];
     for octets in malformed {
-        is_refused::<cbor::Items, &[u8]>(&rt, octets);
-    }
-}
-
-#[test]
-fn msgpack_packets(rt: HostRuntime) {
-    let packets: [&[u8]; 6] = [
-        b"\x82\xA7compact\xC3\xA6schema\x00",
-        b"\x9B\x01\xFF\x7F\xCC\x80\xE0\xD0\xDF\xCD\xFF\xFF\xCE\x00\x01\x00\x00\xD2\x80\x00\
-          \x00\x00\xCF\x80\x00\x00\x00\x00\x00\x00\x00\xD3\x80\x00\x00\x00\x00\x00\x00\x00",
-        b"\x94\xA0\xA1a\xBFxxxxxxxxxxxxxxxxxxxxxxxxxxxxxxx\xD9 xxxxxxxxxxxxxxxxxxxxxxxxxxx\
-          xxxxx",
-        b"\xC4\x02\x00\x01",
-        b"\x93\xCB?\xF8\x00\x00\x00\x00\x00\x00\xC0\xC2",
-        b"\xCD\x00\x05",
-    ];
-    for octets in packets {
-        let _packet = read::<msgpack::Items, &[u8]>(&rt, octets);
-    }
-    let malformed: [&[u8]; 2] = [b"\xC1", b"\xDA\x01\x00abc"];
-    for octets in malformed {
-        is_refused::<msgpack::Items, &[u8]>(&rt, octets);
+        no_cbor(&rt, octets);
     }
 }
