@@ -1,145 +1,48 @@
 //! Packets of curl, scapy, mosquitto, kdig, protobuf and wabt, and the first transaction of Bitcoin, as tshark 4.0.17,
 //! wasm-validate and python3-bitcoinlib read them. Malformed ones are refused by these.
-use crate::tests::{read, unwrap};
+use crate::tests::unwrap;
 use octseq::AsOctets;
-use octseq_asserts::assert_true;
+use octseq_asserts::{assert_equal, assert_true};
 use octseq_format::Format;
-use octseq_formats::{bitcoin, cbor, dhcp, mqtt, protobuf, quic, socks5, wasm, websocket};
+use octseq_formats::{dhcp, protobuf, socks5};
 use std::alloc::AllocGlobal;
 use std::process::Abort;
 
-/// Reads a packet that has a shorter encoding, and checks that it is written in fewer octets.
-fn is_shortened<F: Format<R>, R: AsOctets + Copy>(
+/// Reads a packet and writes it again. Returns `None` if the octets are malformed.
+fn rewritten<F: Format<R>, R: AsOctets + Copy>(
     rt: &(impl AllocGlobal + Abort),
     octets: R,
-    len: usize,
-) {
-    let value = unwrap(rt, F::parse_whole(octets));
-    let written: Vec<u8> = unwrap(rt, F::compose_whole(rt.alloc(), &value));
-    assert_true!(rt, written.len() < len);
+) -> Option<Vec<u8>> {
+    let Ok(value) = F::parse_whole(octets) else {
+        return None;
+    };
+    Some(unwrap(rt, F::compose_whole(rt.alloc(), &value)))
 }
 
-/// Checks that the octets are no packet.
-fn is_refused<F: Format<R>, R: AsOctets + Copy>(rt: &impl Abort, octets: R) {
-    let refused = F::parse_whole(octets).is_err();
-    assert_true!(rt, refused);
-}
-
-/// Reads and writes back a packet.
-fn bitcoin_message<R: AsOctets + Copy>(rt: &(impl AllocGlobal + Abort), octets: R) {
-    let _packet = read::<bitcoin::Message, R>(rt, octets);
-}
-
-/// Checks that the octets are no packet.
-fn no_bitcoin_message<R: AsOctets + Copy>(rt: &impl Abort, octets: R) {
-    is_refused::<bitcoin::Message, R>(rt, octets);
-}
-
-#[test]
-fn bitcoin_message_packets(rt: HostRuntime) {
-    let packets: [&[u8]; 2] = [
-        b"\xF9\xBE\xB4\xD9inv\x00\x00\x00\x00\x00\x00\x00\x00\x00I\x00\x00\x00\xDAp\x1D\
-          \xD8\x02\x01\x00\x00\x00\xDF\xA13>\x7F?\xE1\x03\x0F\xB3s^\xE3y\x03\x84\xB7u\xB0\
-          \x9E\xF9\x09l\xFF\x80)\x18\x933\xBB\x1E\xC6\x02\x00\x00\x00\x99\xF1d\x8FG\x19\
-          \xBF7)\xF5wF(\xCEI\xCA\x0Bw\xD3\x92*\x83\xE5\xC5\x1D\xC4so\xD6\xBD\x8C\x8E",
-        b"\xF9\xBE\xB4\xD9verack\x00\x00\x00\x00\x00\x00\x00\x00\x00\x00]\xF6\xE0\xE2",
-    ];
-    for octets in packets {
-        bitcoin_message(&rt, octets);
-        for len in 0..octets.len() {
-            no_bitcoin_message(&rt, &octets[..len]);
-        }
-    }
-    let malformed: [&[u8]; 1] = [
-        b"\xF9\xBE\xB4\xD9ping\x00\x00\x00\x00\x00\x00\x00\x00\x09\x00\x00\x00\xA8\xB4\x12\
-          \xA6cIs>\xBEHd!",
-    ];
-    for octets in malformed {
-        no_bitcoin_message(&rt, octets);
+/// Checks that a packet was written as these octets.
+fn is_same(rt: &impl Abort, written: Option<Vec<u8>>, octets: &[u8]) {
+    match written {
+        Some(written) => assert_equal!(rt, written.as_slice(), octets),
+        None => assert_equal!(rt, "malformed", "a packet"),
     }
 }
 
-/// Reads and writes back a packet.
-fn bitcoin<R: AsOctets + Copy>(rt: &(impl AllocGlobal + Abort), octets: R) {
-    let _packet = read::<bitcoin::Transaction, R>(rt, octets);
-}
-
-/// Checks that the octets are no packet.
-fn no_bitcoin<R: AsOctets + Copy>(rt: &impl Abort, octets: R) {
-    is_refused::<bitcoin::Transaction, R>(rt, octets);
-}
-
-/// Checks that a packet is written in fewer octets.
-fn shorter_bitcoin<R: AsOctets + Copy>(rt: &(impl AllocGlobal + Abort), octets: R, len: usize) {
-    is_shortened::<bitcoin::Transaction, R>(rt, octets, len);
-}
-
-#[test]
-fn bitcoin_packets(rt: HostRuntime) {
-    let packets: [&[u8]; 2] = [
-        b"\x01\x00\x00\x00\x01\x00\x00\x00\x00\x00\x00\x00\x00\x00\x00\x00\x00\x00\x00\x00\
-          \x00\x00\x00\x00\x00\x00\x00\x00\x00\x00\x00\x00\x00\x00\x00\x00\x00\xFF\xFF\xFF\
-          \xFFM\x04\xFF\xFF\x00\x1D\x01\x04EThe Times 03/Jan/2009 Chancellor on brink of s\
-          econd bailout for banks\xFF\xFF\xFF\xFF\x01\x00\xF2\x05*\x01\x00\x00\x00CA\x04g\
-          \x8A\xFD\xB0\xFEUH'\x19g\xF1\xA6q0\xB7\x10\\\xD6\xA8(\xE09\x09\xA6yb\xE0\xEA\x1F\
-          a\xDE\xB6I\xF6\xBC?L\xEF8\xC4\xF3U\x04\xE5\x1E\xC1\x12\xDE\\8M\xF7\xBA\x0B\x8DW\
-          \x8ALp+k\xF1\x1D_\xAC\x00\x00\x00\x00",
-        b"\x01\x00\x00\x00\x00\x01\x01\x15\xE1\x80\xDC(\xA22~h\x7F\xAC\xC3?\x10\xF2\xA2\
-          \x0D\xA7\x17\xE5T\x84\x06\xF7\xAE\x8BL\x81\x10r\xF8V\x01\x00\x00\x00\x00\xFF\xFF\
-          \xFF\xFF\x01\x00\xB4\xF5\x05\x00\x00\x00\x00\x19v\xA9\x14\x1D|\xD6\xC7\\.\x86\
-          \xF4\xCB\xF9\x8E\xAE\xD2!\xB3\x0B\xD9\xA0\xB9(\x88\xAC\x02H0E\x02!\x00\xDF{~\\\
-          \xDA\x14\xDD\xF9\x12\x90\xE0.\xA1\x07\x86\xE0>\xB1\x1E\xE3n\xC0-\xD8b\xFE\x9A2k\
-          \xBC\xB7\xFD\x02 ?[D\x96\xB6g\xE6\xE2\x81\xCCeJ-\xA9\xE4\xF0\x86`\xC6 \xA1\x05\
-          \x137\xFA\x89e\xF7'\xEB\x19\x19\x01!\x03\x82b\xA6\xC6\xCE\xC9<->\xCDl`r\xEF\xEA\
-          \x86\xD0/\xF8\xE32\x8B\xBD\x02B\xB2\x0A\xF3BY\x90\xAC\x00\x00\x00\x00",
-    ];
-    for octets in packets {
-        bitcoin(&rt, octets);
-        for len in 0..octets.len() {
-            no_bitcoin(&rt, &octets[..len]);
-        }
-    }
-    let longer: [&[u8]; 1] = [
-        b"\x01\x00\x00\x00\xFD\x01\x00\x00\x00\x00\x00\x00\x00\x00\x00\x00\x00\x00\x00\x00\
-          \x00\x00\x00\x00\x00\x00\x00\x00\x00\x00\x00\x00\x00\x00\x00\x00\x00\x00\x00\xFF\
-          \xFF\xFF\xFFM\x04\xFF\xFF\x00\x1D\x01\x04EThe Times 03/Jan/2009 Chancellor on br\
-          ink of second bailout for banks\xFF\xFF\xFF\xFF\x01\x00\xF2\x05*\x01\x00\x00\x00\
-          CA\x04g\x8A\xFD\xB0\xFEUH'\x19g\xF1\xA6q0\xB7\x10\\\xD6\xA8(\xE09\x09\xA6yb\xE0\
-          \xEA\x1Fa\xDE\xB6I\xF6\xBC?L\xEF8\xC4\xF3U\x04\xE5\x1E\xC1\x12\xDE\\8M\xF7\xBA\
-          \x0B\x8DW\x8ALp+k\xF1\x1D_\xAC\x00\x00\x00\x00",
-    ];
-    for octets in longer {
-        shorter_bitcoin(&rt, octets, octets.len());
-    }
-    let malformed: [&[u8]; 2] = [
-        b"\x01\x00\x00\x00\x01\x00\x00\x00\x00\x00\x00\x00\x00\x00\x00\x00\x00\x00\x00\x00\
-          \x00\x00\x00\x00\x00\x00\x00\x00\x00\x00\x00\x00\x00\x00\x00\x00\x00\xFF\xFF\xFF\
-          \xFFM\x04\xFF\xFF\x00\x1D\x01\x04EThe Times 03/Jan/2009 Chancellor on brink of s\
-          econd bailout for banks\xFF\xFF\xFF\xFF\x01\x00\xF2\x05*\x01\x00\x00\x00CA\x04g\
-          \x8A\xFD\xB0\xFEUH'\x19g\xF1\xA6q0\xB7\x10\\\xD6\xA8(\xE09\x09\xA6yb\xE0\xEA\x1F\
-          a\xDE\xB6I\xF6\xBC?L\xEF8\xC4\xF3U\x04\xE5\x1E\xC1\x12\xDE\\8M\xF7\xBA\x0B\x8DW\
-          \x8ALp+k\xF1\x1D_\xAC\x00\x00",
-        b"\x01\x00\x00\x00\xC8\x00\x00\x00\x00\x00\x00\x00\x00\x00\x00\x00\x00\x00\x00\x00\
-          \x00\x00\x00\x00\x00\x00\x00\x00\x00\x00\x00\x00\x00\x00\x00\x00\x00\xFF\xFF\xFF\
-          \xFFM\x04\xFF\xFF\x00\x1D\x01\x04EThe Times 03/Jan/2009 Chancellor on brink of s\
-          econd bailout for banks\xFF\xFF\xFF\xFF\x01\x00\xF2\x05*\x01\x00\x00\x00CA\x04g\
-          \x8A\xFD\xB0\xFEUH'\x19g\xF1\xA6q0\xB7\x10\\\xD6\xA8(\xE09\x09\xA6yb\xE0\xEA\x1F\
-          a\xDE\xB6I\xF6\xBC?L\xEF8\xC4\xF3U\x04\xE5\x1E\xC1\x12\xDE\\8M\xF7\xBA\x0B\x8DW\
-          \x8ALp+k\xF1\x1D_\xAC\x00\x00\x00\x00",
-    ];
-    for octets in malformed {
-        no_bitcoin(&rt, octets);
+/// Checks that a packet was written in fewer octets.
+fn is_shorter(rt: &impl Abort, written: Option<Vec<u8>>, len: usize) {
+    match written {
+        Some(written) => assert_true!(rt, written.len() < len),
+        None => assert_equal!(rt, "malformed", "a packet"),
     }
 }
 
-/// Reads and writes back a packet.
-fn dhcp<R: AsOctets + Copy>(rt: &(impl AllocGlobal + Abort), octets: R) {
-    let _packet = read::<dhcp::Packet, R>(rt, octets);
+/// Checks that octets were refused.
+fn is_refused(rt: &impl Abort, written: Option<Vec<u8>>) {
+    assert_true!(rt, written.is_none());
 }
 
-/// Checks that the octets are no packet.
-fn no_dhcp<R: AsOctets + Copy>(rt: &impl Abort, octets: R) {
-    is_refused::<dhcp::Packet, R>(rt, octets);
+/// Reads and writes a packet again.
+fn dhcp_again<R: AsOctets + Copy>(rt: &(impl AllocGlobal + Abort), octets: R) -> Option<Vec<u8>> {
+    rewritten::<dhcp::Packet, R>(rt, octets)
 }
 
 #[test]
@@ -186,7 +89,7 @@ fn dhcp_packets(rt: HostRuntime) {
           \x00\x00\x00\x00\x00\x00c\x82Sc5\x01\x054\x01\x01\xFF",
     ];
     for octets in packets {
-        dhcp(&rt, octets);
+        is_same(&rt, dhcp_again(&rt, octets), octets);
     }
     let malformed: [&[u8]; 2] = [
         b"\x01\x01\x06\x00\xFA\x95\x0F(\x00\x00\x00\x00\x00\x00\x00\x00\x00\x00\x00\x00\
@@ -217,69 +120,16 @@ fn dhcp_packets(rt: HostRuntime) {
           \x06abc",
     ];
     for octets in malformed {
-        no_dhcp(&rt, octets);
+        is_refused(&rt, dhcp_again(&rt, octets));
     }
 }
 
-/// Reads and writes back a packet.
-fn mqtt<R: AsOctets + Copy>(rt: &(impl AllocGlobal + Abort), octets: R) {
-    let _packet = read::<mqtt::Packet, R>(rt, octets);
-}
-
-/// Checks that the octets are no packet.
-fn no_mqtt<R: AsOctets + Copy>(rt: &impl Abort, octets: R) {
-    is_refused::<mqtt::Packet, R>(rt, octets);
-}
-
-/// Checks that a packet is written in fewer octets.
-fn shorter_mqtt<R: AsOctets + Copy>(rt: &(impl AllocGlobal + Abort), octets: R, len: usize) {
-    is_shortened::<mqtt::Packet, R>(rt, octets, len);
-}
-
-#[test]
-fn mqtt_packets(rt: HostRuntime) {
-    let packets: [&[u8]; 5] = [
-        b"\x10\x18\x00\x04MQTT\x04\x02\x00<\x00\x0Csub-mqttv311",
-        b"\x10,\x00\x04MQTT\x04\xEE\x00<\x00\x01b\x00\x04gone\x00\x09b is gone\x00\x04user\
-          \x00\x06secret",
-        b"0\x11\x00\x0Broom/1/heat21.5",
-        b"2\x11\x00\x0Broom/2/heat\x00\x0119",
-        b"\x82\x18\x00\x01\x00\x0Broom/+/heat\x02\x00\x05alarm\x02",
-    ];
-    for octets in packets {
-        mqtt(&rt, octets);
-        for len in 0..octets.len() {
-            no_mqtt(&rt, &octets[..len]);
-        }
-    }
-    let longer: [&[u8]; 1] = [b"0\x85\x80\x00\x00\x01axy"];
-    for octets in longer {
-        shorter_mqtt(&rt, octets, octets.len());
-    }
-    let malformed: [&[u8]; 3] = [
-        b"\x10,\x00\x04MQTT\x04\xEE\x00<\x00\x01b\x00\x04gon",
-        b"0\x11\x10\x0Broom/1/heat21.5",
-        b"0\xFF\xFF\xFF\xFF\x01\x00\x00\x00\x00\x00\x00\x00\x00\x00\x00\x00\x00\x00\x00\
-          \x00\x00\x00\x00\x00\x00\x00",
-    ];
-    for octets in malformed {
-        no_mqtt(&rt, octets);
-    }
-}
-
-/// Reads and writes back a packet.
-fn protobuf<R: AsOctets + Copy>(rt: &(impl AllocGlobal + Abort), octets: R) {
-    let _packet = read::<protobuf::Message, R>(rt, octets);
-}
-
-/// Checks that the octets are no packet.
-fn no_protobuf<R: AsOctets + Copy>(rt: &impl Abort, octets: R) {
-    is_refused::<protobuf::Message, R>(rt, octets);
-}
-
-/// Checks that a packet is written in fewer octets.
-fn shorter_protobuf<R: AsOctets + Copy>(rt: &(impl AllocGlobal + Abort), octets: R, len: usize) {
-    is_shortened::<protobuf::Message, R>(rt, octets, len);
+/// Reads and writes a packet again.
+fn protobuf_again<R: AsOctets + Copy>(
+    rt: &(impl AllocGlobal + Abort),
+    octets: R,
+) -> Option<Vec<u8>> {
+    rewritten::<protobuf::Message, R>(rt, octets)
 }
 
 #[test]
@@ -293,142 +143,47 @@ fn protobuf_packets(rt: HostRuntime) {
         b"\x09\x9A\x99\x99\x99\x99\x99\xF1?",
     ];
     for octets in packets {
-        protobuf(&rt, octets);
+        is_same(&rt, protobuf_again(&rt, octets), octets);
     }
     let longer: [&[u8]; 1] = [b"\x08\x96\x81\x80\x00"];
     for octets in longer {
-        shorter_protobuf(&rt, octets, octets.len());
+        is_shorter(&rt, protobuf_again(&rt, octets), octets.len());
     }
     let malformed: [&[u8]; 2] = [b"\x08\x96", b"\x12\x07test"];
     for octets in malformed {
-        no_protobuf(&rt, octets);
+        is_refused(&rt, protobuf_again(&rt, octets));
     }
 }
 
-/// Reads and writes back a packet.
-fn quic<R: AsOctets + Copy>(rt: &(impl AllocGlobal + Abort), octets: R) {
-    let _packet = read::<quic::LongHeader, R>(rt, octets);
-}
-
-/// Checks that the octets are no packet.
-fn no_quic<R: AsOctets + Copy>(rt: &impl Abort, octets: R) {
-    is_refused::<quic::LongHeader, R>(rt, octets);
-}
-
-/// Checks that a packet is written in fewer octets.
-fn shorter_quic<R: AsOctets + Copy>(rt: &(impl AllocGlobal + Abort), octets: R, len: usize) {
-    is_shortened::<quic::LongHeader, R>(rt, octets, len);
-}
-
-#[test]
-fn quic_packets(rt: HostRuntime) {
-    let packets: [&[u8]; 2] = [
-        b"\xFF\x00\x00\x00\x01\x00\x08\xF0g\xA5P*Bb\xB5token\x04\xA2e\xBA.\xFFM\x82\x90X\
-          \xFB?\x0F$\x96\xBA",
-        b"\xCF\x00\x00\x00\x01\x00\x08\xF0g\xA5P*Bb\xB5\x00@u\xC0\xD9ZH,\xD0\x99\x1C\xD2[\
-          \x0A\xAC@jX\x16\xB69A\x00\xF3z\x1CiyuTx\x0B\xB3\x8C\xC5\xA9\x9F^\xDEL\xF7<>\xC2I\
-          :\x189\xB3\xDB\xCB\xA3\xF6\xEAF\xC5\xB7hM\xF3T\x8E}\xDE\xB9\xC3\xBF\x9Cs\xCC?;\
-          \xDE\xD7KV+\xFB\x19\xFB\x84\x02/\x8E\xF4\xCD\xD97\x95\xD7}\x06\xED\xBBz\xAF/X\
-          \x89\x18P\xAB\xBD\xCA= 9\x8C'dV\xCB\xC4!X@}\xD0t\xEE",
-    ];
-    for octets in packets {
-        quic(&rt, octets);
-    }
-    let longer: [&[u8]; 2] = [
-        b"\xCC\x00\x00\x00\x01\x12\x00\xD1J-\x08n;\xB7Am%\x06\x87\x02\xA7\xD1\x8E\xD0\x14\
-          \xCDP\xE2\x00\x08\xD4\xC1eG\x82\xA2\x91V\xEB)?\x902u\xE9\x00\x80\x00\x04~c\xE2\
-          \x0E\xEA\xCAk\xE4)goF\xA2\x9FW {\xA2:\x01-\x080\xDA\xE0V\xE2()M\xD4\xB6\x82\x1BA\
-          #\x14\xFE\xA1\x1D,\x0B\xB4P\xC6p\xBA\xC3>\xA0\xC0\xB0\x080\xBE\xDD\x1A\xCC>f\xDA\
-          \x1AJ\x86\xB4\xC41B\xFDs\xFDW\xD7VJ\x16\xF3\xD5\xF6^\xD1:\xA9\xAFN\xE0\xB3(\x1F\
-          \xEC\xF3\xF9R.\x0CkOle\xE5\xC3\xA4Nd&\x97\xD8i\x88G\xD6\x89o\xA9\xE2\xA0\xD1\x08\
-          ;\x1F\xF4)K*\x1B:No\x82\x8B\x0E\xC4\xF1\x06\xA5\xEE\x88,2\xD49,\xFD\xE9B\x11\x03\
-          q\xE0\xC1\x97\x14\xFA\xD2\x8B{\xAF\xD3l:^\xB1\xBB7\x1F\xFF\xF1&\xFB\xB9)\xCFUX'\
-          \xDC\x07\\\x02\x8F\xD3\xA0$\x16\xB6\xE4.&I\xC1pt\xDA\x93\xC3:\xFD\x89\x9A\x11\
-          \xFCg\xDB@\xAF\xC2m)\x8E\xC2\x16\xFB\xC1 \x892$\xC6\xA6\xD7pKh\xC2l\xFF\xAF\xEE\
-          \x11\xDB]\x82Pe&~]0Q`s!\xFE%\x04\x86EN\xEB\x9D%\x11\x08C\xDD\xF7\xF1\x0EB\xAEgd\
-          \xF2\x07b\xFA\x98a\x86b)f\xF29\xAD\xC3\x9B{3\xEB9MP\xC7\xC1\x0C\xCC\xCD\xB7\x8C9\
-          \x92Za\xFE\xC3yF\xF9\xF9v\xF7\xE6\xF8\xEC\xC7])\xD1\xAAv\x09\xC5\xB2i:\xE4\xD8\
-          \x18\xC7\x81+\x9C\xAD\xDE\xAF\x83n\xB3\xAC:[\xCF\xF6\\z\x8C\x9D\x11>\xEE\xDB-\
-          \xAF\x13B\x94\xD2\x97FhH\xC4\xA3\xD9\xDA\x9B\xD6\xD2\xC5@\x90{%\xBE\x08\x8Et\x98\
-          \x18E\xEF_\xE8A\x8A\\c\xEA(\x0D\xA8F\xFCe\xF4s\x96\xE8\x9F\x1Ca\x90c\x80\x94\x9C\
-          \x9F\xBC\x09\x03\x05%\x0F\xE4\xBA9\xA6\xD2\xABh\x89\xAD\x90\x94\x15\xA9\x01\x98\
-          \xA9 \xAA\xC5\x92\x17\x9B\x14\x1C\xEBe\xD7\x85\xB9q1\x18\x04\xE4rq\xB9S(\x07\xAD\
-          \xC1\x82~E\x19kg~\xA9\x81\x86\xCF\xF1\x9E\x9A]\xD6\xA7^\xF2\xBE\x1E\x80mC\xBF\
-          \xA7\x8E\x84\x12\xB1*T\x9E+\x0E?\xB13Wy^\x86+ES\xEE\xACM\xDC\x0AQ\xBB\x99\xEBq\
-          \x94-\x13f\xD2\xD6\xD8\xCD\xF7ud\xCB\xB6\x14\x88\xD7z\xD8\x01'\xDB\xBD\xE4QYzJQ'\
-          \x81\xC2l\x9Cu\xBF2m\xA0l\x87\xF7i=\xB96\x12T\xB6m\xF2\x89\xD7E\x01N\x98`\xBAJWv\
-          J\xA4\xB9\x81\\F\xDF\x8D\xF1B\xBA7\x0DC\xF0\x1C\xC8\xD6}\x0Ev\xE4\x0FN\xC2\xD7\
-          \xEA\x0Dx\x11\xB6\xB3\x0E7\xC71\x09!_<\xF0q\x07\xB9n\xD1\xDB\x0B]\xB5d\x97\x0AG\
-          \x95G\xBE\x19\x0A\x13Mh@\x18\xFD\xE4\xDC\xF6\x15#\xE5\xF8\xE4\x92\x12\xEDPD(\x95\
-          \xCC\xCF\xBA\x94\xFE\xBDB\xE4rs:\xC9\x88A\x05\x8C:\x14Mg\xCC1\xF7\xA8\xB0\\\xBE\
-          \x03zh\xA2RN\xDE\x01\xD20E\xB1\xDA\x96f?\xF4Y;\x82qO\x1E\xE189L\xA8\xC8F\x1C\x89\
-          \x20\xAFpI\xE6\xE8\xCBD\xC1\xCDt\x18\x03Q\x19\x12\xE3\xDC\xA6\xF9\x93\xE9O\x87=X\
-          \xB5\xC8\xDD\x91\xA5\xC0\x8E=\xF2)\xDA\xAB\x98P\xF4\xFF\xC9B<\xF5EV\xED\x07\xD8\
-          \x7F\xBE\xFA\x82\xB2\x0D\xF6\xC4\x9D~\x1A\xCFR\xEE>\x11\x8F\xF9\x95\x9B\xC2w\x13\
-          \xA9T{\x9Ct/\xCF\xBB`\x86B^\xBB\xE8kU\x0D\x0A\x0A\x904\xA4\x85\xEB\x81\x91H\xDD\
-          \xC4\xC4<s\xF2HZ\x15\xD2\x9D\x04\xB8\xC7X\xA9\xEBR\xFA\x81\xD6\x00\x98\x091+\xC4\
-          \xB1\x99\x9AK\xC1p\x03\xC6.>y\x18e\"\xAA\xD4(\xEB\xE4\xF35\xA9\x8E6\xC3}\x87\x09\
-          \xBD\xC9\xF2\xD04A\"6\xCE\xD3\xBA\x0B\xB2o\x86\xEFV&\x1E\xD5\x1A\x96L\xCD\xDD\
-          \xD2E\xF9]>\x7F\x0Cu\\.z\x19\x8Ez\x02QB)\xC9`@\x85\xE0t\x03e\xB2\x8B\xFA\xCA2shB\
-          \xF6\x11%\x90\x84\xD8\x06b6Z\x16\xFDV!\xD7wq\x81\xAC\x1D\xD3I\xAEx\xD2\xA1\xBE\
-          \xED:\xFC\x0D\xCE\x19\x89\x15.5\x7Fv3\x8FO\xAF\xF4\x9B\xD2$\x16\xAF\xEFG\xF4(H\
-          \xD9i\x9E\x80\xFA\x80\x8BH[\"U-\xF77\xB9\xC6\x0Cfi\x14<Z\x8F\xBF\xA0\x9C\xAE\xC6\
-          \xEA\xB93\xD5\xA6\xA7\x02I\xD9\xAC\x85Ph \xDB~.\x8B\xDA\x9F\x9A\xD7[\xE7z\x8A\
-          \xAF#v\xE3u\x97\x98Ql\\\x09\xE3Y\x8A<\xD2\xDCW\x07h\xE5/\xD8\x96\xA6\xBE\xC4\xA7\
-          \xAD>j_\x80j\xA2[\x95\xB7\xB7\x91_/)M\x05\xA5\xCC\x93\x8Cy\xAF\x0B\xA5\x0B\xD8\
-          \xE1\x04\x12\xCA\x90{l\xADK\xD6-\xEC\xCAy\xC3\xB0\xD4\xDAjS\xDC\xAF\xA2E\xE2W\
-          \xC1\xB5\xE1\xADFA#\xDAzc\xB4\x94\xA5\x9BW\xD7\x9E=\xD1\xBD\x0C\x0F\xB4\x04u\xFE\
-          <w>o)\x940\xC7\xB1\xA3w\xE5\xEEg\xE7\xDD\x1F\xBB#\x18",
-        b"\xEB\x00\x00\x00\x01\x08\xCA`\xF4W$]\x19E\x04\x0F\x93\x12\xE2\x80\x00\x00\x1Ei\
-          \xA5\xA7\xF6=D\xB0ny\x0B\xC1n!\x9D\xDB*\xBA\x19\xA4o\x0B\x81\xBF\xB5?2O\xD3Q\x8F",
-    ];
-    for octets in longer {
-        shorter_quic(&rt, octets, octets.len());
-    }
-    let malformed: [&[u8]; 2] = [
-        b"\xC0\x00\x00\x00\x01\x15$\x02\x8E\xEB>\xAA\xE2\xBD\xDC\xFC^~\xE3\xAC\x0Em\xBD_\
-          \xA8\xB5x\x00\x00\x14]\xEE_]ig\x85\xAE\xF7ww\x02\\\xD5_1\x11\x07\xE4\xD7",
-        b"\xCA\x00\x00\x00\x01\x08=\xA0\xD5A&\xBE\xAC\xD9\x00\x00(\x9A\xAC\xE8\xC1\x0C\x9F\
-          X\xB02\xA8\xAD\x1E\x98$6\xF9?/\x87\xB9)\xC5\x87\x01ki@m\xF7-\xD8",
-    ];
-    for octets in malformed {
-        no_quic(&rt, octets);
-    }
-}
-
-/// Reads and writes back a packet.
-fn socks5_methods<R: AsOctets + Copy>(rt: &(impl AllocGlobal + Abort), octets: R) {
-    let _packet = read::<socks5::Methods, R>(rt, octets);
-}
-
-/// Checks that the octets are no packet.
-fn no_socks5_methods<R: AsOctets + Copy>(rt: &impl Abort, octets: R) {
-    is_refused::<socks5::Methods, R>(rt, octets);
+/// Reads and writes a packet again.
+fn socks5_methods_again<R: AsOctets + Copy>(
+    rt: &(impl AllocGlobal + Abort),
+    octets: R,
+) -> Option<Vec<u8>> {
+    rewritten::<socks5::Methods, R>(rt, octets)
 }
 
 #[test]
 fn socks5_methods_packets(rt: HostRuntime) {
     let packets: [&[u8]; 1] = [b"\x05\x02\x00\x01"];
     for octets in packets {
-        socks5_methods(&rt, octets);
+        is_same(&rt, socks5_methods_again(&rt, octets), octets);
         for len in 0..octets.len() {
-            no_socks5_methods(&rt, &octets[..len]);
+            is_refused(&rt, socks5_methods_again(&rt, &octets[..len]));
         }
     }
     let malformed: [&[u8]; 1] = [b"\x05\x03\x00\x01"];
     for octets in malformed {
-        no_socks5_methods(&rt, octets);
+        is_refused(&rt, socks5_methods_again(&rt, octets));
     }
 }
 
-/// Reads and writes back a packet.
-fn socks5_request<R: AsOctets + Copy>(rt: &(impl AllocGlobal + Abort), octets: R) {
-    let _packet = read::<socks5::Request, R>(rt, octets);
-}
-
-/// Checks that the octets are no packet.
-fn no_socks5_request<R: AsOctets + Copy>(rt: &impl Abort, octets: R) {
-    is_refused::<socks5::Request, R>(rt, octets);
+/// Reads and writes a packet again.
+fn socks5_request_again<R: AsOctets + Copy>(
+    rt: &(impl AllocGlobal + Abort),
+    octets: R,
+) -> Option<Vec<u8>> {
+    rewritten::<socks5::Request, R>(rt, octets)
 }
 
 #[test]
@@ -440,9 +195,9 @@ fn socks5_request_packets(rt: HostRuntime) {
           \x00\x09",
     ];
     for octets in packets {
-        socks5_request(&rt, octets);
+        is_same(&rt, socks5_request_again(&rt, octets), octets);
         for len in 0..octets.len() {
-            no_socks5_request(&rt, &octets[..len]);
+            is_refused(&rt, socks5_request_again(&rt, &octets[..len]));
         }
     }
     let malformed: [&[u8]; 2] = [
@@ -450,18 +205,16 @@ fn socks5_request_packets(rt: HostRuntime) {
         b"\x05\x01\x00\x02\x7F\x00\x00\x01F\xA0",
     ];
     for octets in malformed {
-        no_socks5_request(&rt, octets);
+        is_refused(&rt, socks5_request_again(&rt, octets));
     }
 }
 
-/// Reads and writes back a packet.
-fn socks5_reply<R: AsOctets + Copy>(rt: &(impl AllocGlobal + Abort), octets: R) {
-    let _packet = read::<socks5::Reply, R>(rt, octets);
-}
-
-/// Checks that the octets are no packet.
-fn no_socks5_reply<R: AsOctets + Copy>(rt: &impl Abort, octets: R) {
-    is_refused::<socks5::Reply, R>(rt, octets);
+/// Reads and writes a packet again.
+fn socks5_reply_again<R: AsOctets + Copy>(
+    rt: &(impl AllocGlobal + Abort),
+    octets: R,
+) -> Option<Vec<u8>> {
+    rewritten::<socks5::Reply, R>(rt, octets)
 }
 
 #[test]
@@ -471,149 +224,9 @@ fn socks5_reply_packets(rt: HostRuntime) {
         b"\x05\x05\x00\x01\x00\x00\x00\x00\x00\x00",
     ];
     for octets in packets {
-        socks5_reply(&rt, octets);
+        is_same(&rt, socks5_reply_again(&rt, octets), octets);
         for len in 0..octets.len() {
-            no_socks5_reply(&rt, &octets[..len]);
+            is_refused(&rt, socks5_reply_again(&rt, &octets[..len]));
         }
-    }
-}
-
-/// Reads and writes back a packet.
-fn wasm<R: AsOctets + Copy>(rt: &(impl AllocGlobal + Abort), octets: R) {
-    let _packet = read::<wasm::Module, R>(rt, octets);
-}
-
-/// Checks that the octets are no packet.
-fn no_wasm<R: AsOctets + Copy>(rt: &impl Abort, octets: R) {
-    is_refused::<wasm::Module, R>(rt, octets);
-}
-
-/// Checks that a packet is written in fewer octets.
-fn shorter_wasm<R: AsOctets + Copy>(rt: &(impl AllocGlobal + Abort), octets: R, len: usize) {
-    is_shortened::<wasm::Module, R>(rt, octets, len);
-}
-
-#[test]
-fn wasm_packets(rt: HostRuntime) {
-    let packets: [&[u8]; 3] = [
-        b"\x00asm\x01\x00\x00\x00\x01\x07\x01`\x02\x7F\x7F\x01\x7F\x03\x02\x01\x00\x07\x07\
-          \x01\x03add\x00\x00\x0A\x09\x01\x07\x00 \x00 \x01j\x0B",
-        b"\x00asm\x01\x00\x00\x00\x05\x04\x01\x01\x01\x02\x07\x05\x01\x01m\x02\x00\x0B\x0B\
-          \x01\x00A\x08\x0B\x05hello",
-        b"\x00asm\x01\x00\x00\x00",
-    ];
-    for octets in packets {
-        wasm(&rt, octets);
-    }
-    let longer: [&[u8]; 1] = [
-        b"\x00asm\x01\x00\x00\x00\x01\x87\x80\x80\x80\x00\x01`\x02\x7F\x7F\x01\x7F\x03\x82\
-          \x80\x80\x80\x00\x01\x00\x07\x87\x80\x80\x80\x00\x01\x03add\x00\x00\x0A\x8D\x80\
-          \x80\x80\x00\x01\x87\x80\x80\x80\x00\x00 \x00 \x01j\x0B",
-    ];
-    for octets in longer {
-        shorter_wasm(&rt, octets, octets.len());
-    }
-    let malformed: [&[u8]; 3] = [
-        b"\x00asm\x01\x00\x00\x00\x01\x07\x01`\x02\x7F\x7F\x01\x7F\x03\x02\x01\x00\x07\x07\
-          \x01\x03add\x00\x00\x0A\x09\x01\x07\x00 \x00 ",
-        b"\x00asm\x01\x00\x00\x00\x01\x7F\x01`\x02\x7F\x7F\x01\x7F\x03\x02\x01\x00\x07\x07\
-          \x01\x03add\x00\x00\x0A\x09\x01\x07\x00 \x00 \x01j\x0B",
-        b"\x00asm\x01\x00\x00\x00\x01\x87\x80\x80\x80\x80\x00\x00",
-    ];
-    for octets in malformed {
-        no_wasm(&rt, octets);
-    }
-}
-
-/// Reads and writes back a packet.
-fn websocket<R: AsOctets + Copy>(rt: &(impl AllocGlobal + Abort), octets: R) {
-    let _packet = read::<websocket::Frame, R>(rt, octets);
-}
-
-/// Checks that the octets are no packet.
-fn no_websocket<R: AsOctets + Copy>(rt: &impl Abort, octets: R) {
-    is_refused::<websocket::Frame, R>(rt, octets);
-}
-
-#[test]
-fn websocket_packets(rt: HostRuntime) {
-    let packets: [&[u8]; 7] = [
-        b"\x81\x85\x8DZ\xD8w\xC5?\xB4\x1B\xE2",
-        b"\x81\x05Hello",
-        b"\x82~\x00~\x01\x01\x01\x01\x01\x01\x01\x01\x01\x01\x01\x01\x01\x01\x01\x01\x01\
-          \x01\x01\x01\x01\x01\x01\x01\x01\x01\x01\x01\x01\x01\x01\x01\x01\x01\x01\x01\x01\
-          \x01\x01\x01\x01\x01\x01\x01\x01\x01\x01\x01\x01\x01\x01\x01\x01\x01\x01\x01\x01\
-          \x01\x01\x01\x01\x01\x01\x01\x01\x01\x01\x01\x01\x01\x01\x01\x01\x01\x01\x01\x01\
-          \x01\x01\x01\x01\x01\x01\x01\x01\x01\x01\x01\x01\x01\x01\x01\x01\x01\x01\x01\x01\
-          \x01\x01\x01\x01\x01\x01\x01\x01\x01\x01\x01\x01\x01\x01\x01\x01\x01\x01\x01\x01\
-          \x01\x01\x01\x01\x01\x01\x01\x01\x01",
-        b"\x82\xFE\x00\xC8E\xB5\xED3E\xB4\xEF0A\xB0\xEB4M\xBC\xE78I\xB8\xE3<U\xA4\xFF Q\
-          \xA0\xFB$]\xAC\xF7(Y\xA8\xF3,e\x94\xCF\x10a\x90\xCB\x14m\x9C\xC7\x18i\x98\xC3\
-          \x1Cu\x84\xDF\x00q\x80\xDB\x04}\x8C\xD7\x08y\x88\xD3\x0C\x05\xF4\xAFp\x01\xF0\
-          \xABt\x0D\xFC\xA7x\x09\xF8\xA3|\x15\xE4\xBF`\x11\xE0\xBBd\x1D\xEC\xB7h\x19\xE8\
-          \xB3l%\xD4\x8FP!\xD0\x8BT-\xDC\x87X)\xD8\x83\\5\xC4\x9F@1\xC0\x9BD=\xCC\x97H9\
-          \xC8\x93L\xC54o\xB0\xC10k\xB4\xCD<g\xB8\xC98c\xBC\xD5$\x7F\xA0\xD1 {\xA4\xDD,w\
-          \xA8\xD9(s\xAC\xE5\x14O\x90\xE1\x10K\x94\xED\x1CG\x98\xE9\x18C\x9C\xF5\x04_\x80\
-          \xF1\x00[\x84\xFD\x0CW\x88\xF9\x08S\x8C\x85t/\xF0\x81p+\xF4",
-        b"\x89\x80\xD1\xB8\x87O",
-        b"\x82\x7F\x00\x00\x00\x00\x00\x00\x00\x03abc",
-        b"\x81\xFE\x00\x05\x11\"3DYG_(~",
-    ];
-    for octets in packets {
-        websocket(&rt, octets);
-        for len in 0..octets.len() {
-            no_websocket(&rt, &octets[..len]);
-        }
-    }
-    let malformed: [&[u8]; 3] = [
-        b"\x81\x85\xA4\xF5\x15y\xEC\x90",
-        b"\x82\x7F\xFF\xFF\xFF\xFF\xFF\xFF\xFF\xFF\x00",
-        b"\x89~\x00\x80\x00\x00\x00\x00\x00\x00\x00\x00\x00\x00\x00\x00\x00\x00\x00\x00\
-          \x00\x00\x00\x00\x00\x00\x00\x00\x00\x00\x00\x00\x00\x00\x00\x00\x00\x00\x00\x00\
-          \x00\x00\x00\x00\x00\x00\x00\x00\x00\x00\x00\x00\x00\x00\x00\x00\x00\x00\x00\x00\
-          \x00\x00\x00\x00\x00\x00\x00\x00\x00\x00\x00\x00\x00\x00\x00\x00\x00\x00\x00\x00\
-          \x00\x00\x00\x00\x00\x00\x00\x00\x00\x00\x00\x00\x00\x00\x00\x00\x00\x00\x00\x00\
-          \x00\x00\x00\x00\x00\x00\x00\x00\x00\x00\x00\x00\x00\x00\x00\x00\x00\x00\x00\x00\
-          \x00\x00\x00\x00\x00\x00\x00\x00\x00\x00\x00\x00",
-    ];
-    for octets in malformed {
-        no_websocket(&rt, octets);
-    }
-}
-
-/// Reads and writes back a packet.
-fn cbor<R: AsOctets + Copy>(rt: &(impl AllocGlobal + Abort), octets: R) {
-    let _packet = read::<cbor::Items, R>(rt, octets);
-}
-
-/// Checks that the octets are no packet.
-fn no_cbor<R: AsOctets + Copy>(rt: &impl Abort, octets: R) {
-    is_refused::<cbor::Items, R>(rt, octets);
-}
-
-#[test]
-fn cbor_packets(rt: HostRuntime) {
-    let packets: [&[u8]; 13] = [
-        b"\x19\x03\xE8",
-        b"\x1B\xFF\xFF\xFF\xFF\xFF\xFF\xFF\xFF",
-        b"8c",
-        b"\xFB?\xF1\x99\x99\x99\x99\x99\x9A",
-        b"\xC1\x1AQKg\xB0",
-        b"\xD8\x18EdIETF",
-        b"\x83\x01\x82\x02\x03\x82\x04\x05",
-        b"\x98\x19\x01\x02\x03\x04\x05\x06\x07\x08\x09\x0A\x0B\x0C\x0D\x0E\x0F\x10\x11\x12\
-          \x13\x14\x15\x16\x17\x18\x18\x18\x19",
-        b"\xA2aa\x01ab\x82\x02\x03",
-        b"_B\x01\x02C\x03\x04\x05\xFF",
-        b"\xBFaa\x01ab\x9F\x02\x03\xFF\xFF",
-        b"\x18\x17",
-        b"\x1B\x00\x00\x00\x00\x00\x00\x00\x01",
-    ];
-    for octets in packets {
-        cbor(&rt, octets);
-    }
-    let malformed: [&[u8]; 2] = [b"Z\xFF\xFF\xFF\xFF\x00", b"\x1C"];
-    for octets in malformed {
-        no_cbor(&rt, octets);
     }
 }
