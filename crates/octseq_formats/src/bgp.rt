@@ -1,9 +1,9 @@
-//! BGP UPDATE messages (RFC 4271, 4), with AS numbers of four octets (RFC 6793), as one type.
+//! Prefixes and path attributes of BGP: RFC 4271, 4.3, with AS numbers of four octets (RFC 6793).
 ghost use Rattle.std.specs.Prelude.{◌≡◌, ◌+◌, ◌*◌, ◌/◌, ◌%◌, nat_eq};
 
 use octseq_format::{
-    Any, Case, Counted, Itself, Key, Keyed, Nothing, Octets, Others, Reckoning, Repeated, Rest,
-    Sized, Switch, Tagged, Through, Times, U8, U16Be, U32Be, WithinBy,
+    Any, Case, Itself, Key, Keyed, Nothing, Octets, Reckoning, Repeated, Rest, Sized, Switch,
+    Through, Times, U8, U16Be, U32Be, WithinBy,
 };
 
 /// The type of an attribute: the low octet of its flags and type.
@@ -66,17 +66,3 @@ pub type Attribute = Keyed<
     Key<U16Be, Itself>,
     WithinBy<ExtendedLength, U16Be, U8, Through<AttributeType, AttributeValue>>,
 >;
-
-/// An UPDATE: prefixes that are no longer reachable, attributes, and prefixes that have them.
-pub type Update = (
-    Counted<U16Be, Repeated<Prefix>, 0>,
-    Counted<U16Be, Repeated<Attribute>, 0>,
-    Repeated<Prefix>,
-);
-
-/// A message: a marker of 16 octets, a length that counts all of it, and an UPDATE, a KEEPALIVE, or the octets of a
-/// message of another type.
-pub type Message = (
-    Octets<16>,
-    Counted<U16Be, Tagged<U8, (Case<2, Update>, Case<4, Nothing>, Others<Rest>)>, 18>,
-);
