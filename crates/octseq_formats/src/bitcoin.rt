@@ -1,44 +1,10 @@
-//! Messages of Bitcoin, and transactions with and without witnesses: BIP 144.
+//! Messages of Bitcoin.
 ghost use Rattle.std.specs.Prelude.{◌≡◌, ◌*◌, ◌/◌, ◌%◌, ◌||◌, min, nat_eq, if◌then◌else◌};
 
 use octseq_format::{
-    Any, Case, CompactSize, Counted, Exactly, Itself, Key, Keyed, ManyBy, Octets, Reckoning, Rest,
-    Sized, Test, Then, Through, Times, U8, U32Be, U32Le, U64Be, U64Le, When,
+    CompactSize, Key, Keyed, Octets, Reckoning, Rest, Sized, Test, Through, Times, U32Be, U32Le,
+    U64Be, When,
 };
-
-/// A count in one octet or more. It is written in the fewest.
-pub type Count = Key<CompactSize, Itself>;
-
-/// An input: the hash of a transaction, the index of an output of it, a script and a sequence number.
-pub type Input = (Octets<32>, U32Le, Counted<CompactSize, Rest, 0>, U32Le);
-
-/// An output: a value, and a script.
-pub type Output = (U64Le, Counted<CompactSize, Rest, 0>);
-
-/// A witness: items after their count.
-pub type Witness = Times<CompactSize, Counted<CompactSize, Rest, 0>>;
-
-/// The flag 1, a count of inputs, and as many inputs; outputs; a witness for each input; the lock time.
-pub type WithWitnesses = (
-    Exactly<U8, 1>,
-    Keyed<
-        Count,
-        Then<
-            ManyBy<Input>,
-            Then<Any<Times<CompactSize, Output>>, Then<ManyBy<Witness>, Any<U32Le>>>,
-        >,
-    >,
-);
-
-/// A transaction: its version, and a count of inputs. If it is 0, a flag follows and there are witnesses; otherwise as
-/// many inputs, outputs, and the lock time.
-pub type Transaction = Keyed<
-    (U32Le, Count),
-    (
-        Case<0, WithWitnesses>,
-        Then<ManyBy<Input>, Any<(Times<CompactSize, Output>, U32Le)>>,
-    ),
->;
 
 /// A command by its first eight octets, as a part of a key: 1 for `inv` and `getdata`, otherwise 0.
 #[derive(Debug)]

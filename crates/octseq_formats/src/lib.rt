@@ -3,9 +3,7 @@
 
 pub mod bgp;
 pub mod bitcoin;
-pub mod cbor;
 pub mod dhcp;
-pub mod mqtt;
 pub mod ntp;
 pub mod protobuf;
 pub mod quic;

@@ -1,10 +1,10 @@
-//! Packets of curl, scapy, protobuf, wabt, kdig and python3-websockets, as tshark 4.0.17 and wasm-validate read them.
-//! Malformed ones are refused by these.
+//! Packets of curl, scapy, protobuf, wabt, kdig, python3-bitcoinlib and python3-websockets, as tshark 4.0.17,
+//! wasm-validate and python3-bitcoinlib read them. Malformed ones are refused by these.
 use crate::tests::unwrap;
 use octseq::AsOctets;
 use octseq_asserts::{assert_equal, assert_true};
 use octseq_format::Format;
-use octseq_formats::{dhcp, protobuf, quic, socks5, wasm, websocket};
+use octseq_formats::{bitcoin, dhcp, protobuf, quic, socks5, wasm, websocket};
 use std::alloc::AllocGlobal;
 use std::process::Abort;
 
@@ -38,6 +38,38 @@ fn is_shorter(rt: &impl Abort, written: Option<Vec<u8>>, len: usize) {
 /// Checks that octets were refused.
 fn is_refused(rt: &impl Abort, written: Option<Vec<u8>>) {
     assert_true!(rt, written.is_none());
+}
+
+/// Reads and writes a packet again.
+fn bitcoin_message_again<R: AsOctets + Copy>(
+    rt: &(impl AllocGlobal + Abort),
+    octets: R,
+) -> Option<Vec<u8>> {
+    rewritten::<bitcoin::Message, R>(rt, octets)
+}
+
+#[test]
+fn bitcoin_message_packets(rt: HostRuntime) {
+    let packets: [&[u8]; 2] = [
+        b"\xF9\xBE\xB4\xD9inv\x00\x00\x00\x00\x00\x00\x00\x00\x00I\x00\x00\x00\xDAp\x1D\
+          \xD8\x02\x01\x00\x00\x00\xDF\xA13>\x7F?\xE1\x03\x0F\xB3s^\xE3y\x03\x84\xB7u\xB0\
+          \x9E\xF9\x09l\xFF\x80)\x18\x933\xBB\x1E\xC6\x02\x00\x00\x00\x99\xF1d\x8FG\x19\
+          \xBF7)\xF5wF(\xCEI\xCA\x0Bw\xD3\x92*\x83\xE5\xC5\x1D\xC4so\xD6\xBD\x8C\x8E",
+        b"\xF9\xBE\xB4\xD9verack\x00\x00\x00\x00\x00\x00\x00\x00\x00\x00]\xF6\xE0\xE2",
+    ];
+    for octets in packets {
+        is_same(&rt, bitcoin_message_again(&rt, octets), octets);
+        for len in 0..octets.len() {
+            is_refused(&rt, bitcoin_message_again(&rt, &octets[..len]));
+        }
+    }
+    let malformed: [&[u8]; 1] = [
+        b"\xF9\xBE\xB4\xD9ping\x00\x00\x00\x00\x00\x00\x00\x00\x09\x00\x00\x00\xA8\xB4\x12\
+          \xA6cIs>\xBEHd!",
+    ];
+    for octets in malformed {
+        is_refused(&rt, bitcoin_message_again(&rt, octets));
+    }
 }
 
 /// Reads and writes a packet again.
