@@ -9,4 +9,5 @@ pub mod Nones
 pub mod Parts
 pub mod Quics
 pub mod RowSteps
+pub mod UntilSteps
 pub mod Wholes

@@ -3,6 +3,7 @@ pub mod Bits
 pub mod Canonical
 pub mod Choice
 pub mod CompactSize
+pub mod Conditional
 pub mod Counted
 pub mod Der
 pub mod Ended
@@ -14,6 +15,7 @@ pub mod Keyed
 pub mod Laws
 pub mod Leb128
 pub mod Minimal
+pub mod Nothing
 pub mod Octets
 pub mod OneOf
 pub mod Optional
@@ -25,6 +27,8 @@ pub mod Row
 pub mod Tagged
 pub mod Text
 pub mod Turns
+pub mod Until
 pub mod Varying
 pub mod Walk
 pub mod Where
+pub mod Whole

@@ -5,9 +5,9 @@ use Rattle.octseq_format.specs.declared.choice.OneOf2.{OneOf2}
 use Rattle.octseq_format.specs.declared.choice.OneOf3.{OneOf3}
 use Rattle.octseq_format.specs.declared.choice.OneOf4.{OneOf4}
 use Rattle.octseq_format.specs.declared.choice.OneOf5.{OneOf5}
-use Rattle.octseq_format.specs.declared.choice.OneOf6.{OneOf6}
-use Rattle.octseq_format.specs.declared.choice.OneOf7.{OneOf7}
-use Rattle.octseq_format.specs.declared.choice.OneOf8.{OneOf8}
+use Rattle.octseq_format.specs.declared.wide_choice.OneOf6.{OneOf6}
+use Rattle.octseq_format.specs.declared.wide_choice.OneOf7.{OneOf7}
+use Rattle.octseq_format.specs.declared.wide_choice.OneOf8.{OneOf8}
 
 abbrev pub one_of_2 : {A B S1 S2 : Type 0} → (A → S1) → (B → S2) → OneOf2 A B
     → S1 ⊎ S2

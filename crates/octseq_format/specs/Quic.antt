@@ -81,3 +81,25 @@ read_quic = record { whole = λ n fits. (said n fits).0; back = λ n fits. (said
 
 pub small_quic : (n : ℕ) → QuicFits n → n < 2 ^ 64
 small_quic n fits = omega (arith, fits)
+
+-- ---- the octets of a number, by its size
+
+pub octets_1 : (n : ℕ) → n < 2 ^ 6 → quic_octets n ≡ octets_be 1 (0 + n)
+unfolding quic_octets quic_in
+octets_1 n few = first_of_two _ _ (lt-ltb n (2 ^ 6) few)
+
+pub octets_2 : (n : ℕ) → 2 ^ 6 ≤ n → n < 2 ^ 14 → quic_octets n ≡ octets_be 2 (2 ^ 14 + n)
+unfolding quic_octets quic_in
+octets_2 n large few = second_of_two _ _ (le-ltb n (2 ^ 6) large) ∙ first_of_two _ _ (lt-ltb n (2 ^ 14) few)
+
+pub octets_4 : (n : ℕ) → 2 ^ 14 ≤ n → n < 2 ^ 30 → quic_octets n ≡ octets_be 4 (2 ^ 31 + n)
+unfolding quic_octets quic_in
+octets_4 n large few =
+    second_of_two _ _ (le-ltb n (2 ^ 6) (omega (arith, large))) ∙ second_of_two _ _ (le-ltb n (2 ^ 14) large)
+    ∙ first_of_two _ _ (lt-ltb n (2 ^ 30) few)
+
+pub octets_8 : (n : ℕ) → 2 ^ 30 ≤ n → quic_octets n ≡ octets_be 8 (3 * 2 ^ 62 + n)
+unfolding quic_octets quic_in
+octets_8 n large =
+    second_of_two _ _ (le-ltb n (2 ^ 6) (omega (arith, large)))
+    ∙ second_of_two _ _ (le-ltb n (2 ^ 14) (omega (arith, large))) ∙ second_of_two _ _ (le-ltb n (2 ^ 30) large)

@@ -13,7 +13,7 @@ ghost use Rattle.octseq_format.specs.Tagged.{Tagged, tagged_octets, TaggedFits, 
 ghost use Rattle.octseq_format.specs.Tagged.{delimited_tagged, one_by_switch, onward_by_switch, delimited_by_switch};
 
 use crate::answer::Yes;
-use crate::family::Family;
+use crate::family::{Family, TellsKey};
 use crate::filter::Test;
 use crate::keyed::Reckoning;
 use crate::number::Number;
@@ -333,6 +333,8 @@ pub struct When<T, F> {
     family: PhantomData<F>,
 }
 
+impl<T, F: TellsKey> TellsKey for When<T, F> {}
+
 impl<R: AsOctets + Copy, T: Test, F: Family<R>> Family<R> for When<T, F> {
     type Value = F::Value;
 
@@ -350,7 +352,7 @@ impl<R: AsOctets + Copy, T: Test, F: Family<R>> Family<R> for When<T, F> {
 
     ghost says = { F.says };
 
-    ghost tag = { λ _. 0 };
+    ghost tag = { F.tag };
 
     ghost octets = { F.octets };
 
@@ -391,8 +393,8 @@ impl<R: AsOctets + Copy, T: Test, F: Family<R>> Family<R> for When<T, F> {
     }
 
     #[inline(always)]
-    fn tag_of(_value: &Self::Value) -> Option<usize> {
-        Some(0)
+    fn tag_of(value: &Self::Value) -> Option<usize> {
+        F::tag_of(value)
     }
 
     #[inline(always)]

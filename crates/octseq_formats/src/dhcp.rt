@@ -1,7 +1,10 @@
 //! DHCP: packets of RFC 2131, 2, with the options of RFC 2132.
 
 use octseq::{AsOctets, Parser};
-use octseq_format::{Case, Counted, Fields, Format, Octets, Of, OneOf3, Optional, Others, Repeated, Rest, Tagged, U8, U16Be, U32Be};
+use octseq_format::{
+    Case, Counted, Exactly, Fields, Format, Nothing, Octets, Of, OneOf3, Optional, Others,
+    Repeated, Rest, Tagged, U8, U16Be, U32Be, Until,
+};
 
 /// An option.
 #[derive(Clone, Copy, Debug, Drop)]
@@ -19,7 +22,11 @@ impl<R: AsOctets + Copy> Fields<R> for DhcpOption<R> {
 
     type Format = Tagged<
         U8,
-        (Case<0, Octets<0>>, Case<255, Octets<0>>, Others<Counted<U8, Rest, 0>>),
+        (
+            Case<0, Octets<0>>,
+            Case<255, Octets<0>>,
+            Others<Counted<U8, Rest, 0>>,
+        ),
     >;
 
     ghost fields = { option_fields };
@@ -56,4 +63,19 @@ pub type Bootp<R> = (
     Octets<64>,
     Octets<128>,
     Optional<Vendor<R>>,
+);
+
+/// Options: their codes, and octets after their length. 0 is padding without a length, 255 the end.
+pub type Options = Until<U8, 255, (Case<0, Nothing>, Others<Counted<U8, Rest, 0>>)>;
+
+/// A DHCP packet: the fields of [`Bootp`], the magic cookie, options up to their end, and what follows them.
+pub type Packet = (
+    (U8, U8, U8, U8),
+    (U32Be, U16Be, U16Be),
+    (U32Be, U32Be, U32Be, U32Be),
+    Octets<16>,
+    Octets<64>,
+    Octets<128>,
+    Exactly<U32Be, 0x6382_5363>,
+    (Options, Rest),
 );

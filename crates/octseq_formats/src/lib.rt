@@ -1,7 +1,14 @@
 //! Formats of public standards, written with `octseq_format`, as examples to copy.
 #![tactic(auto)]
 
+pub mod bgp;
+pub mod bitcoin;
 pub mod dhcp;
+pub mod mqtt;
 pub mod ntp;
+pub mod protobuf;
+pub mod quic;
+pub mod socks5;
 pub mod tftp;
 pub mod tls;
+pub mod wasm;

@@ -1,6 +1,8 @@
 //! A TLS record with a ClientHello: RFC 8446, 5.1 and 4.1.2.
 use octseq::{AsOctets, Parser};
-use octseq_format::{Counted, Exactly, Fields, Format, Octets, Of, Repeated, Rest, U16Be, U24Be, U8, Walk};
+use octseq_format::{
+    Counted, Exactly, Fields, Format, Octets, Of, Repeated, Rest, U8, U16Be, U24Be, Walk,
+};
 
 /// An extension: its type, and its data with a length prefix.
 pub type Extension = (U16Be, Counted<U16Be, Rest, 0>);

@@ -53,6 +53,7 @@ fn compose<F: Format<R>, R: AsOctets + Copy, B: EmptyBuilder + Truncate>(
 }
 
 mod dhcp;
+mod keyed;
 mod leaves;
 mod limits;
 mod ntp;

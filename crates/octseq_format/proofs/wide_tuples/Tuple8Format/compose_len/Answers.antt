@@ -1,7 +1,7 @@
 use Rattle.octseq_format.specs.Pair.{both_say}
 use Rattle.octseq_format.proofs.Lens.{HasLen, has_len, len_some, len_fit, len_none, both_has_len}
 use Rattle.octseq_format.specs.Pair.{◌before◌, ◌also◌}
-use Rattle.octseq_format.proofs.tuples.Tuple8Format.compose_len.Goals as goal
+use Rattle.octseq_format.proofs.wide_tuples.Tuple8Format.compose_len.Goals as goal
 
 pub returns : goal.returns
 unfolding both_say

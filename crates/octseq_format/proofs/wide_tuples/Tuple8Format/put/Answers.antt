@@ -4,7 +4,7 @@ use Rattle.std.specs.Prelude.{◌++◌}
 use Rattle.std.proofs.lemmas.Result.{on_ok_weaker}
 use Rattle.octseq_format.specs.Pair.{both_octets, both_say}
 use Rattle.octseq_format.proofs.Lens.{rest_within, first_within, append_on}
-use Rattle.octseq_format.proofs.tuples.Tuple8Format.put.Goals as goal
+use Rattle.octseq_format.proofs.wide_tuples.Tuple8Format.put.Goals as goal
 
 pub put_or_cut-requires-6-clause-within : goal.put_or_cut-requires-6-clause-within
 unfolding both_octets both_say
