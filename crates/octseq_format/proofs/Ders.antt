@@ -63,7 +63,8 @@ zero_head first k xs is large count none j few whole =
     let found = leading_at first xs j is large few whole in
     let head = found.1 in
     let same : j ≡ k = found.0 ∙ sym count in
-    let next = second (take j xs) ∙ ap (λ ys. slice_index ys 0) (after_first xs j (omega (arith, same, count, large)) few)
+    let after = after_first xs j (omega (arith, same, count, large)) few in
+    let next = second (take j xs) ∙ ap (λ ys. slice_index ys 0) after
     ∙ ap (λ k. slice_index (slice_range xs 1 k) 0) same in
     let some = whole.head (omega (arith, head, large)) in
     omega (arith, next, none, some)

@@ -68,7 +68,8 @@ pub last_be : (k n : ℕ) → k ≤ 8 → slice_range (to_be_bytes w64 n) (8 - k
 last_be k n few =
     let low : drop (8 - k) (to_be_bytes w64 n) ≡ octets_be k n =
     ap (drop (8 - k)) (made_be_8 n) ∙ lowest (8 - k) 8 k n (omega (arith, few)) in
-    ap (take (8 - (8 - k))) low ∙ take_all (8 - (8 - k)) (octets_be k n) (let long = length_be k n in omega (arith, long, few))
+    let long = length_be k n in
+    ap (take (8 - (8 - k))) low ∙ take_all (8 - (8 - k)) (octets_be k n) (omega (arith, long, few))
 
 -- the first k of its 8 octets, little-endian
 pub first_le : (k n : ℕ) → k ≤ 8 → take k (to_le_bytes w64 n) ≡ octets_le k n

@@ -39,7 +39,8 @@ unfolding IsChained
 chained_at [] i less before last = absurd (omega arith)
 chained_at (x ∷ xs) zero less before last = inl (last, refl)
 chained_at (x ∷ xs) (suc i) less before last =
-    inr (before 0 (omega arith), chained_at xs i (omega (arith, less)) (λ j below. before (suc j) (omega (arith, below))) last)
+    let rest : (j : ℕ) → j < i → 128 ≤ slice_index xs j = λ j below. before (suc j) (omega (arith, below)) in
+    inr (before 0 (omega arith), chained_at xs i (omega (arith, less)) rest last)
 
 pub chained_to : (xs : List ℕ) (i : ℕ) → i < length xs → ((j : ℕ) → j < i → 128 ≤ slice_index xs j)
     → slice_index xs i < 128 → IsChained (take (i + 1) xs)

@@ -43,7 +43,9 @@ leads_1 xs n first small some =
 
 pub made_1 : (n : ℕ) → n < 2 ^ 6 → quic_octets n ≡ to_be_bytes w8 n
 unfolding octets_be
-made_1 n few = octets_1 n few ∙ (let same : (0 + n) / 256 ^ 0 % 256 ≡ n % 256 = omega (arith, few) in ap (λ x. x ∷ []) same)
+made_1 n few =
+    let same : (0 + n) / 256 ^ 0 % 256 ≡ n % 256 = omega (arith, few) in
+    octets_1 n few ∙ ap (λ x. x ∷ []) same
 
 pub made_2 : (n : ℕ) → 2 ^ 6 ≤ n → n < 2 ^ 14 → quic_octets n ≡ to_be_bytes w16 (2 ^ 14 + n)
 made_2 n large few = octets_2 n large few ∙ sym (made_be_2 (2 ^ 14 + n))

@@ -1,6 +1,6 @@
 -- Answers, as conditions of laws.
-use Rattle.std.specs.Prelude.{Bool, true, false, IsTrue, refl}
-use Rattle.std.proofs.Common.{sym}
+use Rattle.std.specs.Prelude.{Bool, true, false, IsTrue, ◌⊎◌, refl}
+use Rattle.std.proofs.Common.{inl, inr, sym}
 use Rattle.std.proofs.Math.Bool.{true≢false}
 
 -- anything follows if `No` is `Yes`
@@ -12,3 +12,9 @@ both_yes is = (refl, is)
 
 pub both_no : {b : Bool} → IsTrue false → IsTrue false × IsTrue b
 both_no is = not_so is
+
+pub either_first : {b : Bool} → IsTrue true → IsTrue true ⊎ IsTrue b
+either_first is = inl is
+
+pub either_second : {b : Bool} → IsTrue b → IsTrue false ⊎ IsTrue b
+either_second is = inr is

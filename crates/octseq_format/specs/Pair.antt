@@ -1,6 +1,6 @@
 -- One value, followed by another.
-use Rattle.std.specs.Prelude.{◌≡◌, min, Bool, ◌&&◌, IsTrue, ℕ, ◌+◌, ◌<◌, ◌^◌, List, ◌++◌, length, refl, Option, Some, None, SomeIff}
-use Rattle.std.proofs.Common.{sym, ap, ◌∙◌, subst, arith, length-append, append_assoc}
+use Rattle.std.specs.Prelude.{◌≡◌, min, ◌⊎◌, Bool, ◌&&◌, IsTrue, ℕ, ◌+◌, ◌<◌, ◌^◌, List, ◌++◌, length, refl, Option, Some, None, SomeIff}
+use Rattle.std.proofs.Common.{inl, inr, sym, ap, ◌∙◌, subst, arith, length-append, append_assoc}
 use Rattle.std.specs.Coded.{Coded, coded×}
 use Rattle.octseq.specs.Window.{Window, rest, at, past}
 use Rattle.octseq.proofs.WindowsAfter.{front_comes_next}
@@ -72,9 +72,10 @@ past_both w x y =
     let long : length (x ++ y) ≡ length x + length y = length-append x y in
     ap (λ p. at p w) (omega (arith, long))
 
--- a sum is positive if its first number is
-pub some_more : {m : ℕ} (n : ℕ) → 0 < m → 0 < m + n
-some_more n some = omega (arith, some)
+-- a sum is positive if one of its numbers is
+pub some_either : {A B : Type 0} {m n : ℕ} → (A → 0 < m) → (B → 0 < n) → A ⊎ B → 0 < m + n
+some_either first second (inl a) = let some = first a in omega (arith, some)
+some_either first second (inr b) = let some = second b in omega (arith, some)
 
 module _ {A B : Type 0} {First : Relation A} {Second : Relation B} where
   infixr 5 ◌one_then◌

@@ -1,6 +1,6 @@
 //! Answers that are types, so that the compiler checks them.
-ghost use Rattle.std.specs.Prelude.{Bool, true, false, IsTrue};
-ghost use Rattle.octseq_format.specs.Answer.{both_yes, both_no};
+ghost use Rattle.std.specs.Prelude.{Bool, true, false, IsTrue, ◌⊎◌};
+ghost use Rattle.octseq_format.specs.Answer.{both_yes, both_no, either_first, either_second};
 
 /// An answer that is a type: [`Yes`] or [`No`].
 pub trait Answer {
@@ -41,4 +41,24 @@ impl<B: Answer> And<B> for No {
     type Joined = No;
 
     ghost both = { both_no };
+}
+
+/// `Yes` if one of both answers is `Yes`, otherwise `No`.
+pub trait Or<B: Answer>: Answer {
+    /// The answer.
+    type Joined: Answer;
+
+    ghost either: { IsTrue Self.Joined.yes → IsTrue Self.yes ⊎ IsTrue B.yes };
+}
+
+impl<B: Answer> Or<B> for Yes {
+    type Joined = Yes;
+
+    ghost either = { either_first };
+}
+
+impl<B: Answer> Or<B> for No {
+    type Joined = B;
+
+    ghost either = { either_second };
 }

@@ -133,7 +133,8 @@ where
 
     ghost read_back = { either_read_back A.covers A.read_back B.read_back };
 
-    ghost delimited = { λ yes. delimited_either A.covers (A.delimited (A.Delimited.both yes).0) (B.delimited ((A.Delimited.both yes).1)) };
+    ghost delimited = { λ yes. delimited_either A.covers (A.delimited (A.Delimited.both yes).0) (B.delimited
+        ((A.Delimited.both yes).1)) };
 
     ghost canonical = { λ yes key. not_one_way yes };
 
@@ -182,7 +183,8 @@ where
 
     ghost fits = { EitherFits A.covers A.fits (EitherFits B.covers B.fits C.fits) };
 
-    ghost one = { one_either A.covers A.is_at (IsEither B.covers B.is_at C.is_at) A.one (one_either B.covers B.is_at C.is_at B.one C.one) };
+    ghost one = { one_either A.covers A.is_at (IsEither B.covers B.is_at C.is_at) A.one (one_either B.covers B.is_at
+        C.is_at B.one C.one) };
 
     ghost found_code = { coded⊎ A.found_code (coded⊎ B.found_code C.found_code) };
 
@@ -264,11 +266,14 @@ where
         }
     }
 
-    ghost onward = { onward_either A.covers A.is_at (IsEither B.covers B.is_at C.is_at) A.onward (onward_either B.covers B.is_at C.is_at B.onward C.onward) };
+    ghost onward = { onward_either A.covers A.is_at (IsEither B.covers B.is_at C.is_at) A.onward (onward_either B.covers
+        B.is_at C.is_at B.onward C.onward) };
 
     ghost read_back = { either_read_back A.covers A.read_back (either_read_back B.covers B.read_back C.read_back) };
 
-    ghost delimited = { λ yes. delimited_either A.covers (A.delimited (A.Delimited.both yes).0) (delimited_either B.covers (B.delimited (B.Delimited.both ((A.Delimited.both yes).1)).0) (C.delimited ((B.Delimited.both ((A.Delimited.both yes).1)).1))) };
+    ghost delimited = { λ yes. delimited_either A.covers (A.delimited (A.Delimited.both yes).0) (delimited_either
+        B.covers (B.delimited (B.Delimited.both ((A.Delimited.both yes).1)).0) (C.delimited ((B.Delimited.both
+        ((A.Delimited.both yes).1)).1))) };
 
     ghost canonical = { λ yes key. not_one_way yes };
 
@@ -323,7 +328,9 @@ where
 
     ghost fits = { EitherFits A.covers A.fits (EitherFits B.covers B.fits (EitherFits C.covers C.fits D.fits)) };
 
-    ghost one = { one_either A.covers A.is_at (IsEither B.covers B.is_at (IsEither C.covers C.is_at D.is_at)) A.one (one_either B.covers B.is_at (IsEither C.covers C.is_at D.is_at) B.one (one_either C.covers C.is_at D.is_at C.one D.one)) };
+    ghost one = { one_either A.covers A.is_at (IsEither B.covers B.is_at (IsEither C.covers C.is_at D.is_at)) A.one
+        (one_either B.covers B.is_at (IsEither C.covers C.is_at D.is_at) B.one (one_either C.covers C.is_at D.is_at
+        C.one D.one)) };
 
     ghost found_code = { coded⊎ A.found_code (coded⊎ B.found_code (coded⊎ C.found_code D.found_code)) };
 
@@ -414,11 +421,17 @@ where
         }
     }
 
-    ghost onward = { onward_either A.covers A.is_at (IsEither B.covers B.is_at (IsEither C.covers C.is_at D.is_at)) A.onward (onward_either B.covers B.is_at (IsEither C.covers C.is_at D.is_at) B.onward (onward_either C.covers C.is_at D.is_at C.onward D.onward)) };
+    ghost onward = { onward_either A.covers A.is_at (IsEither B.covers B.is_at (IsEither C.covers C.is_at D.is_at))
+        A.onward (onward_either B.covers B.is_at (IsEither C.covers C.is_at D.is_at) B.onward (onward_either C.covers
+        C.is_at D.is_at C.onward D.onward)) };
 
-    ghost read_back = { either_read_back A.covers A.read_back (either_read_back B.covers B.read_back (either_read_back C.covers C.read_back D.read_back)) };
+    ghost read_back = { either_read_back A.covers A.read_back (either_read_back B.covers B.read_back (either_read_back
+        C.covers C.read_back D.read_back)) };
 
-    ghost delimited = { λ yes. delimited_either A.covers (A.delimited (A.Delimited.both yes).0) (delimited_either B.covers (B.delimited (B.Delimited.both ((A.Delimited.both yes).1)).0) (delimited_either C.covers (C.delimited (C.Delimited.both ((B.Delimited.both ((A.Delimited.both yes).1)).1)).0) (D.delimited ((C.Delimited.both ((B.Delimited.both ((A.Delimited.both yes).1)).1)).1)))) };
+    ghost delimited = { λ yes. delimited_either A.covers (A.delimited (A.Delimited.both yes).0) (delimited_either
+        B.covers (B.delimited (B.Delimited.both ((A.Delimited.both yes).1)).0) (delimited_either C.covers (C.delimited
+        (C.Delimited.both ((B.Delimited.both ((A.Delimited.both yes).1)).1)).0) (D.delimited ((C.Delimited.both
+        ((B.Delimited.both ((A.Delimited.both yes).1)).1)).1)))) };
 
     ghost canonical = { λ yes key. not_one_way yes };
 
@@ -477,7 +490,8 @@ where
 
     ghost covers = { λ key. A.covers key ⊎ (B.covers key ⊎ (C.covers key ⊎ (D.covers key ⊎ E.covers key))) };
 
-    ghost is_at = { IsEither A.covers A.is_at (IsEither B.covers B.is_at (IsEither C.covers C.is_at (IsEither D.covers D.is_at E.is_at))) };
+    ghost is_at = { IsEither A.covers A.is_at (IsEither B.covers B.is_at (IsEither C.covers C.is_at (IsEither D.covers
+        D.is_at E.is_at))) };
 
     ghost Said = { A.Said ⊎ (B.Said ⊎ (C.Said ⊎ (D.Said ⊎ E.Said))) };
 
@@ -485,15 +499,22 @@ where
 
     ghost tag = { either_number A.tag (either_number B.tag (either_number C.tag (either_number D.tag E.tag))) };
 
-    ghost octets = { either_octets A.octets (either_octets B.octets (either_octets C.octets (either_octets D.octets E.octets))) };
+    ghost octets = { either_octets A.octets (either_octets B.octets (either_octets C.octets (either_octets D.octets
+        E.octets))) };
 
-    ghost fits = { EitherFits A.covers A.fits (EitherFits B.covers B.fits (EitherFits C.covers C.fits (EitherFits D.covers D.fits E.fits))) };
+    ghost fits = { EitherFits A.covers A.fits (EitherFits B.covers B.fits (EitherFits C.covers C.fits (EitherFits
+        D.covers D.fits E.fits))) };
 
-    ghost one = { one_either A.covers A.is_at (IsEither B.covers B.is_at (IsEither C.covers C.is_at (IsEither D.covers D.is_at E.is_at))) A.one (one_either B.covers B.is_at (IsEither C.covers C.is_at (IsEither D.covers D.is_at E.is_at)) B.one (one_either C.covers C.is_at (IsEither D.covers D.is_at E.is_at) C.one (one_either D.covers D.is_at E.is_at D.one E.one))) };
+    ghost one = { one_either A.covers A.is_at (IsEither B.covers B.is_at (IsEither C.covers C.is_at (IsEither D.covers
+        D.is_at E.is_at))) A.one (one_either B.covers B.is_at (IsEither C.covers C.is_at (IsEither D.covers D.is_at
+        E.is_at)) B.one (one_either C.covers C.is_at (IsEither D.covers D.is_at E.is_at) C.one (one_either D.covers
+        D.is_at E.is_at D.one E.one))) };
 
-    ghost found_code = { coded⊎ A.found_code (coded⊎ B.found_code (coded⊎ C.found_code (coded⊎ D.found_code E.found_code))) };
+    ghost found_code = { coded⊎ A.found_code (coded⊎ B.found_code (coded⊎ C.found_code (coded⊎ D.found_code
+        E.found_code))) };
 
-    ghost turns_of = { either_number A.turns_of (either_number B.turns_of (either_number C.turns_of (either_number D.turns_of E.turns_of))) };
+    ghost turns_of = { either_number A.turns_of (either_number B.turns_of (either_number C.turns_of (either_number
+        D.turns_of E.turns_of))) };
 
     ghost base = { A.base + (B.base + (C.base + (D.base + E.base))) };
 
@@ -597,11 +618,19 @@ where
         }
     }
 
-    ghost onward = { onward_either A.covers A.is_at (IsEither B.covers B.is_at (IsEither C.covers C.is_at (IsEither D.covers D.is_at E.is_at))) A.onward (onward_either B.covers B.is_at (IsEither C.covers C.is_at (IsEither D.covers D.is_at E.is_at)) B.onward (onward_either C.covers C.is_at (IsEither D.covers D.is_at E.is_at) C.onward (onward_either D.covers D.is_at E.is_at D.onward E.onward))) };
+    ghost onward = { onward_either A.covers A.is_at (IsEither B.covers B.is_at (IsEither C.covers C.is_at (IsEither
+        D.covers D.is_at E.is_at))) A.onward (onward_either B.covers B.is_at (IsEither C.covers C.is_at (IsEither
+        D.covers D.is_at E.is_at)) B.onward (onward_either C.covers C.is_at (IsEither D.covers D.is_at E.is_at) C.onward
+        (onward_either D.covers D.is_at E.is_at D.onward E.onward))) };
 
-    ghost read_back = { either_read_back A.covers A.read_back (either_read_back B.covers B.read_back (either_read_back C.covers C.read_back (either_read_back D.covers D.read_back E.read_back))) };
+    ghost read_back = { either_read_back A.covers A.read_back (either_read_back B.covers B.read_back (either_read_back
+        C.covers C.read_back (either_read_back D.covers D.read_back E.read_back))) };
 
-    ghost delimited = { λ yes. delimited_either A.covers (A.delimited (A.Delimited.both yes).0) (delimited_either B.covers (B.delimited (B.Delimited.both ((A.Delimited.both yes).1)).0) (delimited_either C.covers (C.delimited (C.Delimited.both ((B.Delimited.both ((A.Delimited.both yes).1)).1)).0) (delimited_either D.covers (D.delimited (D.Delimited.both ((C.Delimited.both ((B.Delimited.both ((A.Delimited.both yes).1)).1)).1)).0) (E.delimited ((D.Delimited.both ((C.Delimited.both ((B.Delimited.both ((A.Delimited.both yes).1)).1)).1)).1))))) };
+    ghost delimited = { λ yes. delimited_either A.covers (A.delimited (A.Delimited.both yes).0) (delimited_either
+        B.covers (B.delimited (B.Delimited.both ((A.Delimited.both yes).1)).0) (delimited_either C.covers (C.delimited
+        (C.Delimited.both ((B.Delimited.both ((A.Delimited.both yes).1)).1)).0) (delimited_either D.covers (D.delimited
+        (D.Delimited.both ((C.Delimited.both ((B.Delimited.both ((A.Delimited.both yes).1)).1)).1)).0) (E.delimited
+        ((D.Delimited.both ((C.Delimited.both ((B.Delimited.both ((A.Delimited.both yes).1)).1)).1)).1))))) };
 
     ghost canonical = { λ yes key. not_one_way yes };
 

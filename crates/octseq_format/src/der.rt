@@ -37,8 +37,8 @@ fn leading(octets: &[u8]) -> Option<(usize, usize)>
     Some((number, len))
 }
 
-/// A length below 128 in one octet, or 128 plus how many octets follow, and the length in these, big-endian. They are at
-/// most 8, and as few as possible: the definite form of DER (X.690, 10.1).
+/// A length below 128 in one octet, or 128 plus how many octets follow, and the length in these, big-endian. They are
+/// at most 8, and as few as possible: the definite form of DER (X.690, 10.1).
 #[derive(Debug)]
 pub struct DerLength;
 

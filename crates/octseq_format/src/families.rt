@@ -456,7 +456,8 @@ impl<R: AsOctets + Copy, S: Switch, N: Number, M: Number, F: Family<R>> Family<R
 
     ghost covers = { F.covers };
 
-    ghost is_at = { λ key. cond (S.on key) (Tagged N.is_at (IsSized 0 (F.is_at key))) (Tagged M.is_at (IsSized 0 (F.is_at key))) };
+    ghost is_at = { λ key. cond (S.on key) (Tagged N.is_at (IsSized 0 (F.is_at key))) (Tagged M.is_at (IsSized 0
+        (F.is_at key))) };
 
     ghost Said = { F.Said };
 
@@ -464,11 +465,14 @@ impl<R: AsOctets + Copy, S: Switch, N: Number, M: Number, F: Family<R>> Family<R
 
     ghost tag = { λ _. 0 };
 
-    ghost octets = { λ key. cond (S.on key) (tagged_octets N.octets (sized_number 0 (F.octets key)) (λ _. F.octets key)) (tagged_octets M.octets (sized_number 0 (F.octets key)) (λ _. F.octets key)) };
+    ghost octets = { λ key. cond (S.on key) (tagged_octets N.octets (sized_number 0 (F.octets key)) (λ _. F.octets key))
+        (tagged_octets M.octets (sized_number 0 (F.octets key)) (λ _. F.octets key)) };
 
-    ghost fits = { λ key. cond (S.on key) (TaggedFits N.fits (sized_number 0 (F.octets key)) (SizedFit 0 (F.octets key) (F.fits key))) (TaggedFits M.fits (sized_number 0 (F.octets key)) (SizedFit 0 (F.octets key) (F.fits key))) };
+    ghost fits = { λ key. cond (S.on key) (TaggedFits N.fits (sized_number 0 (F.octets key)) (SizedFit 0 (F.octets key)
+        (F.fits key))) (TaggedFits M.fits (sized_number 0 (F.octets key)) (SizedFit 0 (F.octets key) (F.fits key))) };
 
-    ghost one = { λ key. one_by_switch (S.on key) (one_tagged N.one (one_sized (F.one key))) (one_tagged M.one (one_sized (F.one key))) };
+    ghost one = { λ key. one_by_switch (S.on key) (one_tagged N.one (one_sized (F.one key))) (one_tagged M.one
+        (one_sized (F.one key))) };
 
     ghost found_code = { F.found_code };
 
@@ -530,11 +534,14 @@ impl<R: AsOctets + Copy, S: Switch, N: Number, M: Number, F: Family<R>> Family<R
         }
     }
 
-    ghost onward = { λ key. onward_by_switch (S.on key) (onward_tagged N.onward (onward_sized 0 (F.is_at key))) (onward_tagged M.onward (onward_sized 0 (F.is_at key))) };
+    ghost onward = { λ key. onward_by_switch (S.on key) (onward_tagged N.onward (onward_sized 0 (F.is_at key)))
+        (onward_tagged M.onward (onward_sized 0 (F.is_at key))) };
 
-    ghost read_back = { λ key. back_of (delimited_by_switch (S.on key) (delimited_tagged N.delimited (delimited_sized (F.read_back key))) (delimited_tagged M.delimited (delimited_sized (F.read_back key)))) };
+    ghost read_back = { λ key. back_of (delimited_by_switch (S.on key) (delimited_tagged N.delimited (delimited_sized
+        (F.read_back key))) (delimited_tagged M.delimited (delimited_sized (F.read_back key)))) };
 
-    ghost delimited = { λ _ key. delimited_by_switch (S.on key) (delimited_tagged N.delimited (delimited_sized (F.read_back key))) (delimited_tagged M.delimited (delimited_sized (F.read_back key))) };
+    ghost delimited = { λ _ key. delimited_by_switch (S.on key) (delimited_tagged N.delimited (delimited_sized
+        (F.read_back key))) (delimited_tagged M.delimited (delimited_sized (F.read_back key))) };
 
     ghost canonical = { λ yes key. not_one_way yes };
 

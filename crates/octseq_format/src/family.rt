@@ -1,5 +1,21 @@
 //! Families: a format for each number, its key.
-ghost use Rattle.std.specs.Prelude.{◌≡◌, ◌≤◌, ◌<◌, ◌^◌, ◌+◌, ◌*◌, ◌++◌, ℕ, Bool, List, length, true, false, IsTrue, IsFalse};
+ghost use Rattle.std.specs.Prelude.{
+  ◌≡◌,
+  ◌≤◌,
+  ◌<◌,
+  ◌^◌,
+  ◌+◌,
+  ◌*◌,
+  ◌++◌,
+  ℕ,
+  Bool,
+  List,
+  length,
+  true,
+  false,
+  IsTrue,
+  IsFalse,
+};
 ghost use Rattle.std.specs.Prelude.{IsErr, IfOk, OnOk, OnErr, IsNone, IsSome, IfSome};
 ghost use Rattle.std.specs.Coded.{Coded, coded_ℕ, coded×};
 ghost use Rattle.octseq.specs.Limit.{IsWithin};

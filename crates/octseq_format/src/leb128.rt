@@ -75,7 +75,7 @@ fn encoded(number: usize) -> ([u8; MAX_GROUPS], usize)
     (octets, len + 1)
 }
 
-/// A number below 2 to the power of `BITS` and of 64, in groups of 7 bits, the lowest first (unsigned LEB128). An octet
+/// A number below 2 to the powers of `BITS` and 64, in groups of 7 bits, the lowest first (unsigned LEB128). An octet
 /// has one group, and its highest bit says that another follows. There are at most `MAX` octets. It is written in the
 /// fewest, and read also in more.
 ///

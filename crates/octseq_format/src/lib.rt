@@ -37,7 +37,7 @@ pub mod wide_choice;
 pub mod wide_tuples;
 pub mod widths;
 
-pub use answer::{And, Answer, No, Yes};
+pub use answer::{And, Answer, No, Or, Yes};
 pub use bits::{BitFields, Bits, Flag, KeyBits, Low};
 pub use choice::{OneOf2, OneOf3, OneOf4, OneOf5};
 pub use compact_size::CompactSize;

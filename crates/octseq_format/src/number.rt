@@ -1,5 +1,22 @@
 //! Numbers as octets: lengths, counts, tags and keys.
-ghost use Rattle.std.specs.Prelude.{◌≡◌, ◌≤◌, ◌<◌, ◌^◌, ◌+◌, ◌++◌, ℕ, Bool, List, length, true, IsTrue, IsErr, IfOk, OnOk, OnErr};
+ghost use Rattle.std.specs.Prelude.{
+  ◌≡◌,
+  ◌≤◌,
+  ◌<◌,
+  ◌^◌,
+  ◌+◌,
+  ◌++◌,
+  ℕ,
+  Bool,
+  List,
+  length,
+  true,
+  IsTrue,
+  IsErr,
+  IfOk,
+  OnOk,
+  OnErr,
+};
 ghost use Rattle.std.specs.Prelude.{IsNone, IsSome, IfSome};
 ghost use Rattle.octseq.specs.Limit.{IsWithin};
 ghost use Rattle.octseq.specs.Parser.{window, sequence};

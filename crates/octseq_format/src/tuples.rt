@@ -4,9 +4,9 @@ ghost use Rattle.octseq.specs.Limit.{IsWithin};
 ghost use Rattle.octseq_format.specs.Laws.{HasOctets};
 ghost use Rattle.octseq_format.specs.Pair.{◌then◌, ◌and◌, ◌before◌, ◌also◌, ◌code_then◌, ◌plus◌, ◌key_and◌};
 ghost use Rattle.octseq_format.specs.Pair.{◌one_then◌, ◌onward_then◌, ◌back_then◌, ◌delimited_then◌, ◌canonical_then◌};
-ghost use Rattle.octseq_format.specs.Pair.{AreBoth, some_more};
+ghost use Rattle.octseq_format.specs.Pair.{AreBoth, some_either};
 
-use crate::answer::Yes;
+use crate::answer::{Or, Yes};
 use crate::format::Format;
 use octseq::{AsOctets, Malformed, OctetsBuilder, Parser, Truncate, Turns};
 use std::alloc::AllocError;
@@ -45,12 +45,15 @@ pub(crate) fn put_or_cut<B: OctetsBuilder + Truncate, R: AsOctets + Copy, F: For
     appended
 }
 
-impl<R: AsOctets + Copy, A: Format<R, Delimited = Yes>, B: Format<R>> Format<R> for (A, B) {
+impl<R: AsOctets + Copy, A: Format<R, Delimited = Yes>, B: Format<R>> Format<R> for (A, B)
+where
+    A::Moving: Or<B::Moving>,
+{
     type Value = (A::Value, B::Value);
 
     type Delimited = B::Delimited;
 
-    type Moving = A::Moving;
+    type Moving = <A::Moving as Or<B::Moving>>::Joined;
 
     ghost Found = { A.Found × B.Found };
 
@@ -139,7 +142,7 @@ impl<R: AsOctets + Copy, A: Format<R, Delimited = Yes>, B: Format<R>> Format<R> 
 
     ghost delimited = { λ yes. A.delimited refl delimited_then B.delimited yes };
 
-    ghost moving = { λ yes. some_more B.least (A.moving yes) };
+    ghost moving = { λ yes. some_either A.moving B.moving (A.Moving.either yes) };
 }
 
 impl<
@@ -147,12 +150,16 @@ impl<
     A: Format<R, Delimited = Yes>,
     B: Format<R, Delimited = Yes>,
     C: Format<R>,
-> Format<R> for (A, B, C) {
+> Format<R> for (A, B, C)
+where
+    B::Moving: Or<C::Moving>,
+    A::Moving: Or<<B::Moving as Or<C::Moving>>::Joined>,
+{
     type Value = (A::Value, B::Value, C::Value);
 
     type Delimited = C::Delimited;
 
-    type Moving = A::Moving;
+    type Moving = <A::Moving as Or<<B::Moving as Or<C::Moving>>::Joined>>::Joined;
 
     ghost Found = { A.Found × (B.Found × C.Found) };
 
@@ -235,7 +242,8 @@ impl<
 
     ghost delimited = { λ yes. A.delimited refl delimited_then B.delimited refl delimited_then C.delimited yes };
 
-    ghost moving = { λ yes. some_more (B.least + C.least) (A.moving yes) };
+    ghost moving = { λ yes. some_either A.moving (λ yes. some_either B.moving C.moving (B.Moving.either yes))
+        (A.Moving.either yes) };
 }
 
 impl<
@@ -244,12 +252,19 @@ impl<
     B: Format<R, Delimited = Yes>,
     C: Format<R, Delimited = Yes>,
     D: Format<R>,
-> Format<R> for (A, B, C, D) {
+> Format<R> for (A, B, C, D)
+where
+    C::Moving: Or<D::Moving>,
+    B::Moving: Or<<C::Moving as Or<D::Moving>>::Joined>,
+    A::Moving: Or<<B::Moving as Or<<C::Moving as Or<D::Moving>>::Joined>>::Joined>,
+{
     type Value = (A::Value, B::Value, C::Value, D::Value);
 
     type Delimited = D::Delimited;
 
-    type Moving = A::Moving;
+    type Moving = <A::Moving as Or<
+        <B::Moving as Or<<C::Moving as Or<D::Moving>>::Joined>>::Joined,
+    >>::Joined;
 
     ghost Found = { A.Found × (B.Found × (C.Found × D.Found)) };
 
@@ -337,7 +352,8 @@ impl<
     ghost delimited = { λ yes. A.delimited refl delimited_then B.delimited refl delimited_then C.delimited refl
         delimited_then D.delimited yes };
 
-    ghost moving = { λ yes. some_more (B.least + (C.least + D.least)) (A.moving yes) };
+    ghost moving = { λ yes. some_either A.moving (λ yes. some_either B.moving (λ yes. some_either C.moving D.moving
+        (C.Moving.either yes)) (B.Moving.either yes)) (A.Moving.either yes) };
 }
 
 impl<
@@ -347,12 +363,22 @@ impl<
     C: Format<R, Delimited = Yes>,
     D: Format<R, Delimited = Yes>,
     E: Format<R>,
-> Format<R> for (A, B, C, D, E) {
+> Format<R> for (A, B, C, D, E)
+where
+    D::Moving: Or<E::Moving>,
+    C::Moving: Or<<D::Moving as Or<E::Moving>>::Joined>,
+    B::Moving: Or<<C::Moving as Or<<D::Moving as Or<E::Moving>>::Joined>>::Joined>,
+    A::Moving: Or<
+        <B::Moving as Or<<C::Moving as Or<<D::Moving as Or<E::Moving>>::Joined>>::Joined>>::Joined,
+    >,
+{
     type Value = (A::Value, B::Value, C::Value, D::Value, E::Value);
 
     type Delimited = E::Delimited;
 
-    type Moving = A::Moving;
+    type Moving = <A::Moving as Or<
+        <B::Moving as Or<<C::Moving as Or<<D::Moving as Or<E::Moving>>::Joined>>::Joined>>::Joined,
+    >>::Joined;
 
     ghost Found = { A.Found × (B.Found × (C.Found × (D.Found × E.Found))) };
 
@@ -445,7 +471,9 @@ impl<
     ghost delimited = { λ yes. A.delimited refl delimited_then B.delimited refl delimited_then C.delimited refl
         delimited_then D.delimited refl delimited_then E.delimited yes };
 
-    ghost moving = { λ yes. some_more (B.least + (C.least + (D.least + E.least))) (A.moving yes) };
+    ghost moving = { λ yes. some_either A.moving (λ yes. some_either B.moving (λ yes. some_either C.moving (λ yes.
+        some_either D.moving E.moving (D.Moving.either yes)) (C.Moving.either yes)) (B.Moving.either yes))
+        (A.Moving.either yes) };
 }
 
 impl<
@@ -456,12 +484,33 @@ impl<
     D: Format<R, Delimited = Yes>,
     E: Format<R, Delimited = Yes>,
     F: Format<R>,
-> Format<R> for (A, B, C, D, E, F) {
+> Format<R> for (A, B, C, D, E, F)
+where
+    E::Moving: Or<F::Moving>,
+    D::Moving: Or<<E::Moving as Or<F::Moving>>::Joined>,
+    C::Moving: Or<<D::Moving as Or<<E::Moving as Or<F::Moving>>::Joined>>::Joined>,
+    B::Moving: Or<
+        <C::Moving as Or<<D::Moving as Or<<E::Moving as Or<F::Moving>>::Joined>>::Joined>>::Joined,
+    >,
+    A::Moving: Or<
+        <B::Moving as Or<
+            <C::Moving as Or<
+                <D::Moving as Or<<E::Moving as Or<F::Moving>>::Joined>>::Joined,
+            >>::Joined,
+        >>::Joined,
+    >,
+{
     type Value = (A::Value, B::Value, C::Value, D::Value, E::Value, F::Value);
 
     type Delimited = F::Delimited;
 
-    type Moving = A::Moving;
+    type Moving = <A::Moving as Or<
+        <B::Moving as Or<
+            <C::Moving as Or<
+                <D::Moving as Or<<E::Moving as Or<F::Moving>>::Joined>>::Joined,
+            >>::Joined,
+        >>::Joined,
+    >>::Joined;
 
     ghost Found = { A.Found × (B.Found × (C.Found × (D.Found × (E.Found × F.Found)))) };
 
@@ -571,5 +620,7 @@ impl<
     ghost delimited = { λ yes. A.delimited refl delimited_then B.delimited refl delimited_then C.delimited refl
         delimited_then D.delimited refl delimited_then E.delimited refl delimited_then F.delimited yes };
 
-    ghost moving = { λ yes. some_more (B.least + (C.least + (D.least + (E.least + F.least)))) (A.moving yes) };
+    ghost moving = { λ yes. some_either A.moving (λ yes. some_either B.moving (λ yes. some_either C.moving (λ yes.
+        some_either D.moving (λ yes. some_either E.moving F.moving (E.Moving.either yes)) (D.Moving.either yes))
+        (C.Moving.either yes)) (B.Moving.either yes)) (A.Moving.either yes) };
 }

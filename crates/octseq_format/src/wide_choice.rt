@@ -74,25 +74,37 @@ where
 
     ghost found = { one_of_6 A.found B.found C.found D.found E.found F.found };
 
-    ghost covers = { λ key. A.covers key ⊎ (B.covers key ⊎ (C.covers key ⊎ (D.covers key ⊎ (E.covers key ⊎ F.covers key)))) };
+    ghost covers = { λ key. A.covers key ⊎ (B.covers key ⊎ (C.covers key ⊎ (D.covers key ⊎ (E.covers key ⊎ F.covers
+        key)))) };
 
-    ghost is_at = { IsEither A.covers A.is_at (IsEither B.covers B.is_at (IsEither C.covers C.is_at (IsEither D.covers D.is_at (IsEither E.covers E.is_at F.is_at)))) };
+    ghost is_at = { IsEither A.covers A.is_at (IsEither B.covers B.is_at (IsEither C.covers C.is_at (IsEither D.covers
+        D.is_at (IsEither E.covers E.is_at F.is_at)))) };
 
     ghost Said = { A.Said ⊎ (B.Said ⊎ (C.Said ⊎ (D.Said ⊎ (E.Said ⊎ F.Said)))) };
 
-    ghost says = { either_says A.says (either_says B.says (either_says C.says (either_says D.says (either_says E.says F.says)))) };
+    ghost says = { either_says A.says (either_says B.says (either_says C.says (either_says D.says (either_says E.says
+        F.says)))) };
 
-    ghost tag = { either_number A.tag (either_number B.tag (either_number C.tag (either_number D.tag (either_number E.tag F.tag)))) };
+    ghost tag = { either_number A.tag (either_number B.tag (either_number C.tag (either_number D.tag (either_number
+        E.tag F.tag)))) };
 
-    ghost octets = { either_octets A.octets (either_octets B.octets (either_octets C.octets (either_octets D.octets (either_octets E.octets F.octets)))) };
+    ghost octets = { either_octets A.octets (either_octets B.octets (either_octets C.octets (either_octets D.octets
+        (either_octets E.octets F.octets)))) };
 
-    ghost fits = { EitherFits A.covers A.fits (EitherFits B.covers B.fits (EitherFits C.covers C.fits (EitherFits D.covers D.fits (EitherFits E.covers E.fits F.fits)))) };
+    ghost fits = { EitherFits A.covers A.fits (EitherFits B.covers B.fits (EitherFits C.covers C.fits (EitherFits
+        D.covers D.fits (EitherFits E.covers E.fits F.fits)))) };
 
-    ghost one = { one_either A.covers A.is_at (IsEither B.covers B.is_at (IsEither C.covers C.is_at (IsEither D.covers D.is_at (IsEither E.covers E.is_at F.is_at)))) A.one (one_either B.covers B.is_at (IsEither C.covers C.is_at (IsEither D.covers D.is_at (IsEither E.covers E.is_at F.is_at))) B.one (one_either C.covers C.is_at (IsEither D.covers D.is_at (IsEither E.covers E.is_at F.is_at)) C.one (one_either D.covers D.is_at (IsEither E.covers E.is_at F.is_at) D.one (one_either E.covers E.is_at F.is_at E.one F.one)))) };
+    ghost one = { one_either A.covers A.is_at (IsEither B.covers B.is_at (IsEither C.covers C.is_at (IsEither D.covers
+        D.is_at (IsEither E.covers E.is_at F.is_at)))) A.one (one_either B.covers B.is_at (IsEither C.covers C.is_at
+        (IsEither D.covers D.is_at (IsEither E.covers E.is_at F.is_at))) B.one (one_either C.covers C.is_at (IsEither
+        D.covers D.is_at (IsEither E.covers E.is_at F.is_at)) C.one (one_either D.covers D.is_at (IsEither E.covers
+        E.is_at F.is_at) D.one (one_either E.covers E.is_at F.is_at E.one F.one)))) };
 
-    ghost found_code = { coded⊎ A.found_code (coded⊎ B.found_code (coded⊎ C.found_code (coded⊎ D.found_code (coded⊎ E.found_code F.found_code)))) };
+    ghost found_code = { coded⊎ A.found_code (coded⊎ B.found_code (coded⊎ C.found_code (coded⊎ D.found_code (coded⊎
+        E.found_code F.found_code)))) };
 
-    ghost turns_of = { either_number A.turns_of (either_number B.turns_of (either_number C.turns_of (either_number D.turns_of (either_number E.turns_of F.turns_of)))) };
+    ghost turns_of = { either_number A.turns_of (either_number B.turns_of (either_number C.turns_of (either_number
+        D.turns_of (either_number E.turns_of F.turns_of)))) };
 
     ghost base = { A.base + (B.base + (C.base + (D.base + (E.base + F.base)))) };
 
@@ -211,11 +223,24 @@ where
         }
     }
 
-    ghost onward = { onward_either A.covers A.is_at (IsEither B.covers B.is_at (IsEither C.covers C.is_at (IsEither D.covers D.is_at (IsEither E.covers E.is_at F.is_at)))) A.onward (onward_either B.covers B.is_at (IsEither C.covers C.is_at (IsEither D.covers D.is_at (IsEither E.covers E.is_at F.is_at))) B.onward (onward_either C.covers C.is_at (IsEither D.covers D.is_at (IsEither E.covers E.is_at F.is_at)) C.onward (onward_either D.covers D.is_at (IsEither E.covers E.is_at F.is_at) D.onward (onward_either E.covers E.is_at F.is_at E.onward F.onward)))) };
+    ghost onward = { onward_either A.covers A.is_at (IsEither B.covers B.is_at (IsEither C.covers C.is_at (IsEither
+        D.covers D.is_at (IsEither E.covers E.is_at F.is_at)))) A.onward (onward_either B.covers B.is_at (IsEither
+        C.covers C.is_at (IsEither D.covers D.is_at (IsEither E.covers E.is_at F.is_at))) B.onward (onward_either
+        C.covers C.is_at (IsEither D.covers D.is_at (IsEither E.covers E.is_at F.is_at)) C.onward (onward_either
+        D.covers D.is_at (IsEither E.covers E.is_at F.is_at) D.onward (onward_either E.covers E.is_at F.is_at E.onward
+        F.onward)))) };
 
-    ghost read_back = { either_read_back A.covers A.read_back (either_read_back B.covers B.read_back (either_read_back C.covers C.read_back (either_read_back D.covers D.read_back (either_read_back E.covers E.read_back F.read_back)))) };
+    ghost read_back = { either_read_back A.covers A.read_back (either_read_back B.covers B.read_back (either_read_back
+        C.covers C.read_back (either_read_back D.covers D.read_back (either_read_back E.covers E.read_back
+        F.read_back)))) };
 
-    ghost delimited = { λ yes. delimited_either A.covers (A.delimited (A.Delimited.both yes).0) (delimited_either B.covers (B.delimited (B.Delimited.both ((A.Delimited.both yes).1)).0) (delimited_either C.covers (C.delimited (C.Delimited.both ((B.Delimited.both ((A.Delimited.both yes).1)).1)).0) (delimited_either D.covers (D.delimited (D.Delimited.both ((C.Delimited.both ((B.Delimited.both ((A.Delimited.both yes).1)).1)).1)).0) (delimited_either E.covers (E.delimited (E.Delimited.both ((D.Delimited.both ((C.Delimited.both ((B.Delimited.both ((A.Delimited.both yes).1)).1)).1)).1)).0) (F.delimited ((E.Delimited.both ((D.Delimited.both ((C.Delimited.both ((B.Delimited.both ((A.Delimited.both yes).1)).1)).1)).1)).1)))))) };
+    ghost delimited = { λ yes. delimited_either A.covers (A.delimited (A.Delimited.both yes).0) (delimited_either
+        B.covers (B.delimited (B.Delimited.both ((A.Delimited.both yes).1)).0) (delimited_either C.covers (C.delimited
+        (C.Delimited.both ((B.Delimited.both ((A.Delimited.both yes).1)).1)).0) (delimited_either D.covers (D.delimited
+        (D.Delimited.both ((C.Delimited.both ((B.Delimited.both ((A.Delimited.both yes).1)).1)).1)).0) (delimited_either
+        E.covers (E.delimited (E.Delimited.both ((D.Delimited.both ((C.Delimited.both ((B.Delimited.both
+        ((A.Delimited.both yes).1)).1)).1)).1)).0) (F.delimited ((E.Delimited.both ((D.Delimited.both ((C.Delimited.both
+        ((B.Delimited.both ((A.Delimited.both yes).1)).1)).1)).1)).1)))))) };
 
     ghost canonical = { λ yes key. not_one_way yes };
 
@@ -305,25 +330,39 @@ where
 
     ghost found = { one_of_7 A.found B.found C.found D.found E.found F.found G.found };
 
-    ghost covers = { λ key. A.covers key ⊎ (B.covers key ⊎ (C.covers key ⊎ (D.covers key ⊎ (E.covers key ⊎ (F.covers key ⊎ G.covers key))))) };
+    ghost covers = { λ key. A.covers key ⊎ (B.covers key ⊎ (C.covers key ⊎ (D.covers key ⊎ (E.covers key ⊎ (F.covers key
+        ⊎ G.covers key))))) };
 
-    ghost is_at = { IsEither A.covers A.is_at (IsEither B.covers B.is_at (IsEither C.covers C.is_at (IsEither D.covers D.is_at (IsEither E.covers E.is_at (IsEither F.covers F.is_at G.is_at))))) };
+    ghost is_at = { IsEither A.covers A.is_at (IsEither B.covers B.is_at (IsEither C.covers C.is_at (IsEither D.covers
+        D.is_at (IsEither E.covers E.is_at (IsEither F.covers F.is_at G.is_at))))) };
 
     ghost Said = { A.Said ⊎ (B.Said ⊎ (C.Said ⊎ (D.Said ⊎ (E.Said ⊎ (F.Said ⊎ G.Said))))) };
 
-    ghost says = { either_says A.says (either_says B.says (either_says C.says (either_says D.says (either_says E.says (either_says F.says G.says))))) };
+    ghost says = { either_says A.says (either_says B.says (either_says C.says (either_says D.says (either_says E.says
+        (either_says F.says G.says))))) };
 
-    ghost tag = { either_number A.tag (either_number B.tag (either_number C.tag (either_number D.tag (either_number E.tag (either_number F.tag G.tag))))) };
+    ghost tag = { either_number A.tag (either_number B.tag (either_number C.tag (either_number D.tag (either_number
+        E.tag (either_number F.tag G.tag))))) };
 
-    ghost octets = { either_octets A.octets (either_octets B.octets (either_octets C.octets (either_octets D.octets (either_octets E.octets (either_octets F.octets G.octets))))) };
+    ghost octets = { either_octets A.octets (either_octets B.octets (either_octets C.octets (either_octets D.octets
+        (either_octets E.octets (either_octets F.octets G.octets))))) };
 
-    ghost fits = { EitherFits A.covers A.fits (EitherFits B.covers B.fits (EitherFits C.covers C.fits (EitherFits D.covers D.fits (EitherFits E.covers E.fits (EitherFits F.covers F.fits G.fits))))) };
+    ghost fits = { EitherFits A.covers A.fits (EitherFits B.covers B.fits (EitherFits C.covers C.fits (EitherFits
+        D.covers D.fits (EitherFits E.covers E.fits (EitherFits F.covers F.fits G.fits))))) };
 
-    ghost one = { one_either A.covers A.is_at (IsEither B.covers B.is_at (IsEither C.covers C.is_at (IsEither D.covers D.is_at (IsEither E.covers E.is_at (IsEither F.covers F.is_at G.is_at))))) A.one (one_either B.covers B.is_at (IsEither C.covers C.is_at (IsEither D.covers D.is_at (IsEither E.covers E.is_at (IsEither F.covers F.is_at G.is_at)))) B.one (one_either C.covers C.is_at (IsEither D.covers D.is_at (IsEither E.covers E.is_at (IsEither F.covers F.is_at G.is_at))) C.one (one_either D.covers D.is_at (IsEither E.covers E.is_at (IsEither F.covers F.is_at G.is_at)) D.one (one_either E.covers E.is_at (IsEither F.covers F.is_at G.is_at) E.one (one_either F.covers F.is_at G.is_at F.one G.one))))) };
+    ghost one = { one_either A.covers A.is_at (IsEither B.covers B.is_at (IsEither C.covers C.is_at (IsEither D.covers
+        D.is_at (IsEither E.covers E.is_at (IsEither F.covers F.is_at G.is_at))))) A.one (one_either B.covers B.is_at
+        (IsEither C.covers C.is_at (IsEither D.covers D.is_at (IsEither E.covers E.is_at (IsEither F.covers F.is_at
+        G.is_at)))) B.one (one_either C.covers C.is_at (IsEither D.covers D.is_at (IsEither E.covers E.is_at (IsEither
+        F.covers F.is_at G.is_at))) C.one (one_either D.covers D.is_at (IsEither E.covers E.is_at (IsEither F.covers
+        F.is_at G.is_at)) D.one (one_either E.covers E.is_at (IsEither F.covers F.is_at G.is_at) E.one (one_either
+        F.covers F.is_at G.is_at F.one G.one))))) };
 
-    ghost found_code = { coded⊎ A.found_code (coded⊎ B.found_code (coded⊎ C.found_code (coded⊎ D.found_code (coded⊎ E.found_code (coded⊎ F.found_code G.found_code))))) };
+    ghost found_code = { coded⊎ A.found_code (coded⊎ B.found_code (coded⊎ C.found_code (coded⊎ D.found_code (coded⊎
+        E.found_code (coded⊎ F.found_code G.found_code))))) };
 
-    ghost turns_of = { either_number A.turns_of (either_number B.turns_of (either_number C.turns_of (either_number D.turns_of (either_number E.turns_of (either_number F.turns_of G.turns_of))))) };
+    ghost turns_of = { either_number A.turns_of (either_number B.turns_of (either_number C.turns_of (either_number
+        D.turns_of (either_number E.turns_of (either_number F.turns_of G.turns_of))))) };
 
     ghost base = { A.base + (B.base + (C.base + (D.base + (E.base + (F.base + G.base))))) };
 
@@ -458,11 +497,27 @@ where
         }
     }
 
-    ghost onward = { onward_either A.covers A.is_at (IsEither B.covers B.is_at (IsEither C.covers C.is_at (IsEither D.covers D.is_at (IsEither E.covers E.is_at (IsEither F.covers F.is_at G.is_at))))) A.onward (onward_either B.covers B.is_at (IsEither C.covers C.is_at (IsEither D.covers D.is_at (IsEither E.covers E.is_at (IsEither F.covers F.is_at G.is_at)))) B.onward (onward_either C.covers C.is_at (IsEither D.covers D.is_at (IsEither E.covers E.is_at (IsEither F.covers F.is_at G.is_at))) C.onward (onward_either D.covers D.is_at (IsEither E.covers E.is_at (IsEither F.covers F.is_at G.is_at)) D.onward (onward_either E.covers E.is_at (IsEither F.covers F.is_at G.is_at) E.onward (onward_either F.covers F.is_at G.is_at F.onward G.onward))))) };
+    ghost onward = { onward_either A.covers A.is_at (IsEither B.covers B.is_at (IsEither C.covers C.is_at (IsEither
+        D.covers D.is_at (IsEither E.covers E.is_at (IsEither F.covers F.is_at G.is_at))))) A.onward (onward_either
+        B.covers B.is_at (IsEither C.covers C.is_at (IsEither D.covers D.is_at (IsEither E.covers E.is_at (IsEither
+        F.covers F.is_at G.is_at)))) B.onward (onward_either C.covers C.is_at (IsEither D.covers D.is_at (IsEither
+        E.covers E.is_at (IsEither F.covers F.is_at G.is_at))) C.onward (onward_either D.covers D.is_at (IsEither
+        E.covers E.is_at (IsEither F.covers F.is_at G.is_at)) D.onward (onward_either E.covers E.is_at (IsEither
+        F.covers F.is_at G.is_at) E.onward (onward_either F.covers F.is_at G.is_at F.onward G.onward))))) };
 
-    ghost read_back = { either_read_back A.covers A.read_back (either_read_back B.covers B.read_back (either_read_back C.covers C.read_back (either_read_back D.covers D.read_back (either_read_back E.covers E.read_back (either_read_back F.covers F.read_back G.read_back))))) };
+    ghost read_back = { either_read_back A.covers A.read_back (either_read_back B.covers B.read_back (either_read_back
+        C.covers C.read_back (either_read_back D.covers D.read_back (either_read_back E.covers E.read_back
+        (either_read_back F.covers F.read_back G.read_back))))) };
 
-    ghost delimited = { λ yes. delimited_either A.covers (A.delimited (A.Delimited.both yes).0) (delimited_either B.covers (B.delimited (B.Delimited.both ((A.Delimited.both yes).1)).0) (delimited_either C.covers (C.delimited (C.Delimited.both ((B.Delimited.both ((A.Delimited.both yes).1)).1)).0) (delimited_either D.covers (D.delimited (D.Delimited.both ((C.Delimited.both ((B.Delimited.both ((A.Delimited.both yes).1)).1)).1)).0) (delimited_either E.covers (E.delimited (E.Delimited.both ((D.Delimited.both ((C.Delimited.both ((B.Delimited.both ((A.Delimited.both yes).1)).1)).1)).1)).0) (delimited_either F.covers (F.delimited (F.Delimited.both ((E.Delimited.both ((D.Delimited.both ((C.Delimited.both ((B.Delimited.both ((A.Delimited.both yes).1)).1)).1)).1)).1)).0) (G.delimited ((F.Delimited.both ((E.Delimited.both ((D.Delimited.both ((C.Delimited.both ((B.Delimited.both ((A.Delimited.both yes).1)).1)).1)).1)).1)).1))))))) };
+    ghost delimited = { λ yes. delimited_either A.covers (A.delimited (A.Delimited.both yes).0) (delimited_either
+        B.covers (B.delimited (B.Delimited.both ((A.Delimited.both yes).1)).0) (delimited_either C.covers (C.delimited
+        (C.Delimited.both ((B.Delimited.both ((A.Delimited.both yes).1)).1)).0) (delimited_either D.covers (D.delimited
+        (D.Delimited.both ((C.Delimited.both ((B.Delimited.both ((A.Delimited.both yes).1)).1)).1)).0) (delimited_either
+        E.covers (E.delimited (E.Delimited.both ((D.Delimited.both ((C.Delimited.both ((B.Delimited.both
+        ((A.Delimited.both yes).1)).1)).1)).1)).0) (delimited_either F.covers (F.delimited (F.Delimited.both
+        ((E.Delimited.both ((D.Delimited.both ((C.Delimited.both ((B.Delimited.both ((A.Delimited.both
+        yes).1)).1)).1)).1)).1)).0) (G.delimited ((F.Delimited.both ((E.Delimited.both ((D.Delimited.both
+        ((C.Delimited.both ((B.Delimited.both ((A.Delimited.both yes).1)).1)).1)).1)).1)).1))))))) };
 
     ghost canonical = { λ yes key. not_one_way yes };
 
@@ -578,25 +633,41 @@ where
 
     ghost found = { one_of_8 A.found B.found C.found D.found E.found F.found G.found H.found };
 
-    ghost covers = { λ key. A.covers key ⊎ (B.covers key ⊎ (C.covers key ⊎ (D.covers key ⊎ (E.covers key ⊎ (F.covers key ⊎ (G.covers key ⊎ H.covers key)))))) };
+    ghost covers = { λ key. A.covers key ⊎ (B.covers key ⊎ (C.covers key ⊎ (D.covers key ⊎ (E.covers key ⊎ (F.covers key
+        ⊎ (G.covers key ⊎ H.covers key)))))) };
 
-    ghost is_at = { IsEither A.covers A.is_at (IsEither B.covers B.is_at (IsEither C.covers C.is_at (IsEither D.covers D.is_at (IsEither E.covers E.is_at (IsEither F.covers F.is_at (IsEither G.covers G.is_at H.is_at)))))) };
+    ghost is_at = { IsEither A.covers A.is_at (IsEither B.covers B.is_at (IsEither C.covers C.is_at (IsEither D.covers
+        D.is_at (IsEither E.covers E.is_at (IsEither F.covers F.is_at (IsEither G.covers G.is_at H.is_at)))))) };
 
     ghost Said = { A.Said ⊎ (B.Said ⊎ (C.Said ⊎ (D.Said ⊎ (E.Said ⊎ (F.Said ⊎ (G.Said ⊎ H.Said)))))) };
 
-    ghost says = { either_says A.says (either_says B.says (either_says C.says (either_says D.says (either_says E.says (either_says F.says (either_says G.says H.says)))))) };
+    ghost says = { either_says A.says (either_says B.says (either_says C.says (either_says D.says (either_says E.says
+        (either_says F.says (either_says G.says H.says)))))) };
 
-    ghost tag = { either_number A.tag (either_number B.tag (either_number C.tag (either_number D.tag (either_number E.tag (either_number F.tag (either_number G.tag H.tag)))))) };
+    ghost tag = { either_number A.tag (either_number B.tag (either_number C.tag (either_number D.tag (either_number
+        E.tag (either_number F.tag (either_number G.tag H.tag)))))) };
 
-    ghost octets = { either_octets A.octets (either_octets B.octets (either_octets C.octets (either_octets D.octets (either_octets E.octets (either_octets F.octets (either_octets G.octets H.octets)))))) };
+    ghost octets = { either_octets A.octets (either_octets B.octets (either_octets C.octets (either_octets D.octets
+        (either_octets E.octets (either_octets F.octets (either_octets G.octets H.octets)))))) };
 
-    ghost fits = { EitherFits A.covers A.fits (EitherFits B.covers B.fits (EitherFits C.covers C.fits (EitherFits D.covers D.fits (EitherFits E.covers E.fits (EitherFits F.covers F.fits (EitherFits G.covers G.fits H.fits)))))) };
+    ghost fits = { EitherFits A.covers A.fits (EitherFits B.covers B.fits (EitherFits C.covers C.fits (EitherFits
+        D.covers D.fits (EitherFits E.covers E.fits (EitherFits F.covers F.fits (EitherFits G.covers G.fits H.fits)))))) };
 
-    ghost one = { one_either A.covers A.is_at (IsEither B.covers B.is_at (IsEither C.covers C.is_at (IsEither D.covers D.is_at (IsEither E.covers E.is_at (IsEither F.covers F.is_at (IsEither G.covers G.is_at H.is_at)))))) A.one (one_either B.covers B.is_at (IsEither C.covers C.is_at (IsEither D.covers D.is_at (IsEither E.covers E.is_at (IsEither F.covers F.is_at (IsEither G.covers G.is_at H.is_at))))) B.one (one_either C.covers C.is_at (IsEither D.covers D.is_at (IsEither E.covers E.is_at (IsEither F.covers F.is_at (IsEither G.covers G.is_at H.is_at)))) C.one (one_either D.covers D.is_at (IsEither E.covers E.is_at (IsEither F.covers F.is_at (IsEither G.covers G.is_at H.is_at))) D.one (one_either E.covers E.is_at (IsEither F.covers F.is_at (IsEither G.covers G.is_at H.is_at)) E.one (one_either F.covers F.is_at (IsEither G.covers G.is_at H.is_at) F.one (one_either G.covers G.is_at H.is_at G.one H.one)))))) };
+    ghost one = { one_either A.covers A.is_at (IsEither B.covers B.is_at (IsEither C.covers C.is_at (IsEither D.covers
+        D.is_at (IsEither E.covers E.is_at (IsEither F.covers F.is_at (IsEither G.covers G.is_at H.is_at)))))) A.one
+        (one_either B.covers B.is_at (IsEither C.covers C.is_at (IsEither D.covers D.is_at (IsEither E.covers E.is_at
+        (IsEither F.covers F.is_at (IsEither G.covers G.is_at H.is_at))))) B.one (one_either C.covers C.is_at (IsEither
+        D.covers D.is_at (IsEither E.covers E.is_at (IsEither F.covers F.is_at (IsEither G.covers G.is_at H.is_at))))
+        C.one (one_either D.covers D.is_at (IsEither E.covers E.is_at (IsEither F.covers F.is_at (IsEither G.covers
+        G.is_at H.is_at))) D.one (one_either E.covers E.is_at (IsEither F.covers F.is_at (IsEither G.covers G.is_at
+        H.is_at)) E.one (one_either F.covers F.is_at (IsEither G.covers G.is_at H.is_at) F.one (one_either G.covers
+        G.is_at H.is_at G.one H.one)))))) };
 
-    ghost found_code = { coded⊎ A.found_code (coded⊎ B.found_code (coded⊎ C.found_code (coded⊎ D.found_code (coded⊎ E.found_code (coded⊎ F.found_code (coded⊎ G.found_code H.found_code)))))) };
+    ghost found_code = { coded⊎ A.found_code (coded⊎ B.found_code (coded⊎ C.found_code (coded⊎ D.found_code (coded⊎
+        E.found_code (coded⊎ F.found_code (coded⊎ G.found_code H.found_code)))))) };
 
-    ghost turns_of = { either_number A.turns_of (either_number B.turns_of (either_number C.turns_of (either_number D.turns_of (either_number E.turns_of (either_number F.turns_of (either_number G.turns_of H.turns_of)))))) };
+    ghost turns_of = { either_number A.turns_of (either_number B.turns_of (either_number C.turns_of (either_number
+        D.turns_of (either_number E.turns_of (either_number F.turns_of (either_number G.turns_of H.turns_of)))))) };
 
     ghost base = { A.base + (B.base + (C.base + (D.base + (E.base + (F.base + (G.base + H.base)))))) };
 
@@ -748,11 +819,32 @@ where
         }
     }
 
-    ghost onward = { onward_either A.covers A.is_at (IsEither B.covers B.is_at (IsEither C.covers C.is_at (IsEither D.covers D.is_at (IsEither E.covers E.is_at (IsEither F.covers F.is_at (IsEither G.covers G.is_at H.is_at)))))) A.onward (onward_either B.covers B.is_at (IsEither C.covers C.is_at (IsEither D.covers D.is_at (IsEither E.covers E.is_at (IsEither F.covers F.is_at (IsEither G.covers G.is_at H.is_at))))) B.onward (onward_either C.covers C.is_at (IsEither D.covers D.is_at (IsEither E.covers E.is_at (IsEither F.covers F.is_at (IsEither G.covers G.is_at H.is_at)))) C.onward (onward_either D.covers D.is_at (IsEither E.covers E.is_at (IsEither F.covers F.is_at (IsEither G.covers G.is_at H.is_at))) D.onward (onward_either E.covers E.is_at (IsEither F.covers F.is_at (IsEither G.covers G.is_at H.is_at)) E.onward (onward_either F.covers F.is_at (IsEither G.covers G.is_at H.is_at) F.onward (onward_either G.covers G.is_at H.is_at G.onward H.onward)))))) };
+    ghost onward = { onward_either A.covers A.is_at (IsEither B.covers B.is_at (IsEither C.covers C.is_at (IsEither
+        D.covers D.is_at (IsEither E.covers E.is_at (IsEither F.covers F.is_at (IsEither G.covers G.is_at H.is_at))))))
+        A.onward (onward_either B.covers B.is_at (IsEither C.covers C.is_at (IsEither D.covers D.is_at (IsEither
+        E.covers E.is_at (IsEither F.covers F.is_at (IsEither G.covers G.is_at H.is_at))))) B.onward (onward_either
+        C.covers C.is_at (IsEither D.covers D.is_at (IsEither E.covers E.is_at (IsEither F.covers F.is_at (IsEither
+        G.covers G.is_at H.is_at)))) C.onward (onward_either D.covers D.is_at (IsEither E.covers E.is_at (IsEither
+        F.covers F.is_at (IsEither G.covers G.is_at H.is_at))) D.onward (onward_either E.covers E.is_at (IsEither
+        F.covers F.is_at (IsEither G.covers G.is_at H.is_at)) E.onward (onward_either F.covers F.is_at (IsEither
+        G.covers G.is_at H.is_at) F.onward (onward_either G.covers G.is_at H.is_at G.onward H.onward)))))) };
 
-    ghost read_back = { either_read_back A.covers A.read_back (either_read_back B.covers B.read_back (either_read_back C.covers C.read_back (either_read_back D.covers D.read_back (either_read_back E.covers E.read_back (either_read_back F.covers F.read_back (either_read_back G.covers G.read_back H.read_back)))))) };
+    ghost read_back = { either_read_back A.covers A.read_back (either_read_back B.covers B.read_back (either_read_back
+        C.covers C.read_back (either_read_back D.covers D.read_back (either_read_back E.covers E.read_back
+        (either_read_back F.covers F.read_back (either_read_back G.covers G.read_back H.read_back)))))) };
 
-    ghost delimited = { λ yes. delimited_either A.covers (A.delimited (A.Delimited.both yes).0) (delimited_either B.covers (B.delimited (B.Delimited.both ((A.Delimited.both yes).1)).0) (delimited_either C.covers (C.delimited (C.Delimited.both ((B.Delimited.both ((A.Delimited.both yes).1)).1)).0) (delimited_either D.covers (D.delimited (D.Delimited.both ((C.Delimited.both ((B.Delimited.both ((A.Delimited.both yes).1)).1)).1)).0) (delimited_either E.covers (E.delimited (E.Delimited.both ((D.Delimited.both ((C.Delimited.both ((B.Delimited.both ((A.Delimited.both yes).1)).1)).1)).1)).0) (delimited_either F.covers (F.delimited (F.Delimited.both ((E.Delimited.both ((D.Delimited.both ((C.Delimited.both ((B.Delimited.both ((A.Delimited.both yes).1)).1)).1)).1)).1)).0) (delimited_either G.covers (G.delimited (G.Delimited.both ((F.Delimited.both ((E.Delimited.both ((D.Delimited.both ((C.Delimited.both ((B.Delimited.both ((A.Delimited.both yes).1)).1)).1)).1)).1)).1)).0) (H.delimited ((G.Delimited.both ((F.Delimited.both ((E.Delimited.both ((D.Delimited.both ((C.Delimited.both ((B.Delimited.both ((A.Delimited.both yes).1)).1)).1)).1)).1)).1)).1)))))))) };
+    ghost delimited = { λ yes. delimited_either A.covers (A.delimited (A.Delimited.both yes).0) (delimited_either
+        B.covers (B.delimited (B.Delimited.both ((A.Delimited.both yes).1)).0) (delimited_either C.covers (C.delimited
+        (C.Delimited.both ((B.Delimited.both ((A.Delimited.both yes).1)).1)).0) (delimited_either D.covers (D.delimited
+        (D.Delimited.both ((C.Delimited.both ((B.Delimited.both ((A.Delimited.both yes).1)).1)).1)).0) (delimited_either
+        E.covers (E.delimited (E.Delimited.both ((D.Delimited.both ((C.Delimited.both ((B.Delimited.both
+        ((A.Delimited.both yes).1)).1)).1)).1)).0) (delimited_either F.covers (F.delimited (F.Delimited.both
+        ((E.Delimited.both ((D.Delimited.both ((C.Delimited.both ((B.Delimited.both ((A.Delimited.both
+        yes).1)).1)).1)).1)).1)).0) (delimited_either G.covers (G.delimited (G.Delimited.both ((F.Delimited.both
+        ((E.Delimited.both ((D.Delimited.both ((C.Delimited.both ((B.Delimited.both ((A.Delimited.both
+        yes).1)).1)).1)).1)).1)).1)).0) (H.delimited ((G.Delimited.both ((F.Delimited.both ((E.Delimited.both
+        ((D.Delimited.both ((C.Delimited.both ((B.Delimited.both ((A.Delimited.both
+        yes).1)).1)).1)).1)).1)).1)).1)))))))) };
 
     ghost canonical = { λ yes key. not_one_way yes };
 

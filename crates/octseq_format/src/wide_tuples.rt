@@ -2,9 +2,9 @@
 ghost use Rattle.std.specs.Prelude.{◌+◌, ◌&&◌, refl};
 ghost use Rattle.octseq_format.specs.Pair.{◌then◌, ◌and◌, ◌before◌, ◌also◌, ◌code_then◌, ◌plus◌, ◌key_and◌};
 ghost use Rattle.octseq_format.specs.Pair.{◌one_then◌, ◌onward_then◌, ◌back_then◌, ◌delimited_then◌, ◌canonical_then◌};
-ghost use Rattle.octseq_format.specs.Pair.{some_more};
+ghost use Rattle.octseq_format.specs.Pair.{some_either};
 
-use crate::answer::Yes;
+use crate::answer::{Or, Yes};
 use crate::format::Format;
 use crate::tuples::{both_len, put_or_cut};
 use octseq::{AsOctets, Malformed, OctetsBuilder, Parser, Truncate, Turns};
@@ -19,7 +19,31 @@ impl<
     E: Format<R, Delimited = Yes>,
     F: Format<R, Delimited = Yes>,
     G: Format<R>,
-> Format<R> for (A, B, C, D, E, F, G) {
+> Format<R> for (A, B, C, D, E, F, G)
+where
+    F::Moving: Or<G::Moving>,
+    E::Moving: Or<<F::Moving as Or<G::Moving>>::Joined>,
+    D::Moving: Or<<E::Moving as Or<<F::Moving as Or<G::Moving>>::Joined>>::Joined>,
+    C::Moving: Or<
+        <D::Moving as Or<<E::Moving as Or<<F::Moving as Or<G::Moving>>::Joined>>::Joined>>::Joined,
+    >,
+    B::Moving: Or<
+        <C::Moving as Or<
+            <D::Moving as Or<
+                <E::Moving as Or<<F::Moving as Or<G::Moving>>::Joined>>::Joined,
+            >>::Joined,
+        >>::Joined,
+    >,
+    A::Moving: Or<
+        <B::Moving as Or<
+            <C::Moving as Or<
+                <D::Moving as Or<
+                    <E::Moving as Or<<F::Moving as Or<G::Moving>>::Joined>>::Joined,
+                >>::Joined,
+            >>::Joined,
+        >>::Joined,
+    >,
+{
     type Value = (
         A::Value,
         B::Value,
@@ -32,7 +56,15 @@ impl<
 
     type Delimited = G::Delimited;
 
-    type Moving = A::Moving;
+    type Moving = <A::Moving as Or<
+        <B::Moving as Or<
+            <C::Moving as Or<
+                <D::Moving as Or<
+                    <E::Moving as Or<<F::Moving as Or<G::Moving>>::Joined>>::Joined,
+                >>::Joined,
+            >>::Joined,
+        >>::Joined,
+    >>::Joined;
 
     ghost Found = { A.Found × (B.Found × (C.Found × (D.Found × (E.Found × (F.Found × G.Found))))) };
 
@@ -151,8 +183,10 @@ impl<
         delimited_then D.delimited refl delimited_then E.delimited refl delimited_then F.delimited refl delimited_then
         G.delimited yes };
 
-    ghost moving = { λ yes. some_more (B.least + (C.least + (D.least + (E.least + (F.least + G.least)))))
-        (A.moving yes) };
+    ghost moving = { λ yes. some_either A.moving (λ yes. some_either B.moving (λ yes. some_either C.moving (λ yes.
+        some_either D.moving (λ yes. some_either E.moving (λ yes. some_either F.moving G.moving (F.Moving.either yes))
+        (E.Moving.either yes)) (D.Moving.either yes)) (C.Moving.either yes)) (B.Moving.either yes)) (A.Moving.either
+        yes) };
 }
 
 impl<
@@ -165,7 +199,42 @@ impl<
     F: Format<R, Delimited = Yes>,
     G: Format<R, Delimited = Yes>,
     H: Format<R>,
-> Format<R> for (A, B, C, D, E, F, G, H) {
+> Format<R> for (A, B, C, D, E, F, G, H)
+where
+    G::Moving: Or<H::Moving>,
+    F::Moving: Or<<G::Moving as Or<H::Moving>>::Joined>,
+    E::Moving: Or<<F::Moving as Or<<G::Moving as Or<H::Moving>>::Joined>>::Joined>,
+    D::Moving: Or<
+        <E::Moving as Or<<F::Moving as Or<<G::Moving as Or<H::Moving>>::Joined>>::Joined>>::Joined,
+    >,
+    C::Moving: Or<
+        <D::Moving as Or<
+            <E::Moving as Or<
+                <F::Moving as Or<<G::Moving as Or<H::Moving>>::Joined>>::Joined,
+            >>::Joined,
+        >>::Joined,
+    >,
+    B::Moving: Or<
+        <C::Moving as Or<
+            <D::Moving as Or<
+                <E::Moving as Or<
+                    <F::Moving as Or<<G::Moving as Or<H::Moving>>::Joined>>::Joined,
+                >>::Joined,
+            >>::Joined,
+        >>::Joined,
+    >,
+    A::Moving: Or<
+        <B::Moving as Or<
+            <C::Moving as Or<
+                <D::Moving as Or<
+                    <E::Moving as Or<
+                        <F::Moving as Or<<G::Moving as Or<H::Moving>>::Joined>>::Joined,
+                    >>::Joined,
+                >>::Joined,
+            >>::Joined,
+        >>::Joined,
+    >,
+{
     type Value = (
         A::Value,
         B::Value,
@@ -179,7 +248,17 @@ impl<
 
     type Delimited = H::Delimited;
 
-    type Moving = A::Moving;
+    type Moving = <A::Moving as Or<
+        <B::Moving as Or<
+            <C::Moving as Or<
+                <D::Moving as Or<
+                    <E::Moving as Or<
+                        <F::Moving as Or<<G::Moving as Or<H::Moving>>::Joined>>::Joined,
+                    >>::Joined,
+                >>::Joined,
+            >>::Joined,
+        >>::Joined,
+    >>::Joined;
 
     ghost Found = { A.Found × (B.Found × (C.Found × (D.Found × (E.Found × (F.Found × (G.Found × H.Found)))))) };
 
@@ -227,7 +306,8 @@ impl<
 
     ghost rate = { A.rate + (B.rate + (C.rate + (D.rate + (E.rate + (F.rate + (G.rate + H.rate)))))) };
 
-    ghost key = { A.key key_and B.key key_and C.key key_and D.key key_and E.key key_and F.key key_and G.key key_and H.key };
+    ghost key = { A.key key_and B.key key_and C.key key_and D.key key_and E.key key_and F.key key_and G.key key_and
+        H.key };
 
     #[inline(always)]
     fn parse_counted(parser: &mut Parser<R>, turns: &mut Turns) -> Result<Self::Value, Malformed> {
@@ -305,6 +385,8 @@ impl<
         delimited_then D.delimited refl delimited_then E.delimited refl delimited_then F.delimited refl delimited_then
         G.delimited refl delimited_then H.delimited yes };
 
-    ghost moving = { λ yes. some_more (B.least + (C.least + (D.least + (E.least + (F.least + (G.least + H.least))))))
-        (A.moving yes) };
+    ghost moving = { λ yes. some_either A.moving (λ yes. some_either B.moving (λ yes. some_either C.moving (λ yes.
+        some_either D.moving (λ yes. some_either E.moving (λ yes. some_either F.moving (λ yes. some_either G.moving
+        H.moving (G.Moving.either yes)) (F.Moving.either yes)) (E.Moving.either yes)) (D.Moving.either yes))
+        (C.Moving.either yes)) (B.Moving.either yes)) (A.Moving.either yes) };
 }

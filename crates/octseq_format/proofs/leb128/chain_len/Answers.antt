@@ -6,4 +6,5 @@ pub returns-clause-none : goal.returns-clause-none
 returns-clause-none g c = λ _ k few within chained.
     let least = c.min-place-end.ensures in
     let all = c.loop-place-test.false in
-    not_chained c.args.octets.now c.loop-place.place k c.loop-place.invariant (omega (arith, least, all, few, within)) few chained
+    let place = c.loop-place.place in
+    not_chained c.args.octets.now place k c.loop-place.invariant (omega (arith, least, all, few, within)) few chained
