@@ -1,6 +1,7 @@
 pub mod Answer
 pub mod Bits
 pub mod Canonical
+pub mod Checked
 pub mod Choice
 pub mod CompactSize
 pub mod Conditional
@@ -19,6 +20,7 @@ pub mod Nothing
 pub mod Octets
 pub mod OneOf
 pub mod Optional
+pub mod Padding
 pub mod Pair
 pub mod Part
 pub mod Quic

@@ -72,7 +72,11 @@ past_both w x y =
     let long : length (x ++ y) ≡ length x + length y = length-append x y in
     ap (λ p. at p w) (omega (arith, long))
 
--- a sum is positive if one of its numbers is
+-- a sum is positive if its first number is
+pub some_more : {m : ℕ} (n : ℕ) → 0 < m → 0 < m + n
+some_more n some = omega (arith, some)
+
+-- or if one of its numbers is
 pub some_either : {A B : Type 0} {m n : ℕ} → (A → 0 < m) → (B → 0 < n) → A ⊎ B → 0 < m + n
 some_either first second (inl a) = let some = first a in omega (arith, some)
 some_either first second (inr b) = let some = second b in omega (arith, some)

@@ -1,15 +1,19 @@
 -- Items, each after its tag, up to the tag that ends them.
-use Rattle.std.specs.Prelude.{◌≡◌, ◌≢◌, ℕ, ◌+◌, Option, Some, None, List, [], ◌∷◌, ◌++◌, length}
+use Rattle.std.specs.Prelude.{◌≡◌, ◌≢◌, ℕ, ◌+◌, Bool, ◌&&◌, IsTrue, Option, Some, None, List, [], ◌∷◌, ◌++◌, length}
 use Rattle.std.specs.Prelude.{map, refl}
-use Rattle.std.proofs.Common.{ap, ◌∙◌, subst, arith, append_assoc}
+use Rattle.std.proofs.Common.{sym, ap, ◌∙◌, subst, arith, append_assoc}
+use Rattle.std.specs.Coded.{×_prop}
+use mathlib.Core.HLevel.{⊥_prop}
 use Rattle.std.specs.List.{AllByRecursion}
 use Rattle.octseq.specs.Window.{Window, rest, past}
 use Rattle.octseq.proofs.WindowsAfter.{front_comes_next}
+use Rattle.octseq_format.specs.Canonical.{IsCanonical, both_ways}
 use Rattle.octseq_format.specs.Family.{ByKey, IsWhen, WhenFits, one_when, onward_when, delimited_when}
 use Rattle.octseq_format.specs.Laws.{Relation, IsOne, IsOnward, IsReadBack, IsDelimited, back_of}
 use Rattle.octseq_format.specs.Pair.{past_both}
-use Rattle.octseq_format.specs.Row.{Row, row_octets, row_next, onward_row}
+use Rattle.octseq_format.specs.Row.{Row, row_octets, row_next, onward_row, each_once, row_written, sound_row}
 use Rattle.octseq_format.specs.Tagged.{Tagged, tagged_octets, TaggedFits, one_tagged, onward_tagged, delimited_tagged}
+use Rattle.octseq_format.specs.Tagged.{canonical_tagged}
 
 -- another number than n
 abbrev pub IsNot : ℕ → ℕ → Type 0
@@ -113,3 +117,58 @@ module _ {A S : Type 0} (n : ℕ) {Number : Relation ℕ} {Is : ByKey A} {says :
       → IsReadBack (IsUntil n Number Is) (map says) (until_octets n number tag octets)
       (UntilFits n NumberFits tag Fits)
   until_read_back one each = back_of (delimited_until one each)
+
+-- ---- written as they were read
+
+-- a key is another number than n in at most one way
+not_once : (n key : ℕ) → IsProp (IsNot n key)
+not_once n key = hlevel ⊥_prop
+
+until_once : {S : Type 0} (n : ℕ) {NumberFits : ℕ → Type 0} {tag : S → ℕ} {Fits : ℕ → S → Type 0}
+    → ((said : List S) → IsProp (AllByRecursion (TaggedFits NumberFits tag (WhenFits (IsNot n) Fits)) said))
+    → ((m : ℕ) → IsProp (NumberFits m)) → (said : List S) → IsProp (UntilFits n NumberFits tag Fits said)
+until_once n each ends said a b =
+    ap (λ fits. record { each = fits; ends = a.ends }) (each said a.each b.each)
+    ∙ ap (λ fits. record { each = b.each; ends = fits }) (ends n a.ends b.ends)
+
+module _ {A S : Type 0} (n : ℕ) {Is : ByKey A} {says : A → S} {octets : ℕ → S → List ℕ} {Fits : ℕ → S → Type 0} where
+  pub canonical_unless : ((key : ℕ) → IsCanonical (Is key) says (octets key) (Fits key)) → (key : ℕ)
+      → IsCanonical (IsWhen (IsNot n) Is key) says (octets key) (WhenFits (IsNot n) Fits key)
+  canonical_unless each key = record {
+    once = λ said. ×_prop ((each key).once said) (not_once n key);
+    written = λ w a v sound is.
+        let there = (each key).written w a v sound is.1 in
+        ((there.0, is.0), there.1);
+    on = λ w a v sound is. (each key).on w a v sound is.1;
+  }
+
+  module _ {Number : Relation ℕ} {number : ℕ → List ℕ} {NumberFits : ℕ → Type 0} {tag : S → ℕ} where
+    pub canonical_until : IsCanonical Number (λ n. n) number NumberFits
+        → ((key : ℕ) → IsCanonical (Is key) says (octets key) (Fits key))
+        → ((key : ℕ) (said : S) → Fits key said → tag said ≡ key)
+        → IsCanonical (IsUntil n Number Is) (map says) (until_octets n number tag octets)
+        (UntilFits n NumberFits tag Fits)
+    canonical_until one family told =
+        let item = canonical_tagged one (canonical_unless family) (λ key said fits. told key said fits.0) in
+        let items = tagged_octets number tag octets in
+        record {
+          once = until_once n (each_once item.once) one.once;
+          written = λ w row v sound is.
+              let u = is.0 in
+              let there = row_written item w row u sound is.1 in
+              let ends = one.written u n v (sound_row item w row u sound is.1) is.2 in
+              let x = row_octets items (map says row) in (
+                record { each = there.0; ends = ends.0 },
+                there.1 ∙ ap (λ o. x ++ o) ends.1 ∙ sym (append_assoc x (number n) (rest v)),
+              );
+          on = λ w row v sound is. one.on is.0 n v (sound_row item w row is.0 sound is.1) is.2;
+        }
+
+    pub canonical_ended : {a b : Bool} → (IsTrue a → IsCanonical Number (λ n. n) number NumberFits)
+        → (IsTrue b → (key : ℕ) → IsCanonical (Is key) says (octets key) (Fits key))
+        → (IsTrue b → (key : ℕ) (said : S) → Fits key said → tag said ≡ key) → IsTrue (a && b)
+        → IsCanonical (IsUntil n Number Is) (map says) (until_octets n number tag octets)
+        (UntilFits n NumberFits tag Fits)
+    canonical_ended one family told both =
+        let ways = both_ways _ _ both in
+        canonical_until (one ways.0) (family ways.1) (told ways.1)

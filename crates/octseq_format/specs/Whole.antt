@@ -3,7 +3,7 @@ use Rattle.std.specs.Prelude.{◌≡◌, ℕ, ◌+◌, List, length}
 use Rattle.std.proofs.Common.{sym, ap, ◌∙◌, arith, length-append}
 use Rattle.std.specs.Coded.{Coded-set, coded_ℕ, ×_prop}
 use Rattle.octseq.specs.Window.{Window, rest}
-use Rattle.octseq_format.specs.Canonical.{IsCanonical, many_rest}
+use Rattle.octseq_format.specs.Canonical.{IsSound, IsCanonical, many_rest}
 use Rattle.octseq_format.specs.Laws.{Relation, NoneAt, Takes, IsOne, IsOnward, IsReadBack, IsDelimited}
 
 -- the value, which takes as many octets as its key says
@@ -13,6 +13,18 @@ IsWhole key says Is w a v = Is w a v × (w.position + key (says a) ≡ v.positio
 -- It fits, and its key counts its octets.
 abbrev pub WholeFits : {S : Type 0} → (S → ℕ) → (S → List ℕ) → (S → Type 0) → S → Type 0
 WholeFits key octets Fits said = Fits said × (key said ≡ length (octets said))
+
+-- the octets that say it are as many as it takes, if its encoding is unique
+pub octets_taken : {A S : Type 0} {Is : Relation A} {says : A → S} {octets : S → List ℕ} {Fits : S → Type 0}
+    {least : ℕ} → IsOnward least Is → IsCanonical Is says octets Fits → (w : Window) (a : A) (v : Window) → IsSound w
+    → Is w a v → w.position + length (octets (says a)) ≡ v.position
+octets_taken {says = says} {octets = octets} onward canonical w a v sound is =
+    let on = onward.on w a v sound.ordered is in
+    let there = canonical.written w a v sound is in
+    let before = many_rest w sound in
+    let after = many_rest v (canonical.on w a v sound is) in
+    let all = ap length there.1 ∙ length-append (octets (says a)) (rest v) in
+    omega (arith, on.1, on.2, on.3, sound.ordered, before, after, all)
 
 module _ {A S : Type 0} (key : S → ℕ) (says : A → S) {Is : Relation A} where
   pub one_whole : IsOne Is → IsOne (IsWhole key says Is)
@@ -58,11 +70,8 @@ module _ {A S : Type 0} (key : S → ℕ) (says : A → S) {Is : Relation A} whe
     canonical_whole onward canonical = record {
       once = λ said. ×_prop (canonical.once said) (Coded-set coded_ℕ (key said) (length (octets said)));
       written = λ w a v sound is.
-          let on = onward.on w a v sound.ordered is.0 in
           let there = canonical.written w a v sound is.0 in
-          let before = many_rest w sound in
-          let after = many_rest v (canonical.on w a v sound is.0) in
-          let all = ap length there.1 ∙ length-append (octets (says a)) (rest v) in
-          ((there.0, omega (arith, on.1, on.2, on.3, before, after, all, is.1)), there.1);
+          let taken = octets_taken onward canonical w a v sound is.0 in
+          ((there.0, omega (arith, taken, is.1)), there.1);
       on = λ w a v sound is. canonical.on w a v sound is.0;
     }

@@ -3,7 +3,8 @@ ghost use Rattle.std.specs.Prelude.{Option, false};
 ghost use Rattle.std.specs.Coded.{coded_option};
 ghost use Rattle.octseq_format.specs.Answer.{not_so};
 ghost use Rattle.octseq_format.specs.Canonical.{not_one_way};
-ghost use Rattle.octseq_format.specs.Conditional.{IsIf, IfFits, one_if, onward_if, if_read_back, delimited_if};
+ghost use Rattle.octseq_format.specs.Conditional.{IsIf, IfFits, one_if, onward_if, if_read_back};
+ghost use Rattle.octseq_format.specs.Conditional.{delimited_if};
 ghost use Rattle.octseq_format.specs.Optional.{optional_says, optional_octets, optional_turns};
 
 use crate::families::Switch;
@@ -13,8 +14,8 @@ use octseq::{AsOctets, Malformed, OctetsBuilder, Parser, Truncate, Turns};
 use std::alloc::AllocError;
 use std::marker::PhantomData;
 
-/// `F` if the key answers `S` with yes, otherwise nothing. A value where the answer is no, or none where it is yes, has
-/// no octets.
+/// `F` if the key answers `S` with yes, otherwise nothing. A value where the answer is no, or none
+/// where it is yes, has no octets.
 #[derive(Debug)]
 pub struct If<S, F> {
     switch: PhantomData<S>,

@@ -2,8 +2,9 @@
 ghost use Rattle.std.specs.Prelude.{[], true};
 ghost use Rattle.octseq_format.specs.Answer.{not_so};
 ghost use Rattle.octseq_format.specs.Exactly.{coded_unit};
-ghost use Rattle.octseq_format.specs.Nothing.{IsNothing, one_nothing, onward_nothing, delimited_nothing};
-ghost use Rattle.octseq_format.specs.Nothing.{nothing_read_back, canonical_nothing};
+ghost use Rattle.octseq_format.specs.Nothing.{IsNothing, one_nothing, onward_nothing};
+ghost use Rattle.octseq_format.specs.Nothing.{delimited_nothing, nothing_read_back};
+ghost use Rattle.octseq_format.specs.Nothing.{canonical_nothing};
 
 use crate::answer::{No, Yes};
 use crate::format::Format;

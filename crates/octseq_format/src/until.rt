@@ -1,20 +1,19 @@
 //! Items up to a tag that ends them.
-ghost use Rattle.std.specs.Prelude.{◌≡◌, ◌≤◌, ◌+◌, ◌*◌, List, map, refl, false};
+ghost use Rattle.std.specs.Prelude.{◌≡◌, ◌≤◌, ◌+◌, ◌*◌, List, map, refl, ◌&&◌};
 ghost use Rattle.std.specs.Prelude.{IsErr, IfOk, OnOk};
 ghost use Rattle.std.specs.Coded.{coded_list};
 ghost use Rattle.octseq.specs.Parser.{window, sequence};
 ghost use Rattle.octseq.specs.Window.{Window, left};
-ghost use Rattle.octseq_format.specs.Answer.{not_so};
-ghost use Rattle.octseq_format.specs.Canonical.{not_one_way};
 ghost use Rattle.octseq_format.specs.Family.{IsWhen, WhenFits, one_when, onward_when};
 ghost use Rattle.octseq_format.specs.Family.{when_read_back, delimited_when};
 ghost use Rattle.octseq_format.specs.Laws.{NoneAt};
 ghost use Rattle.octseq_format.specs.Optional.{optional_says, optional_turns};
 ghost use Rattle.octseq_format.specs.Row.{Many, row_turns};
 ghost use Rattle.octseq_format.specs.Turns.{TakesTurns};
-ghost use Rattle.octseq_format.specs.Until.{IsNot, IsItem, IsNext, IsUntil, until_octets, UntilFits};
-ghost use Rattle.octseq_format.specs.Until.{one_until, onward_until, until_read_back};
-ghost use Rattle.octseq_format.specs.Until.{delimited_until};
+ghost use Rattle.octseq_format.specs.Until.{IsNot, IsItem, IsNext, IsUntil, until_octets};
+ghost use Rattle.octseq_format.specs.Until.{UntilFits, one_until, onward_until};
+ghost use Rattle.octseq_format.specs.Until.{until_read_back, delimited_until};
+ghost use Rattle.octseq_format.specs.Until.{canonical_unless, canonical_ended};
 ghost use Rattle.octseq_format.specs.Walk.{items_left};
 
 use crate::answer::Yes;
@@ -69,7 +68,7 @@ impl<R: AsOctets + Copy, const N: usize, F: Family<R>> Family<R> for Unless<N, F
 
     ghost rate = { F.rate };
 
-    ghost one_way = { false };
+    ghost one_way = { F.one_way };
 
     #[inline(always)]
     fn has_format(key: usize) -> bool {
@@ -90,7 +89,7 @@ impl<R: AsOctets + Copy, const N: usize, F: Family<R>> Family<R> for Unless<N, F
 
     #[inline(always)]
     fn is_unique() -> bool {
-        false
+        F::is_unique()
     }
 
     #[inline(always)]
@@ -121,9 +120,9 @@ impl<R: AsOctets + Copy, const N: usize, F: Family<R>> Family<R> for Unless<N, F
 
     ghost delimited = { λ yes. delimited_when (IsNot N) (F.delimited yes) };
 
-    ghost canonical = { λ yes key. not_one_way yes };
+    ghost canonical = { λ yes. canonical_unless N (F.canonical yes) };
 
-    ghost told = { λ yes key said fits. not_so yes };
+    ghost told = { λ yes key said fits. F.told yes key said fits.0 };
 }
 
 /// Reads an item, or the tag that ends them.
@@ -140,8 +139,8 @@ fn next_item<
     ensures same { sequence parser.new ≡ sequence parser.old }
     ensures end { (window parser.new).end ≡ (window parser.old).end }
     ensures onward { left (window parser.new) ≤ left (window parser.old) }
-    ensures counted { IfOk result (λ next. turns.old + optional_turns F.turns_of (optional_says F.found next)
-        ≤ turns.new) }
+    ensures counted { IfOk result (λ next.
+        turns.old + optional_turns F.turns_of (optional_says F.found next) ≤ turns.new) }
     ensures turns { TakesTurns F.base F.rate (left (window parser.old)) turns.old turns.new }
     ensures took { OnOk result (turns.new + F.rate * left (window parser.new)
         ≤ turns.old + F.base + F.rate * left (window parser.old)) }
@@ -163,13 +162,15 @@ fn pass_until<
     F: Family<R, Delimited = Yes> + TellsKey,
 >(parser: &mut Parser<R>, turns: &mut Turns) -> Result<(usize, usize), Malformed>
     ensures all { IfOk result (λ passed. (row : List F.Found) × (u : Window)
-        × Many passed.0 (IsItem END N.is_at F.is_at) (window parser.old) row u × (u.position ≡ passed.1)
-        × N.is_at u END (window parser.new) × (turns.old + row_turns F.turns_of row ≤ turns.new)) }
+        × Many passed.0 (IsItem END N.is_at F.is_at) (window parser.old) row u
+        × (u.position ≡ passed.1) × N.is_at u END (window parser.new)
+        × (turns.old + row_turns F.turns_of row ≤ turns.new)) }
     ensures malformed { IsErr result → NoneAt (IsUntil END N.is_at F.is_at) (window parser.old) }
     ensures same { sequence parser.new ≡ sequence parser.old }
     ensures end { (window parser.new).end ≡ (window parser.old).end }
     ensures onward { left (window parser.new) ≤ left (window parser.old) }
-    ensures turns { TakesTurns (F.base + 1) (F.base + 1 + F.rate) (left (window parser.old)) turns.old turns.new }
+    ensures turns { TakesTurns (F.base + 1) (F.base + 1 + F.rate) (left (window parser.old))
+        turns.old turns.new }
     ensures took { OnOk result (turns.new + (F.base + 1 + F.rate) * left (window parser.new)
         ≤ turns.old + (F.base + 1 + F.rate) * left (window parser.old)) }
 {
@@ -185,8 +186,8 @@ fn pass_until<
     }
 }
 
-/// Items, each `F` after its tag, up to the tag `END`, which takes no value and is no item. `N` encodes
-/// the tags.
+/// Items, each `F` after its tag, up to the tag `END`, which takes no value and is no item. `N`
+/// encodes the tags.
 #[derive(Debug)]
 pub struct Until<N, const END: usize, F> {
     number: PhantomData<N>,
@@ -233,7 +234,7 @@ impl<
 
     ghost key = { λ _. 0 };
 
-    ghost one_way = { false };
+    ghost one_way = { N.one_way && F.one_way };
 
     #[inline(always)]
     fn parse_counted(parser: &mut Parser<R>, turns: &mut Turns) -> Result<Self::Value, Malformed> {
@@ -256,7 +257,7 @@ impl<
 
     #[inline(always)]
     fn is_canonical() -> bool {
-        false
+        N::is_unique() && F::is_unique()
     }
 
     #[inline(always)]
@@ -284,7 +285,7 @@ impl<
         ended
     }
 
-    ghost canonical = { not_one_way };
+    ghost canonical = { canonical_ended END N.canonical F.canonical F.told };
 
     ghost onward = { onward_until END N.onward F.onward };
 

@@ -1,8 +1,9 @@
-//! Transactions of Bitcoin, with and without witnesses: BIP 144.
+//! Messages of Bitcoin, and transactions with and without witnesses: BIP 144.
+ghost use Rattle.std.specs.Prelude.{◌≡◌, ◌*◌, ◌/◌, ◌%◌, ◌||◌, min, nat_eq, if◌then◌else◌};
 
 use octseq_format::{
-    Any, Case, CompactSize, Counted, Exactly, Itself, Key, Keyed, ManyBy, Octets, Rest, Then,
-    Times, U8, U32Le, U64Le,
+    Any, Case, CompactSize, Counted, Exactly, Itself, Key, Keyed, ManyBy, Octets, Reckoning, Rest,
+    Sized, Test, Then, Through, Times, U8, U32Be, U32Le, U64Be, U64Le, When,
 };
 
 /// A count in one octet or more. It is written in the fewest.
@@ -37,4 +38,77 @@ pub type Transaction = Keyed<
         Case<0, WithWitnesses>,
         Then<ManyBy<Input>, Any<(Times<CompactSize, Output>, U32Le)>>,
     ),
+>;
+
+/// A command by its first eight octets, as a part of a key: 1 for `inv` and `getdata`, otherwise 0.
+#[derive(Debug)]
+pub struct Command;
+
+impl Reckoning for Command {
+    ghost of = { λ name. if (nat_eq name 7597139363792683008 || nat_eq name 7450489133034922240) then 1 else 0 };
+
+    fn of(name: usize) -> usize {
+        if name == 0x696E_7600_0000_0000 || name == 0x6765_7464_6174_6100 {
+            1
+        } else {
+            0
+        }
+    }
+}
+
+/// The length of a payload, as a part of a key: four times as much.
+#[derive(Debug)]
+pub struct LengthPart;
+
+impl Reckoning for LengthPart {
+    ghost of = { λ len. min (len * 4) 18446744073709551615 };
+
+    fn of(len: usize) -> usize {
+        len.saturating_mul(4)
+    }
+}
+
+/// The length of a payload, from a key.
+#[derive(Debug)]
+pub struct PayloadLength;
+
+impl Reckoning for PayloadLength {
+    ghost of = { λ key. key / 4 };
+
+    fn of(key: usize) -> usize {
+        key / 4
+    }
+}
+
+/// The key of a payload that is an inventory.
+#[derive(Debug)]
+pub struct IsInventory;
+
+impl Test for IsInventory {
+    ghost holds = { λ key. key % 4 ≡ 1 };
+
+    fn test(key: usize) -> bool {
+        key % 4 == 1
+    }
+}
+
+/// Items of an inventory after their count: a type, and a hash.
+pub type Inventory = Times<CompactSize, (U32Le, Octets<32>)>;
+
+/// A payload: an inventory, or any octets.
+pub type Payload = (
+    When<IsInventory, Through<PayloadLength, Sized<Inventory, 0>>>,
+    Through<PayloadLength, Sized<Rest, 0>>,
+);
+
+/// A message: a magic number, a command of twelve octets, the length of the payload, its checksum, and the payload.
+pub type Message = Keyed<
+    (
+        U32Be,
+        Key<U64Be, Command>,
+        U32Be,
+        Key<U32Le, LengthPart>,
+        U32Be,
+    ),
+    Payload,
 >;

@@ -3,8 +3,10 @@
 
 pub mod bgp;
 pub mod bitcoin;
+pub mod cbor;
 pub mod dhcp;
 pub mod mqtt;
+pub mod msgpack;
 pub mod ntp;
 pub mod protobuf;
 pub mod quic;
@@ -12,3 +14,4 @@ pub mod socks5;
 pub mod tftp;
 pub mod tls;
 pub mod wasm;
+pub mod websocket;
