@@ -121,7 +121,7 @@ short : (strings : List (List ℕ)) → AllByRecursion (CountFits 1 0 (λ octets
     → All (λ string. length string ≤ 255) strings
 short [] each = All-nil (λ string. length string ≤ 255)
 short (string ∷ strings) each =
-    let few = each.0.count in
+    let few : 0 + length string < 256 ^ 1 = each.0.tag_fits in
     All-cons (λ string. length string ≤ 255) string strings (omega (arith, few)) (short strings each.1)
 
 -- The strings from a window's position to a place: what they are, their octets, and that none is too long.
@@ -167,9 +167,11 @@ none_found w v found none is =
 pub short_string : (w inside v : Window) → IsSound w → Counted 1 0 IsRest w inside v → left inside ≤ 255
 short_string w inside v sound is =
     let small = small_be (next 1 w) (each_next 1 w sound) in
-    let few = subst (λ n. be (next 1 w) < 256 ^ n) (many_next 1 w sound is.0.0) small in
-    let same = ap left is.1.0 in
-    omega (arith, few, same)
+    let number = is.2 in
+    let few = subst (λ n. be (next 1 w) < 256 ^ n) (many_next 1 w sound number.0) small in
+    let value = number.1 in
+    let same = ap left is.3.2.0 in
+    omega (arith, few, value, same)
 
 -- each value of a row counts one turn
 pub turns_each : {A : Type 0} (row : List A) → row_turns (λ _. 0) row ≡ length row

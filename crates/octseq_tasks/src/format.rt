@@ -1,6 +1,6 @@
 //! Reading and writing a format.
 use octseq::Array;
-use octseq_format::{Counted, Format, Text, U16Be, U8};
+use octseq_format::{Counted, Format, Text, U8, U16Be};
 use std::alloc::Global;
 
 /// A number in two octets, followed by a text that is preceded by its length in one octet.

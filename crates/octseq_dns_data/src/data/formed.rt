@@ -3,12 +3,13 @@ ghost use Rattle.std.specs.Prelude.{◌≡◌, ℕ, ◌+◌, ◌≤◌, List, Is
 ghost use Rattle.octseq.specs.Parser.{window};
 ghost use Rattle.octseq.specs.Window.{Window, left, rest};
 ghost use Rattle.octseq_dns_data.specs.Formed.{IsFormed, FormedFits, one_formed, onward_formed, formed_read_back};
+ghost use Rattle.octseq_format.specs.Answer.{not_so};
 ghost use Rattle.octseq_format.specs.Canonical.{not_one_way};
 ghost use Rattle.octseq_format.specs.Rest.{window_code};
 ghost use Rattle.octseq_format.specs.Turns.{TakesTurns};
 
 use octseq::{AsOctets, Malformed, OctetsBuilder, Parser, Truncate, Turns};
-use octseq_format::Format;
+use octseq_format::{Format, No};
 use std::alloc::AllocError;
 use std::marker::PhantomData;
 
@@ -51,6 +52,10 @@ pub struct Formed<V> {
 
 impl<R: AsOctets + Copy, V: FormedOctets<R>> Format<R> for Formed<V> {
     type Value = V;
+
+    type Delimited = No;
+
+    type Moving = No;
 
     ghost Found = { Window };
 
@@ -122,4 +127,8 @@ impl<R: AsOctets + Copy, V: FormedOctets<R>> Format<R> for Formed<V> {
     ghost onward = { onward_formed V.has_form };
 
     ghost read_back = { formed_read_back V.has_form };
+
+    ghost delimited = { not_so };
+
+    ghost moving = { not_so };
 }

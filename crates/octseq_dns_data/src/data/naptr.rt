@@ -5,7 +5,7 @@ use crate::data::formed::Formed;
 use crate::data::txt::CharStr;
 use octseq::AsOctets;
 use octseq_dns_name::{DomainName, ParsedName};
-use octseq_format::{Counted, Fields, Format, U16Be, U8};
+use octseq_format::{Counted, Fields, Format, U8, U16Be};
 use std::alloc::AllocError;
 
 /// A naming authority pointer.
