@@ -1,9 +1,9 @@
-//! Prefixes and path attributes of BGP: RFC 4271, 4.3, with AS numbers of four octets (RFC 6793).
+//! Messages of BGP, and an UPDATE with its attributes: RFC 4271, 4.1 and 4.3, with AS numbers of four octets (RFC 6793).
 ghost use Rattle.std.specs.Prelude.{◌≡◌, ◌+◌, ◌*◌, ◌/◌, ◌%◌, nat_eq};
 
 use octseq_format::{
-    Any, Case, Itself, Key, Keyed, Nothing, Octets, Reckoning, Repeated, Rest, Sized, Switch,
-    Through, Times, U8, U16Be, U32Be, WithinBy,
+    Any, Case, Counted, Exactly, Itself, Key, Keyed, Nothing, Octets, Others, Reckoning, Repeated,
+    Rest, Sized, Switch, Tagged, Through, Times, U8, U16Be, U32Be, U64Be, WithinBy,
 };
 
 /// The type of an attribute: the low octet of its flags and type.
@@ -66,3 +66,20 @@ pub type Attribute = Keyed<
     Key<U16Be, Itself>,
     WithinBy<ExtendedLength, U16Be, U8, Through<AttributeType, AttributeValue>>,
 >;
+
+/// What an UPDATE says: routes that are withdrawn and path attributes, each after their length, and the prefixes that
+/// have these attributes.
+pub type Update = (
+    Counted<U16Be, Repeated<Prefix>, 0>,
+    Counted<U16Be, Repeated<Attribute>, 0>,
+    Repeated<Prefix>,
+);
+
+/// A type, and what a message of it says: UPDATE, KEEPALIVE, or the octets of another.
+pub type Body = Tagged<U8, (Case<2, Update>, Case<4, Nothing>, Others<Rest>)>;
+
+/// 64 bits of a marker, which are ones.
+pub type HalfMarker = Exactly<U64Be, 0xFFFF_FFFF_FFFF_FFFF>;
+
+/// A message: its marker, the length of all of it, and its type with what it says.
+pub type Message = (HalfMarker, HalfMarker, Counted<U16Be, Body, 18>);

@@ -1,10 +1,45 @@
-//! Messages of Bitcoin.
+//! Transactions of Bitcoin, with and without witnesses (BIP 144), and messages.
 ghost use Rattle.std.specs.Prelude.{◌≡◌, ◌*◌, ◌/◌, ◌%◌, ◌||◌, min, nat_eq, if◌then◌else◌};
 
 use octseq_format::{
-    CompactSize, Key, Keyed, Octets, Reckoning, Rest, Sized, Test, Through, Times, U32Be, U32Le,
-    U64Be, When,
+    Any, Case, CompactSize, Counted, Exactly, Itself, Key, Keyed, ManyBy, Octets, Reckoning, Rest,
+    Sized, Test, Then, Through, Times, U8, U32Be, U32Le, U64Be, U64Le, When,
 };
+
+/// An input: the hash of a transaction and the index of an output of it, a script, and a sequence number.
+pub type Input = (Octets<32>, U32Le, Counted<CompactSize, Rest, 0>, U32Le);
+
+/// An output: a value, and a script.
+pub type Output = (U64Le, Counted<CompactSize, Rest, 0>);
+
+/// A witness: items after their count.
+pub type Witness = Times<CompactSize, Counted<CompactSize, Rest, 0>>;
+
+/// A count of inputs.
+pub type Count = Key<CompactSize, Itself>;
+
+/// The flag 1, a count of inputs and as many of them, outputs after their count, a witness for each input, and the lock
+/// time.
+pub type WithWitnesses = (
+    Exactly<U8, 1>,
+    Keyed<
+        Count,
+        Then<
+            ManyBy<Input>,
+            Then<Any<Times<CompactSize, Output>>, Then<ManyBy<Witness>, Any<U32Le>>>,
+        >,
+    >,
+);
+
+/// A transaction: its version and a count of inputs. If it is 0, a flag follows, and there are witnesses; otherwise as
+/// many inputs, outputs after their count, and the lock time.
+pub type Transaction = Keyed<
+    (U32Le, Count),
+    (
+        Case<0, WithWitnesses>,
+        Then<ManyBy<Input>, Any<(Times<CompactSize, Output>, U32Le)>>,
+    ),
+>;
 
 /// A command by its first eight octets, as a part of a key: 1 for `inv` and `getdata`, otherwise 0.
 #[derive(Debug)]

@@ -1,7 +1,7 @@
 //! What the tests share.
 use octseq::compose::ComposeError;
 use octseq::{AsOctets, EmptyBuilder, Malformed, OctetsBuilder, Truncate};
-use octseq_asserts::assert_equal;
+use octseq_asserts::{assert_equal, assert_true};
 use octseq_format::Format;
 use std::alloc::{AllocGlobal, Global};
 use std::fmt::Debug;
@@ -65,11 +65,53 @@ fn compose<F: Format<R>, R: AsOctets + Copy, B: EmptyBuilder + Truncate>(
     F::compose_whole(alloc, value)
 }
 
+/// Reads a packet and writes it again. Returns `None` if the octets are malformed.
+fn rewritten<F: Format<R>, R: AsOctets + Copy>(
+    rt: &(impl AllocGlobal + Abort),
+    octets: R,
+) -> Option<Vec<u8>> {
+    let Ok(value) = F::parse_whole(octets) else {
+        return None;
+    };
+    Some(unwrap(rt, F::compose_whole(rt.alloc(), &value)))
+}
+
+/// Checks that a packet was written as these octets.
+fn is_same(rt: &impl Abort, written: Option<Vec<u8>>, octets: &[u8]) {
+    match written {
+        Some(written) => assert_equal!(rt, written.as_slice(), octets),
+        None => assert_equal!(rt, "malformed", "a packet"),
+    }
+}
+
+/// Checks that a packet was written in fewer octets.
+fn is_shorter(rt: &impl Abort, written: Option<Vec<u8>>, len: usize) {
+    match written {
+        Some(written) => assert_true!(rt, written.len() < len),
+        None => assert_equal!(rt, "malformed", "a packet"),
+    }
+}
+
+/// Checks that octets were refused.
+fn is_refused(rt: &impl Abort, written: Option<Vec<u8>>) {
+    assert_true!(rt, written.is_none());
+}
+
+/// Reads a value from all the octets. Returns `None` if they are malformed.
+fn value<F: Format<R>, R: AsOctets + Copy>(octets: R) -> Option<F::Value> {
+    F::parse_whole(octets).ok()
+}
+
+mod bgp;
+mod bitcoin;
 mod dhcp;
 mod families;
+mod headers;
+mod heads;
 mod keyed;
 mod leaves;
 mod limits;
+mod mqtt;
 mod ntp;
 mod numbers;
 mod refused;

@@ -1,44 +1,10 @@
 //! Packets of curl, scapy, protobuf, wabt, kdig, python3-bitcoinlib and python3-websockets, as tshark 4.0.17,
 //! wasm-validate and python3-bitcoinlib read them. Malformed ones are refused by these.
-use crate::tests::unwrap;
+use crate::tests::{is_refused, is_same, is_shorter, rewritten};
 use octseq::AsOctets;
-use octseq_asserts::{assert_equal, assert_true};
-use octseq_format::Format;
 use octseq_formats::{bitcoin, dhcp, protobuf, quic, socks5, wasm, websocket};
 use std::alloc::AllocGlobal;
 use std::process::Abort;
-
-/// Reads a packet and writes it again. Returns `None` if the octets are malformed.
-fn rewritten<F: Format<R>, R: AsOctets + Copy>(
-    rt: &(impl AllocGlobal + Abort),
-    octets: R,
-) -> Option<Vec<u8>> {
-    let Ok(value) = F::parse_whole(octets) else {
-        return None;
-    };
-    Some(unwrap(rt, F::compose_whole(rt.alloc(), &value)))
-}
-
-/// Checks that a packet was written as these octets.
-fn is_same(rt: &impl Abort, written: Option<Vec<u8>>, octets: &[u8]) {
-    match written {
-        Some(written) => assert_equal!(rt, written.as_slice(), octets),
-        None => assert_equal!(rt, "malformed", "a packet"),
-    }
-}
-
-/// Checks that a packet was written in fewer octets.
-fn is_shorter(rt: &impl Abort, written: Option<Vec<u8>>, len: usize) {
-    match written {
-        Some(written) => assert_true!(rt, written.len() < len),
-        None => assert_equal!(rt, "malformed", "a packet"),
-    }
-}
-
-/// Checks that octets were refused.
-fn is_refused(rt: &impl Abort, written: Option<Vec<u8>>) {
-    assert_true!(rt, written.is_none());
-}
 
 /// Reads and writes a packet again.
 fn bitcoin_message_again<R: AsOctets + Copy>(
