@@ -18,6 +18,9 @@ pub type Witness = Times<CompactSize, Counted<CompactSize, Rest, 0>>;
 /// A count of inputs.
 pub type Count = Key<CompactSize, Itself>;
 
+/// The flag 1, and a count of inputs.
+pub type WitnessedCount = (Exactly<U8, 1>, Count);
+
 /// The flag 1, a count of inputs and as many of them, outputs after their count, a witness for each input, and the lock
 /// time.
 pub type WithWitnesses = (

@@ -32,9 +32,8 @@ pub type Section = Tagged<
     ),
 >;
 
-/// A module: a magic number, the version 1, and sections. Their order is for the caller to check.
-pub type Module = (
-    Exactly<U32Be, 0x0061_736D>,
-    Exactly<U32Le, 1>,
-    Repeated<Section>,
-);
+/// What a module begins with: a magic number, and the version 1.
+pub type Header = (Exactly<U32Be, 0x0061_736D>, Exactly<U32Le, 1>);
+
+/// A module: its header, and sections. Their order is for the caller to check.
+pub type Module = (Header, Repeated<Section>);

@@ -1,0 +1,224 @@
+//! MessagePack and DER.
+use crate::fields::{Fields, Unshown, between, value};
+use crate::owed::Owed;
+use octseq::{AsOctets, Parser};
+use octseq_format::{Format, OneOf2, OneOf3, OneOf4, OneOf5, OneOf7};
+use octseq_formats::{der, msgpack};
+use std::alloc::Global;
+
+/// A value with its type's name before it.
+fn named(fields: &mut Fields, name: &str, number: u64) -> Result<(), Unshown> {
+    fields.push(name)?;
+    fields.decimal(number)
+}
+
+/// A number below zero or not.
+fn signed(fields: &mut Fields, number: i64) -> Result<(), Unshown> {
+    if number < 0 {
+        return named(fields, "int:-", number.unsigned_abs());
+    }
+    named(fields, "int:", number.unsigned_abs())
+}
+
+/// Octets with their type's name before them.
+fn octets(fields: &mut Fields, name: &str, octets: &[u8]) -> Result<(), Unshown> {
+    fields.push(name)?;
+    fields.hex(octets)
+}
+
+/// An extension.
+fn extension(fields: &mut Fields, kind: i8, inside: &[u8]) -> Result<(), Unshown> {
+    fields.push("ext:")?;
+    if kind < 0 {
+        fields.push("-")?;
+    }
+    fields.decimal(u64::from(kind.unsigned_abs()))?;
+    fields.push(":")?;
+    fields.hex(inside)
+}
+
+/// An array.
+fn array(fields: &mut Fields, owed: &mut Owed, items: u64) -> Result<(), Unshown> {
+    named(fields, "array:", items)?;
+    owed.owe(items)
+}
+
+/// A map.
+fn map(fields: &mut Fields, owed: &mut Owed, pairs: u64) -> Result<(), Unshown> {
+    named(fields, "map:", pairs)?;
+    owed.owe(pairs.saturating_mul(2))
+}
+
+/// An item that is its first octet.
+fn alone(fields: &mut Fields, owed: &mut Owed, first: u8) -> Result<(), Unshown> {
+    match first {
+        0..=0x7F => named(fields, "int:", u64::from(first)),
+        0x80..=0x8F => map(fields, owed, u64::from(first % 16)),
+        0x90..=0x9F => array(fields, owed, u64::from(first % 16)),
+        0xC0 => fields.push("nil"),
+        0xC2 => fields.push("false"),
+        0xC3 => fields.push("true"),
+        _ => named(fields, "int:-", 256 - u64::from(first)),
+    }
+}
+
+/// An item of MessagePack.
+fn msgpack_item<R: AsOctets + Copy>(
+    fields: &mut Fields,
+    owed: &mut Owed,
+    item: <msgpack::Item as Format<R>>::Value,
+) -> Result<(), Unshown> {
+    let (first, inside) = item;
+    match inside {
+        OneOf5::First(_) => alone(fields, owed, (first % 256) as u8),
+        OneOf5::Second(text) => octets(fields, "str:", text.peek_all()),
+        OneOf5::Third(lengthy) => match lengthy {
+            OneOf7::First(inside) | OneOf7::Second(inside) | OneOf7::Third(inside) => {
+                octets(fields, "bin:", inside.peek_all())
+            }
+            OneOf7::Fourth(
+                OneOf3::First(((_, kind), inside))
+                | OneOf3::Second(((_, kind), inside))
+                | OneOf3::Third(((_, kind), inside)),
+            ) => extension(fields, kind, inside.peek_all()),
+            OneOf7::Fifth(text) | OneOf7::Sixth(text) | OneOf7::Seventh(text) => {
+                octets(fields, "str:", text.peek_all())
+            }
+        },
+        OneOf5::Fourth(fixed) => match fixed {
+            OneOf4::First(OneOf2::First(bits)) => {
+                let double = f64::from(f32::from_bits(bits));
+                octets(fields, "float:", double.to_bits().to_be_bytes().as_slice())
+            }
+            OneOf4::First(OneOf2::Second(bits)) => {
+                octets(fields, "float:", bits.to_be_bytes().as_slice())
+            }
+            OneOf4::Second(OneOf4::First(number)) => named(fields, "int:", u64::from(number)),
+            OneOf4::Second(OneOf4::Second(number)) => named(fields, "int:", u64::from(number)),
+            OneOf4::Second(OneOf4::Third(number)) => named(fields, "int:", u64::from(number)),
+            OneOf4::Second(OneOf4::Fourth(number)) => named(fields, "int:", number),
+            OneOf4::Third(OneOf4::First(number)) => signed(fields, i64::from(i8::from_be_bytes(number.to_be_bytes()))),
+            OneOf4::Third(OneOf4::Second(number)) => signed(fields, i64::from(i16::from_be_bytes(number.to_be_bytes()))),
+            OneOf4::Third(OneOf4::Third(number)) => signed(fields, i64::from(i32::from_be_bytes(number.to_be_bytes()))),
+            OneOf4::Third(OneOf4::Fourth(number)) => signed(fields, i64::from_be_bytes(number.to_be_bytes())),
+            OneOf4::Fourth(OneOf4::First(items)) => array(fields, owed, u64::from(items)),
+            OneOf4::Fourth(OneOf4::Second(items)) => array(fields, owed, u64::from(items)),
+            OneOf4::Fourth(OneOf4::Third(pairs)) => map(fields, owed, u64::from(pairs)),
+            OneOf4::Fourth(OneOf4::Fourth(pairs)) => map(fields, owed, u64::from(pairs)),
+        },
+        OneOf5::Fifth(short) => match short {
+            OneOf5::First((kind, inside)) => extension(fields, kind, inside.as_slice()),
+            OneOf5::Second((kind, inside)) => extension(fields, kind, inside.as_slice()),
+            OneOf5::Third((kind, inside)) => extension(fields, kind, inside.as_slice()),
+            OneOf5::Fourth((kind, inside)) => extension(fields, kind, inside.as_slice()),
+            OneOf5::Fifth((kind, inside)) => extension(fields, kind, inside.as_slice()),
+        },
+    }
+}
+
+/// The items of MessagePack.
+pub fn msgpack<R: AsOctets + Copy>(
+    alloc: Global,
+    fields: &mut Fields,
+    octets: R,
+) -> Result<(), Unshown> {
+    let items = value::<msgpack::Items, R>(octets)?;
+    let mut owed = Owed::new(alloc)?;
+    fields.begin("items")?;
+    for item in items {
+        fields.item()?;
+        owed.pay()?;
+        msgpack_item::<R>(fields, &mut owed, item)?;
+    }
+    owed.finish()?;
+    fields.end()
+}
+
+/// A node of DER: its depth, its class, whether it has nodes, its tag number, the octets of its head, and its length.
+fn node(
+    fields: &mut Fields,
+    depth: usize,
+    first: u8,
+    number: u64,
+    head: usize,
+    len: usize,
+) -> Result<(), Unshown> {
+    fields.item()?;
+    fields.decimal(depth as u64)?;
+    fields.push(match first / 64 {
+        0 => ":u",
+        1 => ":a",
+        2 => ":c",
+        _ => ":p",
+    })?;
+    fields.push(if first / 32 % 2 == 1 { "c" } else { "p" })?;
+    fields.decimal(number)?;
+    fields.push(":")?;
+    fields.decimal(head as u64)?;
+    fields.push(":")?;
+    fields.decimal(len as u64)
+}
+
+/// Ends the levels that end here.
+fn settle(ends: &mut Vec<usize>, here: usize) {
+    for _ in 0..ends.len() {
+        if ends.last() != Some(&here) {
+            break;
+        }
+        ends.pop();
+    }
+}
+
+/// The nodes of a value of DER.
+pub fn der<R: AsOctets + Copy>(
+    alloc: Global,
+    fields: &mut Fields,
+    octets: R,
+) -> Result<(), Unshown> {
+    // How many octets follow each level that isn't at its end.
+    let mut ends = Vec::new(alloc);
+    ends.push(0).map_err(|_| Unshown::Memory)?;
+    let mut parser = Parser::from_ref(octets);
+    fields.begin("nodes")?;
+    for _ in 0..octets.as_ref().len() {
+        if ends.is_empty() {
+            break;
+        }
+        let before = parser;
+        let (first, inside) = der::Head::parse(&mut parser)?;
+        let (number, len, inside) = match inside {
+            OneOf2::First(OneOf2::First(len)) => (first as u64 % 32, len, 0),
+            OneOf2::First(OneOf2::Second(octets)) => {
+                (first as u64 % 32, octets.remaining(), octets.remaining())
+            }
+            OneOf2::Second(OneOf2::First((number, len))) => (number as u64, len, 0),
+            OneOf2::Second(OneOf2::Second((number, octets))) => {
+                (number as u64, octets.remaining(), octets.remaining())
+            }
+        };
+        let taken = between(&before, &parser).len().saturating_sub(inside);
+        node(
+            fields,
+            ends.len().saturating_sub(1),
+            (first % 256) as u8,
+            number,
+            taken,
+            len,
+        )?;
+        let left = parser.remaining();
+        if ends.last().is_some_and(|end| left < *end) || left.saturating_add(inside) < len {
+            return Err(Unshown::Malformed);
+        }
+        if first / 32 % 2 == 1 {
+            ends.push(left - len).map_err(|_| Unshown::Memory)?;
+            if ends.iter().rev().skip(1).next().is_some_and(|end| left - len < *end) {
+                return Err(Unshown::Malformed);
+            }
+        }
+        settle(&mut ends, left);
+    }
+    if parser.remaining() > 0 || !ends.is_empty() {
+        return Err(Unshown::Malformed);
+    }
+    fields.end()
+}

@@ -1,0 +1,331 @@
+//! DHCP, MQTT, QUIC, SOCKS and WebSocket.
+use crate::fields::{Fields, Unshown, value};
+use octseq::{AsOctets, Parser};
+use octseq_format::{
+    Key, Itself, OneOf2, OneOf3, OneOf4, OneOf5, OneOf6, QuicInteger,
+};
+use octseq_formats::{dhcp, mqtt, quic, socks5, websocket};
+
+/// What a client of SOCKS 5 offers.
+pub fn socks5_methods<R: AsOctets + Copy>(fields: &mut Fields, octets: R) -> Result<(), Unshown> {
+    let (_, methods) = value::<socks5::Methods, R>(octets)?;
+    fields.octets("methods", methods.peek_all())
+}
+
+/// A request of SOCKS 5.
+pub fn socks5_request<R: AsOctets + Copy>(fields: &mut Fields, octets: R) -> Result<(), Unshown> {
+    let (_, command, _, address, port) = value::<socks5::Request, R>(octets)?;
+    fields.number("command", u64::from(command))?;
+    socks5_address(fields, address, port)
+}
+
+/// A reply of SOCKS 5.
+pub fn socks5_reply<R: AsOctets + Copy>(fields: &mut Fields, octets: R) -> Result<(), Unshown> {
+    let (_, reply, _, address, port) = value::<socks5::Reply, R>(octets)?;
+    fields.number("reply", u64::from(reply))?;
+    socks5_address(fields, address, port)
+}
+
+/// An address and a port.
+fn socks5_address<R: AsOctets + Copy>(
+    fields: &mut Fields,
+    address: OneOf3<[u8; 4], Parser<R>, [u8; 16]>,
+    port: u16,
+) -> Result<(), Unshown> {
+    match address {
+        OneOf3::First(four) => {
+            fields.number("address_type", 1)?;
+            fields.octets("address", four.as_slice())?;
+        }
+        OneOf3::Second(name) => {
+            fields.number("address_type", 3)?;
+            fields.octets("address", name.peek_all())?;
+        }
+        OneOf3::Third(sixteen) => {
+            fields.number("address_type", 4)?;
+            fields.octets("address", sixteen.as_slice())?;
+        }
+    }
+    fields.number("port", u64::from(port))
+}
+
+/// A frame of WebSocket.
+pub fn websocket<R: AsOctets + Copy>(fields: &mut Fields, octets: R) -> Result<(), Unshown> {
+    let ((first, second), payload) = value::<websocket::Frame, R>(octets)?;
+    let (bits, key, masked) = match payload {
+        OneOf6::First(octets) => (7, None, octets),
+        OneOf6::Second((key, octets)) => (7, Some(key), octets),
+        OneOf6::Third(octets) => (16, None, octets),
+        OneOf6::Fourth(octets) => (64, None, octets),
+        OneOf6::Fifth(((_, key), octets)) => (16, Some(key), octets),
+        OneOf6::Sixth(((_, key), octets)) => (64, Some(key), octets),
+    };
+    if masked.remaining() > 0x7FFF_FFFF_FFFF_FFFF {
+        return Err(Unshown::Malformed);
+    }
+    fields.number("fin", first as u64 / 128)?;
+    fields.number("rsv", first as u64 / 16 % 8)?;
+    fields.number("opcode", first as u64 % 16)?;
+    fields.number("mask", second as u64 / 128)?;
+    fields.number("length_bits", bits)?;
+    fields.number("length", masked.remaining() as u64)?;
+    if let Some(key) = key {
+        fields.octets("key", key.as_slice())?;
+        return unmasked(fields, masked.peek_all(), key);
+    }
+    fields.octets("payload", masked.peek_all())
+}
+
+/// A payload by its key.
+fn unmasked(fields: &mut Fields, masked: &[u8], key: [u8; 4]) -> Result<(), Unshown> {
+    let [mut a, mut b, mut c, mut d] = key;
+    fields.begin("payload")?;
+    fields.item()?;
+    if masked.is_empty() {
+        fields.push("-")?;
+    }
+    for octet in masked {
+        fields.hex(&[*octet ^ a])?;
+        (a, b, c, d) = (b, c, d, a);
+    }
+    fields.end()
+}
+
+/// The options of DHCP up to their end, without padding. Returns option 52, if it is there.
+fn dhcp_options<R: AsOctets + Copy>(
+    fields: &mut Fields,
+    name: &str,
+    octets: R,
+) -> Result<u8, Unshown> {
+    let (options, _) = value::<(dhcp::Options, octseq_format::Rest), R>(octets)?;
+    let mut overload = 0;
+    fields.begin(name)?;
+    for option in options {
+        if let OneOf2::Second((code, inside)) = option {
+            let octets = inside.peek_all();
+            if code == 52 {
+                overload = octets.first().copied().unwrap_or(0);
+            }
+            fields.item()?;
+            fields.hex(&[(code % 256) as u8, (octets.len() % 256) as u8])?;
+            if !octets.is_empty() {
+                fields.hex(octets)?;
+            }
+        }
+    }
+    fields.end()?;
+    Ok(overload)
+}
+
+/// A packet of DHCP.
+pub fn dhcp<R: AsOctets + Copy>(fields: &mut Fields, octets: R) -> Result<(), Unshown> {
+    let packet = value::<dhcp::Packet, R>(octets)?;
+    let (kinds, times, addresses, hardware, server, file, _, _) = packet;
+    let ((op, htype, hlen, hops), (xid, secs, flags)) = (kinds, times);
+    let (client, yours, next, relay) = addresses;
+    fields.number("op", u64::from(op))?;
+    fields.number("htype", u64::from(htype))?;
+    fields.number("hlen", u64::from(hlen))?;
+    fields.number("hops", u64::from(hops))?;
+    fields.number("xid", u64::from(xid))?;
+    fields.number("secs", u64::from(secs))?;
+    fields.number("flags", u64::from(flags))?;
+    for (name, address) in [
+        ("ciaddr", client),
+        ("yiaddr", yours),
+        ("siaddr", next),
+        ("giaddr", relay),
+    ] {
+        fields.octets(name, address.to_be_bytes().as_slice())?;
+    }
+    match hardware.get(..usize::from(hlen)) {
+        Some(front) => fields.octets("chaddr", front)?,
+        None => return Err(Unshown::Malformed),
+    }
+    let options = octets.as_ref().get(240..).ok_or(Unshown::Malformed)?;
+    let overload = dhcp_options(fields, "options", options)?;
+    if overload & 1 != 0 {
+        dhcp_options(fields, "file_options", file.as_slice())?;
+    }
+    if overload & 2 != 0 {
+        dhcp_options(fields, "sname_options", server.as_slice())?;
+    }
+    Ok(())
+}
+
+/// An integer of QUIC.
+pub fn quic_varint<R: AsOctets + Copy>(fields: &mut Fields, octets: R) -> Result<(), Unshown> {
+    let number = value::<Key<QuicInteger, Itself>, R>(octets)?;
+    fields.number("length", octets.as_ref().len() as u64)?;
+    fields.number("value", number as u64)
+}
+
+/// The identifiers of a connection of QUIC.
+fn connection<R: AsOctets + Copy>(
+    fields: &mut Fields,
+    version: usize,
+    destination: Parser<R>,
+    source: Parser<R>,
+) -> Result<(), Unshown> {
+    fields.number("version", version as u64)?;
+    fields.octets("dcid", destination.peek_all())?;
+    fields.octets("scid", source.peek_all())
+}
+
+/// What a packet of QUIC protects, and what is left of its datagram.
+fn protected<R: AsOctets + Copy>(
+    fields: &mut Fields,
+    inside: Parser<R>,
+    next: Parser<R>,
+) -> Result<(), Unshown> {
+    fields.number("length", inside.remaining() as u64)?;
+    fields.octets("protected", inside.peek_all())?;
+    fields.octets("next", next.peek_all())
+}
+
+/// A datagram of QUIC that begins with a long header.
+pub fn quic_long<R: AsOctets + Copy>(fields: &mut Fields, octets: R) -> Result<(), Unshown> {
+    let ((first, version), body) = value::<quic::LongHeader, R>(octets)?;
+    match body {
+        OneOf5::First((to, from, token, inside, next)) => {
+            connection(fields, version, to, from)?;
+            fields.number("type", 0)?;
+            fields.octets("token", token.peek_all())?;
+            protected(fields, inside, next)
+        }
+        OneOf5::Second((to, from, inside, next)) | OneOf5::Third((to, from, inside, next)) => {
+            connection(fields, version, to, from)?;
+            fields.number("type", first as u64 / 16 % 4)?;
+            protected(fields, inside, next)
+        }
+        OneOf5::Fourth((to, from, rest)) => {
+            connection(fields, version, to, from)?;
+            fields.number("type", 3)?;
+            retry(fields, rest.peek_all())
+        }
+        OneOf5::Fifth((to, from, versions)) => {
+            connection(fields, version, to, from)?;
+            fields.begin("versions")?;
+            for each in versions {
+                fields.item()?;
+                fields.decimal(u64::from(each))?;
+            }
+            fields.end()
+        }
+    }
+}
+
+/// The token of a Retry, and its tag of 16 octets.
+fn retry(fields: &mut Fields, octets: &[u8]) -> Result<(), Unshown> {
+    match octets.split_last_chunk::<16>() {
+        Some((token, tag)) => {
+            fields.octets("token", token)?;
+            fields.octets("tag", tag.as_slice())
+        }
+        None => Err(Unshown::Malformed),
+    }
+}
+
+/// The first octet of a packet of MQTT, and the number of octets that follow its length.
+fn mqtt_head(fields: &mut Fields, first: usize, octets: &[u8]) -> Result<(), Unshown> {
+    let mut head = 1_usize;
+    for octet in octets.iter().skip(1) {
+        head = head.saturating_add(1);
+        if *octet < 128 {
+            break;
+        }
+    }
+    fields.number("type", first as u64 / 16)?;
+    fields.number("flags", first as u64 % 16)?;
+    fields.number("length", octets.len().saturating_sub(head) as u64)
+}
+
+/// A field that may not be there.
+fn optional<R: AsOctets + Copy>(
+    fields: &mut Fields,
+    name: &str,
+    field: Option<Parser<R>>,
+) -> Result<(), Unshown> {
+    match field {
+        Some(field) => fields.octets(name, field.peek_all()),
+        None => Ok(()),
+    }
+}
+
+/// A packet of MQTT 3.1.1.
+pub fn mqtt<R: AsOctets + Copy>(fields: &mut Fields, octets: R) -> Result<(), Unshown> {
+    let (first, body) = value::<mqtt::Packet, R>(octets)?;
+    mqtt_head(fields, first, octets.as_ref())?;
+    match body {
+        OneOf5::First(((name, level, flags, seconds), (client, (will, (user, password))))) => {
+            fields.octets("name", name.peek_all())?;
+            fields.number("level", u64::from(level))?;
+            fields.number("connect_flags", flags as u64)?;
+            fields.number("keep_alive", u64::from(seconds))?;
+            fields.octets("client_id", client.peek_all())?;
+            if let Some((topic, message)) = will {
+                fields.octets("will_topic", topic.peek_all())?;
+                fields.octets("will_payload", message.peek_all())?;
+            }
+            optional(fields, "user", user)?;
+            optional(fields, "password", password)
+        }
+        OneOf5::Second((number, topics)) => {
+            fields.number("packet_id", u64::from(number))?;
+            fields.begin("topics")?;
+            for (topic, asked) in topics {
+                fields.item()?;
+                fields.hex(topic.peek_all())?;
+                fields.push(":")?;
+                fields.decimal(u64::from(asked))?;
+            }
+            fields.end()
+        }
+        OneOf5::Third((topic, payload)) => {
+            fields.octets("topic", topic.peek_all())?;
+            fields.octets("payload", payload.peek_all())
+        }
+        OneOf5::Fourth((topic, number, payload)) => {
+            fields.octets("topic", topic.peek_all())?;
+            fields.number("packet_id", u64::from(number))?;
+            fields.octets("payload", payload.peek_all())
+        }
+        OneOf5::Fifth(rest) => fields.octets("payload", rest.peek_all()),
+    }
+}
+
+/// A packet of MQTT 5.0.
+pub fn mqtt5<R: AsOctets + Copy>(fields: &mut Fields, octets: R) -> Result<(), Unshown> {
+    let (first, body) = value::<mqtt::Packet5, R>(octets)?;
+    mqtt_head(fields, first, octets.as_ref())?;
+    match body {
+        OneOf4::First((head, ((properties, client), (will, (user, password))))) => {
+            let (name, level, flags, seconds) = head;
+            fields.octets("name", name.peek_all())?;
+            fields.number("level", u64::from(level))?;
+            fields.number("connect_flags", flags as u64)?;
+            fields.number("keep_alive", u64::from(seconds))?;
+            fields.octets("properties", properties.peek_all())?;
+            fields.octets("client_id", client.peek_all())?;
+            if let Some((properties, topic, message)) = will {
+                fields.octets("will_properties", properties.peek_all())?;
+                fields.octets("will_topic", topic.peek_all())?;
+                fields.octets("will_payload", message.peek_all())?;
+            }
+            optional(fields, "user", user)?;
+            optional(fields, "password", password)
+        }
+        OneOf4::Second((topic, properties, payload)) => {
+            fields.octets("topic", topic.peek_all())?;
+            fields.octets("properties", properties.peek_all())?;
+            fields.octets("payload", payload.peek_all())
+        }
+        OneOf4::Third((topic, number, properties, payload)) => {
+            fields.octets("topic", topic.peek_all())?;
+            fields.number("packet_id", u64::from(number))?;
+            fields.octets("properties", properties.peek_all())?;
+            fields.octets("payload", payload.peek_all())
+        }
+        OneOf4::Fourth(rest) => fields.octets("payload", rest.peek_all()),
+    }
+}
