@@ -1,7 +1,7 @@
 //! Bitcoin.
-use crate::fields::{Fields, Unshown, value};
+use crate::fields::{Fields, Unshown, next, value};
 use octseq::{AsOctets, Parser};
-use octseq_format::{CompactSize, Counted, Format, OneOf2, Rest, U32Le};
+use octseq_format::{CompactSize, Counted, OneOf2, Rest, U32Le};
 use octseq_formats::bitcoin;
 
 /// The inputs of a transaction.
@@ -12,7 +12,7 @@ fn inputs<R: AsOctets + Copy>(
 ) -> Result<(), Unshown> {
     fields.begin("inputs")?;
     for _ in 0..count {
-        let (hash, index, script, sequence) = bitcoin::Input::parse(parser)?;
+        let (hash, index, script, sequence) = next::<bitcoin::Input, R>(parser)?;
         fields.item()?;
         fields.hex(hash.as_slice())?;
         fields.push(":")?;
@@ -30,10 +30,10 @@ fn outputs<R: AsOctets + Copy>(
     fields: &mut Fields,
     parser: &mut Parser<R>,
 ) -> Result<(), Unshown> {
-    let count = bitcoin::Count::parse(parser)?;
+    let count = next::<bitcoin::Count, R>(parser)?;
     fields.begin("outputs")?;
     for _ in 0..count {
-        let (value, script) = bitcoin::Output::parse(parser)?;
+        let (value, script) = next::<bitcoin::Output, R>(parser)?;
         fields.item()?;
         fields.decimal(value)?;
         fields.push(":")?;
@@ -47,13 +47,13 @@ fn witness<R: AsOctets + Copy>(
     fields: &mut Fields,
     parser: &mut Parser<R>,
 ) -> Result<usize, Unshown> {
-    let count = bitcoin::Count::parse(parser)?;
+    let count = next::<bitcoin::Count, R>(parser)?;
     fields.item()?;
     for taken in 0..count {
         if taken > 0 {
             fields.push("+")?;
         }
-        let item = <Counted<CompactSize, Rest, 0> as Format<R>>::parse(parser)?;
+        let item = next::<Counted<CompactSize, Rest, 0>, R>(parser)?;
         fields.hex(item.peek_all())?;
     }
     if count == 0 {
@@ -85,19 +85,19 @@ fn witnesses<R: AsOctets + Copy>(
 pub fn transaction<R: AsOctets + Copy>(fields: &mut Fields, octets: R) -> Result<(), Unshown> {
     value::<bitcoin::Transaction, R>(octets)?;
     let mut parser = Parser::from_ref(octets);
-    let (version, mut count) = <(U32Le, bitcoin::Count) as Format<R>>::parse(&mut parser)?;
+    let (version, mut count) = next::<(U32Le, bitcoin::Count), R>(&mut parser)?;
     let witnessed = count == 0;
     fields.number("version", u64::from(version))?;
     fields.number("segwit", if witnessed { 1 } else { 0 })?;
     if witnessed {
-        count = bitcoin::WitnessedCount::parse(&mut parser)?.1;
+        count = next::<bitcoin::WitnessedCount, R>(&mut parser)?.1;
     }
     inputs(fields, &mut parser, count)?;
     outputs(fields, &mut parser)?;
     if witnessed {
         witnesses(fields, &mut parser, count)?;
     }
-    fields.number("lock_time", u64::from(U32Le::parse(&mut parser)?))
+    fields.number("lock_time", u64::from(next::<U32Le, R>(&mut parser)?))
 }
 
 /// A command: its octets up to the first zero.

@@ -1,11 +1,9 @@
 //! CBOR, DER, MessagePack, PNG, Protobuf and WebAssembly.
-use crate::fields::{Fields, Unshown, between, value};
+use crate::fields::{Fields, Unshown, between, next, value};
 use crate::owed::Owed;
 use octseq::{AsOctets, Parser};
-use octseq_format::{
-    Counted, Format, OneOf2, OneOf3, OneOf4, OneOf5, OneOf6, OneOf7, Repeated, Rest, U8, Walk,
-};
-use octseq_formats::{cbor, der, msgpack, png, protobuf, wasm};
+use octseq_format::{Counted, Format, OneOf3, OneOf4, OneOf5, OneOf6, Rest, U8};
+use octseq_formats::{cbor, png, protobuf, wasm};
 use std::alloc::Global;
 
 /// The fields of a message of Protobuf.
@@ -58,7 +56,7 @@ fn section<R: AsOctets + Copy>(fields: &mut Fields, octets: R) -> Result<u8, Uns
 pub fn wasm<R: AsOctets + Copy>(fields: &mut Fields, octets: R) -> Result<(), Unshown> {
     value::<wasm::Module, R>(octets)?;
     let mut parser = Parser::from_ref(octets);
-    wasm::Header::parse(&mut parser)?;
+    next::<wasm::Header, R>(&mut parser)?;
     let mut last = 0;
     fields.begin("sections")?;
     for _ in 0..octets.as_ref().len() {
@@ -66,7 +64,7 @@ pub fn wasm<R: AsOctets + Copy>(fields: &mut Fields, octets: R) -> Result<(), Un
             break;
         }
         let before = parser;
-        wasm::Section::parse(&mut parser)?;
+        next::<wasm::Section, R>(&mut parser)?;
         let number = section(fields, between(&before, &parser))?;
         if number != 0 {
             if place(number) <= last {
@@ -133,7 +131,7 @@ pub fn png<R: AsOctets + Copy>(fields: &mut Fields, octets: R) -> Result<(), Uns
     let all = octets.as_ref();
     image_header(fields, all.get(16..29).ok_or(Unshown::Malformed)?)?;
     let mut parser = Parser::from_ref(octets);
-    png::Signature::parse(&mut parser)?;
+    next::<png::Signature, R>(&mut parser)?;
     let mut last = *b"IHDR";
     fields.begin("chunks")?;
     for taken in 0..all.len() {
@@ -141,7 +139,7 @@ pub fn png<R: AsOctets + Copy>(fields: &mut Fields, octets: R) -> Result<(), Uns
             break;
         }
         let before = parser;
-        let (len, (covered, sum)) = png::Chunk::parse(&mut parser)?;
+        let (len, (covered, sum)) = next::<png::Chunk, R>(&mut parser)?;
         let kind = chunk(
             fields,
             covered,

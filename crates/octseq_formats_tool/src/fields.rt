@@ -30,6 +30,13 @@ pub fn value<F: Format<R>, R: AsOctets + Copy>(octets: R) -> Result<F::Value, Ma
     F::parse_whole(octets)
 }
 
+/// Reads the value at the parser's position.
+pub fn next<F: Format<R>, R: AsOctets + Copy>(
+    parser: &mut Parser<R>,
+) -> Result<F::Value, Malformed> {
+    F::parse(parser)
+}
+
 /// The fields of a packet, which grow: `"name": number` or `"name": "text"`.
 #[derive(Drop)]
 pub struct Fields {

@@ -1,5 +1,5 @@
 //! MessagePack and DER.
-use crate::fields::{Fields, Unshown, between, value};
+use crate::fields::{Fields, Unshown, between, next};
 use crate::owed::Owed;
 use octseq::{AsOctets, Parser};
 use octseq_format::{Format, OneOf2, OneOf3, OneOf4, OneOf5, OneOf7};
@@ -107,11 +107,26 @@ fn msgpack_item<R: AsOctets + Copy>(
             OneOf4::Fourth(OneOf4::Fourth(pairs)) => map(fields, owed, u64::from(pairs)),
         },
         OneOf5::Fifth(short) => match short {
-            OneOf5::First((kind, inside)) => extension(fields, kind, inside.as_slice()),
-            OneOf5::Second((kind, inside)) => extension(fields, kind, inside.as_slice()),
-            OneOf5::Third((kind, inside)) => extension(fields, kind, inside.as_slice()),
-            OneOf5::Fourth((kind, inside)) => extension(fields, kind, inside.as_slice()),
-            OneOf5::Fifth((kind, inside)) => extension(fields, kind, inside.as_slice()),
+            OneOf5::First(pair) => {
+                let inside = pair.1;
+                extension(fields, pair.0, inside.as_slice())
+            }
+            OneOf5::Second(pair) => {
+                let inside = pair.1;
+                extension(fields, pair.0, inside.as_slice())
+            }
+            OneOf5::Third(pair) => {
+                let inside = pair.1;
+                extension(fields, pair.0, inside.as_slice())
+            }
+            OneOf5::Fourth(pair) => {
+                let inside = pair.1;
+                extension(fields, pair.0, inside.as_slice())
+            }
+            OneOf5::Fifth(pair) => {
+                let inside = pair.1;
+                extension(fields, pair.0, inside.as_slice())
+            }
         },
     }
 }
@@ -122,10 +137,14 @@ pub fn msgpack<R: AsOctets + Copy>(
     fields: &mut Fields,
     octets: R,
 ) -> Result<(), Unshown> {
-    let items = value::<msgpack::Items, R>(octets)?;
+    let mut parser = Parser::from_ref(octets);
     let mut owed = Owed::new(alloc)?;
     fields.begin("items")?;
-    for item in items {
+    for _ in 0..octets.as_ref().len() {
+        if parser.remaining() == 0 {
+            break;
+        }
+        let item = next::<msgpack::Item, R>(&mut parser)?;
         fields.item()?;
         owed.pay()?;
         msgpack_item::<R>(fields, &mut owed, item)?;
@@ -185,7 +204,7 @@ pub fn der<R: AsOctets + Copy>(
             break;
         }
         let before = parser;
-        let (first, inside) = der::Head::parse(&mut parser)?;
+        let (first, inside) = next::<der::Head, R>(&mut parser)?;
         let (number, len, inside) = match inside {
             OneOf2::First(OneOf2::First(len)) => (first as u64 % 32, len, 0),
             OneOf2::First(OneOf2::Second(octets)) => {

@@ -1,7 +1,7 @@
 //! IPv4, IPv6 and TCP.
-use crate::fields::{Fields, Unshown, between, value};
+use crate::fields::{Fields, Unshown, between, next, value};
 use octseq::{AsOctets, Parser, Turns};
-use octseq_format::{Family, Format, OneOf3};
+use octseq_format::{Family, OneOf3};
 use octseq_formats::{ipv4, ipv6, tcp};
 
 /// The options of IPv4 and TCP. After the option 0 is padding.
@@ -13,7 +13,7 @@ fn options<R: AsOctets + Copy>(fields: &mut Fields, options: Parser<R>) -> Resul
             break;
         }
         let before = parser;
-        let option = ipv4::HeaderOption::parse(&mut parser)?;
+        let option = next::<ipv4::HeaderOption, R>(&mut parser)?;
         fields.item()?;
         fields.hex(between(&before, &parser))?;
         if let OneOf3::First(_) = option {
@@ -70,7 +70,7 @@ fn header_options<R: AsOctets + Copy>(
             break;
         }
         let before = parser;
-        ipv6::HeaderOption::parse(&mut parser)?;
+        next::<ipv6::HeaderOption, R>(&mut parser)?;
         fields.item()?;
         fields.hex(between(&before, &parser))?;
     }

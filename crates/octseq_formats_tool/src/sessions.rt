@@ -2,7 +2,7 @@
 use crate::fields::{Fields, Unshown, value};
 use octseq::{AsOctets, Parser};
 use octseq_format::{
-    Key, Itself, OneOf2, OneOf3, OneOf4, OneOf5, OneOf6, QuicInteger,
+    Itself, Key, OneOf2, OneOf3, OneOf4, OneOf5, OneOf6, QuicInteger, Rest,
 };
 use octseq_formats::{dhcp, mqtt, quic, socks5, websocket};
 
@@ -51,16 +51,34 @@ fn socks5_address<R: AsOctets + Copy>(
 
 /// A frame of WebSocket.
 pub fn websocket<R: AsOctets + Copy>(fields: &mut Fields, octets: R) -> Result<(), Unshown> {
-    let ((first, second), payload) = value::<websocket::Frame, R>(octets)?;
-    let (bits, key, masked) = match payload {
-        OneOf6::First(octets) => (7, None, octets),
-        OneOf6::Second((key, octets)) => (7, Some(key), octets),
-        OneOf6::Third(octets) => (16, None, octets),
-        OneOf6::Fourth(octets) => (64, None, octets),
-        OneOf6::Fifth(((_, key), octets)) => (16, Some(key), octets),
-        OneOf6::Sixth(((_, key), octets)) => (64, Some(key), octets),
-    };
-    if masked.remaining() > 0x7FFF_FFFF_FFFF_FFFF {
+    let (head, payload) = value::<websocket::Frame, R>(octets)?;
+    match payload {
+        OneOf6::First(octets) => plain(fields, head, 7, octets.peek_all()),
+        OneOf6::Second(pair) => {
+            let key = pair.0;
+            masked(fields, head, 7, key.as_slice(), pair.1.peek_all())
+        }
+        OneOf6::Third(octets) => plain(fields, head, 16, octets.peek_all()),
+        OneOf6::Fourth(octets) => plain(fields, head, 64, octets.peek_all()),
+        OneOf6::Fifth(pair) => {
+            let key = pair.0.1;
+            masked(fields, head, 16, key.as_slice(), pair.1.peek_all())
+        }
+        OneOf6::Sixth(pair) => {
+            let key = pair.0.1;
+            masked(fields, head, 64, key.as_slice(), pair.1.peek_all())
+        }
+    }
+}
+
+/// The head of a frame.
+fn frame(
+    fields: &mut Fields,
+    (first, second): (usize, usize),
+    bits: u64,
+    len: usize,
+) -> Result<(), Unshown> {
+    if len > 0x7FFF_FFFF_FFFF_FFFF {
         return Err(Unshown::Malformed);
     }
     fields.number("fin", first as u64 / 128)?;
@@ -68,12 +86,34 @@ pub fn websocket<R: AsOctets + Copy>(fields: &mut Fields, octets: R) -> Result<(
     fields.number("opcode", first as u64 % 16)?;
     fields.number("mask", second as u64 / 128)?;
     fields.number("length_bits", bits)?;
-    fields.number("length", masked.remaining() as u64)?;
-    if let Some(key) = key {
-        fields.octets("key", key.as_slice())?;
-        return unmasked(fields, masked.peek_all(), key);
+    fields.number("length", len as u64)
+}
+
+/// A frame without a mask.
+fn plain(
+    fields: &mut Fields,
+    head: (usize, usize),
+    bits: u64,
+    payload: &[u8],
+) -> Result<(), Unshown> {
+    frame(fields, head, bits, payload.len())?;
+    fields.octets("payload", payload)
+}
+
+/// A frame with a mask.
+fn masked(
+    fields: &mut Fields,
+    head: (usize, usize),
+    bits: u64,
+    key: &[u8],
+    payload: &[u8],
+) -> Result<(), Unshown> {
+    frame(fields, head, bits, payload.len())?;
+    fields.octets("key", key)?;
+    match key.first_chunk::<4>() {
+        Some(key) => unmasked(fields, payload, *key),
+        None => Err(Unshown::Malformed),
     }
-    fields.octets("payload", masked.peek_all())
 }
 
 /// A payload by its key.
@@ -97,7 +137,7 @@ fn dhcp_options<R: AsOctets + Copy>(
     name: &str,
     octets: R,
 ) -> Result<u8, Unshown> {
-    let (options, _) = value::<(dhcp::Options, octseq_format::Rest), R>(octets)?;
+    let (options, _) = value::<(dhcp::Options, Rest), R>(octets)?;
     let mut overload = 0;
     fields.begin(name)?;
     for option in options {
