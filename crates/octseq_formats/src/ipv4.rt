@@ -40,10 +40,18 @@ pub type Header = (
 );
 
 /// A datagram: its header, the octets of its options, and its payload.
-pub type Datagram =
-    Keyed<Header, When<IsVersion4, Then<Through<OptionsLen, Sized<Rest, 0>>, Any<Rest>>>>;
+pub type Datagram = Keyed<
+    Header,
+    When<IsVersion4, Then<Through<OptionsLen, Sized<Rest, 0>>, Any<Rest>>>,
+>;
 
 /// An option of IPv4 or TCP: 0 ends the options, and what follows it is padding; 1 is padding between options; any other
 /// has a length, which counts all of the option.
-pub type HeaderOption =
-    Tagged<U8, (Case<0, Nothing>, Case<1, Nothing>, Others<Counted<U8, Rest, 2>>)>;
+pub type HeaderOption = Tagged<
+    U8,
+    (
+        Case<0, Nothing>,
+        Case<1, Nothing>,
+        Others<Counted<U8, Rest, 2>>,
+    ),
+>;

@@ -14,6 +14,7 @@ pub mod ntp;
 pub mod png;
 pub mod protobuf;
 pub mod quic;
+pub mod rtp;
 pub mod socks5;
 pub mod tcp;
 pub mod tftp;

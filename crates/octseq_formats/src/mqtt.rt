@@ -2,8 +2,8 @@
 ghost use Rattle.std.specs.Prelude.{◌≡◌, ◌≤◌, ◌<◌, ◌*◌, ◌/◌, ◌%◌, nat_eq};
 
 use octseq_format::{
-    Any, Case, Counted, If, Itself, Key, Keyed, Leb128, Minimal, Repeated, Rest, Switch, Test, Then, U8,
-    U16Be, When, Within,
+    Any, Case, Counted, If, Itself, Key, Keyed, Leb128, Minimal, Repeated, Rest, Switch, Test,
+    Then, U8, U16Be, When, Within,
 };
 
 /// A string or octets after their length.

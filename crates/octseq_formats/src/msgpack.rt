@@ -2,8 +2,8 @@
 ghost use Rattle.std.specs.Prelude.{◌≡◌, ◌≤◌, ◌%◌, ◌⊎◌};
 
 use octseq_format::{
-    Any, Case, Counted, I8, Itself, Key, Keyed, Nothing, Octets, Reckoning, Repeated, Rest,
-    Sized, Test, Through, U8, U16Be, U32Be, U64Be, When,
+    Any, Case, Counted, I8, Itself, Key, Keyed, Nothing, Octets, Reckoning, Rest, Sized, Test,
+    Through, U8, U16Be, U32Be, U64Be, When,
 };
 
 /// The length of a short string: the lowest five bits of its first octet.
@@ -92,7 +92,8 @@ pub type Short = (
     Case<0xD8, (I8, Octets<16>)>,
 );
 
-/// A head, with the octets of a string, binary octets or an extension. C1 is none.
+/// A head, with the octets of a string, binary octets or an extension. C1 is none. Whether arrays and maps have their
+/// items is for the caller to check.
 pub type Item = Keyed<
     Key<U8, Itself>,
     (
@@ -103,6 +104,3 @@ pub type Item = Keyed<
         Short,
     ),
 >;
-
-/// Heads, one after another. Whether arrays and maps have their items is for the caller to check.
-pub type Items = Repeated<Item>;

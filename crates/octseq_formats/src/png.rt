@@ -2,8 +2,8 @@
 ghost use Rattle.std.specs.Prelude.{◌≡◌, ◌<◌, ◌+◌, min};
 
 use octseq_format::{
-    Any, Exactly, Itself, Key, Keyed, Octets, Reckoning, Repeated, Rest, Sized, Test, Then, Through,
-    U8, U32Be, U64Be, When,
+    Any, Exactly, Itself, Key, Keyed, Octets, Reckoning, Repeated, Rest, Sized, Test, Then,
+    Through, U8, U32Be, U64Be, When,
 };
 
 /// The eight octets with which a file begins.

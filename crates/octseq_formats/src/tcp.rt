@@ -37,5 +37,7 @@ pub type Header = (
 );
 
 /// A segment: its header, the octets of its options, and its payload.
-pub type Segment =
-    Keyed<Header, When<IsHeader, Then<Through<OptionsLen, Sized<Rest, 0>>, Any<Rest>>>>;
+pub type Segment = Keyed<
+    Header,
+    When<IsHeader, Then<Through<OptionsLen, Sized<Rest, 0>>, Any<Rest>>>,
+>;

@@ -26,10 +26,7 @@ fn inputs<R: AsOctets + Copy>(
 }
 
 /// The outputs of a transaction.
-fn outputs<R: AsOctets + Copy>(
-    fields: &mut Fields,
-    parser: &mut Parser<R>,
-) -> Result<(), Unshown> {
+fn outputs<R: AsOctets + Copy>(fields: &mut Fields, parser: &mut Parser<R>) -> Result<(), Unshown> {
     let count = next::<bitcoin::Count, R>(parser)?;
     fields.begin("outputs")?;
     for _ in 0..count {
@@ -102,12 +99,12 @@ pub fn transaction<R: AsOctets + Copy>(fields: &mut Fields, octets: R) -> Result
 
 /// A command: its octets up to the first zero.
 fn command(fields: &mut Fields, octets: &[u8]) -> Result<(), Unshown> {
-    let mut len = 0;
+    let mut len = 0_usize;
     for octet in octets {
         if *octet == 0 {
             break;
         }
-        len += 1;
+        len = len.saturating_add(1);
     }
     let Ok(text) = str::from_utf8(octets.get(..len).ok_or(Unshown::Malformed)?) else {
         return Err(Unshown::Malformed);
@@ -122,7 +119,10 @@ fn command(fields: &mut Fields, octets: &[u8]) -> Result<(), Unshown> {
 pub fn message<R: AsOctets + Copy>(fields: &mut Fields, octets: R) -> Result<(), Unshown> {
     let ((magic, _, _, len, checksum), payload) = value::<bitcoin::Message, R>(octets)?;
     fields.octets("magic", magic.to_be_bytes().as_slice())?;
-    command(fields, octets.as_ref().get(4..16).ok_or(Unshown::Malformed)?)?;
+    command(
+        fields,
+        octets.as_ref().get(4..16).ok_or(Unshown::Malformed)?,
+    )?;
     fields.number("length", len as u64)?;
     fields.octets("checksum", checksum.to_be_bytes().as_slice())?;
     match payload {

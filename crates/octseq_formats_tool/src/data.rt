@@ -94,8 +94,10 @@ fn crc(octets: &[u8]) -> u32 {
 
 /// The fields of an `IHDR`.
 fn image_header<R: AsOctets + Copy>(fields: &mut Fields, octets: R) -> Result<(), Unshown> {
-    let ((width, height), (depth, colour, compression), (filter, interlace)) =
-        value::<png::ImageHeader, R>(octets)?;
+    let ((width, height), (depth, colour, compression), (filter, interlace)) = value::<
+        png::ImageHeader,
+        R,
+    >(octets)?;
     fields.number("width", u64::from(width))?;
     fields.number("height", u64::from(height))?;
     fields.number("depth", u64::from(depth))?;
@@ -252,10 +254,14 @@ pub fn cbor<R: AsOctets + Copy>(
     fields: &mut Fields,
     octets: R,
 ) -> Result<(), Unshown> {
-    let items = value::<cbor::Items, R>(octets)?;
+    let mut parser = Parser::from_ref(octets);
     let mut owed = Owed::new(alloc)?;
     fields.begin("items")?;
-    for item in items {
+    for _ in 0..octets.as_ref().len() {
+        if parser.remaining() == 0 {
+            break;
+        }
+        let item = next::<cbor::Item, R>(&mut parser)?;
         fields.item()?;
         if item.0 != 0xFF {
             owed.pay()?;

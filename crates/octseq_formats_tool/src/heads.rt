@@ -62,6 +62,11 @@ fn alone(fields: &mut Fields, owed: &mut Owed, first: u8) -> Result<(), Unshown>
     }
 }
 
+/// The bits of a float of 32 bits, as one of 64.
+fn double(bits: u32) -> u64 {
+    f64::from(f32::from_bits(bits)).to_bits()
+}
+
 /// An item of MessagePack.
 fn msgpack_item<R: AsOctets + Copy>(
     fields: &mut Fields,
@@ -87,8 +92,7 @@ fn msgpack_item<R: AsOctets + Copy>(
         },
         OneOf5::Fourth(fixed) => match fixed {
             OneOf4::First(OneOf2::First(bits)) => {
-                let double = f64::from(f32::from_bits(bits));
-                octets(fields, "float:", double.to_bits().to_be_bytes().as_slice())
+                octets(fields, "float:", double(bits).to_be_bytes().as_slice())
             }
             OneOf4::First(OneOf2::Second(bits)) => {
                 octets(fields, "float:", bits.to_be_bytes().as_slice())
@@ -97,10 +101,22 @@ fn msgpack_item<R: AsOctets + Copy>(
             OneOf4::Second(OneOf4::Second(number)) => named(fields, "int:", u64::from(number)),
             OneOf4::Second(OneOf4::Third(number)) => named(fields, "int:", u64::from(number)),
             OneOf4::Second(OneOf4::Fourth(number)) => named(fields, "int:", number),
-            OneOf4::Third(OneOf4::First(number)) => signed(fields, i64::from(i8::from_be_bytes(number.to_be_bytes()))),
-            OneOf4::Third(OneOf4::Second(number)) => signed(fields, i64::from(i16::from_be_bytes(number.to_be_bytes()))),
-            OneOf4::Third(OneOf4::Third(number)) => signed(fields, i64::from(i32::from_be_bytes(number.to_be_bytes()))),
-            OneOf4::Third(OneOf4::Fourth(number)) => signed(fields, i64::from_be_bytes(number.to_be_bytes())),
+            OneOf4::Third(OneOf4::First(number)) => signed(
+                fields,
+                i64::from(i8::from_be_bytes(number.to_be_bytes())),
+            ),
+            OneOf4::Third(OneOf4::Second(number)) => signed(
+                fields,
+                i64::from(i16::from_be_bytes(number.to_be_bytes())),
+            ),
+            OneOf4::Third(OneOf4::Third(number)) => signed(
+                fields,
+                i64::from(i32::from_be_bytes(number.to_be_bytes())),
+            ),
+            OneOf4::Third(OneOf4::Fourth(number)) => signed(
+                fields,
+                i64::from_be_bytes(number.to_be_bytes()),
+            ),
             OneOf4::Fourth(OneOf4::First(items)) => array(fields, owed, u64::from(items)),
             OneOf4::Fourth(OneOf4::Second(items)) => array(fields, owed, u64::from(items)),
             OneOf4::Fourth(OneOf4::Third(pairs)) => map(fields, owed, u64::from(pairs)),
@@ -230,7 +246,13 @@ pub fn der<R: AsOctets + Copy>(
         }
         if first / 32 % 2 == 1 {
             ends.push(left - len).map_err(|_| Unshown::Memory)?;
-            if ends.iter().rev().skip(1).next().is_some_and(|end| left - len < *end) {
+            if ends
+                .iter()
+                .rev()
+                .skip(1)
+                .next()
+                .is_some_and(|end| left - len < *end)
+            {
                 return Err(Unshown::Malformed);
             }
         }

@@ -158,8 +158,9 @@ fn chain_options<R: AsOctets + Copy>(
 
 /// A packet of IPv6.
 pub fn ipv6<R: AsOctets + Copy>(fields: &mut Fields, octets: R) -> Result<(), Unshown> {
-    let ((_, len, number, hops), (source, destination, headers)) =
-        value::<ipv6::Packet, R>(octets)?;
+    let ((_, len, number, hops), (source, destination, headers)) = value::<ipv6::Packet, R>(
+        octets,
+    )?;
     if usize::from(len) != headers.remaining() {
         return Err(Unshown::Malformed);
     }

@@ -135,7 +135,7 @@ fn octets(alloc: Global, line: &[u8]) -> Result<Option<Vec<u8>>, AllocError> {
                 let (Some(upper), Some(lower)) = (number(*upper), number(*lower)) else {
                     return Ok(None);
                 };
-                octets.push(upper * 16 + lower)?;
+                octets.push(upper << 4 | lower)?;
                 rest = others;
             }
             [_] => return Ok(None),

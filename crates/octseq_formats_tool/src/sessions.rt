@@ -1,9 +1,7 @@
 //! DHCP, MQTT, QUIC, SOCKS and WebSocket.
 use crate::fields::{Fields, Unshown, value};
 use octseq::{AsOctets, Parser};
-use octseq_format::{
-    Itself, Key, OneOf2, OneOf3, OneOf4, OneOf5, OneOf6, QuicInteger, Rest,
-};
+use octseq_format::{Itself, Key, OneOf2, OneOf3, OneOf4, OneOf5, OneOf6, QuicInteger, Rest};
 use octseq_formats::{dhcp, mqtt, quic, socks5, websocket};
 
 /// What a client of SOCKS 5 offers.

@@ -8,7 +8,10 @@ use std::alloc::AllocGlobal;
 use std::process::Abort;
 
 /// Reads and writes a packet again.
-fn message_again<R: AsOctets + Copy>(rt: &(impl AllocGlobal + Abort), octets: R) -> Option<Vec<u8>> {
+fn message_again<R: AsOctets + Copy>(
+    rt: &(impl AllocGlobal + Abort),
+    octets: R,
+) -> Option<Vec<u8>> {
     rewritten::<bgp::Message, R>(rt, octets)
 }
 
@@ -64,7 +67,15 @@ fn messages(rt: HostRuntime) {
             is_refused(&rt, message_again(&rt, &octets[..len]));
         }
     }
-    let numbers = [(14, 0, 0), (0, 6, 0), (0, 5, 0), (0, 7, 1), (0, 3, 1), (0, 4, 1), (0, 6, 1)];
+    let numbers = [
+        (14, 0, 0),
+        (0, 6, 0),
+        (0, 5, 0),
+        (0, 7, 1),
+        (0, 3, 1),
+        (0, 4, 1),
+        (0, 6, 1),
+    ];
     for (octets, number) in packets.into_iter().zip(numbers) {
         assert_equal!(&rt, counts(octets), Some(number));
     }

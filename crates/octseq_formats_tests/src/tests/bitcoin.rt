@@ -6,7 +6,10 @@ use std::alloc::AllocGlobal;
 use std::process::Abort;
 
 /// Reads and writes a packet again.
-fn transaction_again<R: AsOctets + Copy>(rt: &(impl AllocGlobal + Abort), octets: R) -> Option<Vec<u8>> {
+fn transaction_again<R: AsOctets + Copy>(
+    rt: &(impl AllocGlobal + Abort),
+    octets: R,
+) -> Option<Vec<u8>> {
     rewritten::<bitcoin::Transaction, R>(rt, octets)
 }
 
@@ -36,7 +39,8 @@ fn transactions(rt: HostRuntime) {
             is_refused(&rt, transaction_again(&rt, &octets[..len]));
         }
     }
-    let longer: &[u8] = b"\x01\x00\x00\x00\xFD\x01\x00\x00\x00\x00\x00\x00\x00\x00\x00\x00\x00\x00\x00\x00\
+    let longer: &[u8] =
+        b"\x01\x00\x00\x00\xFD\x01\x00\x00\x00\x00\x00\x00\x00\x00\x00\x00\x00\x00\x00\x00\
       \x00\x00\x00\x00\x00\x00\x00\x00\x00\x00\x00\x00\x00\x00\x00\x00\x00\x00\x00\xFF\
       \xFF\xFF\xFFM\x04\xFF\xFF\x00\x1D\x01\x04EThe Times 03/Jan/2009 Chancellor on br\
       ink of second bailout for banks\xFF\xFF\xFF\xFF\x01\x00\xF2\x05*\x01\x00\x00\x00\

@@ -1,8 +1,8 @@
-//! Packets of scapy and Linux, as tshark 4.0.17 reads them: IPv4, IPv6 and TCP, with options.
+//! Packets of scapy and Linux, as tshark 4.0.17 reads them: IPv4, IPv6 and TCP, with options. A packet of RTP by RFC 3550.
 use crate::tests::{is_refused, is_same, rewritten};
 use octseq::{AsOctets, Parser, Turns};
 use octseq_format::{Family, Format, OneOf3};
-use octseq_formats::{ipv4, ipv6, tcp};
+use octseq_formats::{ipv4, ipv6, rtp, tcp};
 use std::alloc::AllocGlobal;
 use std::process::Abort;
 
@@ -23,10 +23,7 @@ fn are_options<R: AsOctets + Copy>(options: Parser<R>) -> bool {
 }
 
 /// Reads a datagram of IPv4 and writes it again. Returns `None` if it, its options or its total length are malformed.
-fn ipv4_again<R: AsOctets + Copy>(
-    rt: &(impl AllocGlobal + Abort),
-    octets: R,
-) -> Option<Vec<u8>> {
+fn ipv4_again<R: AsOctets + Copy>(rt: &(impl AllocGlobal + Abort), octets: R) -> Option<Vec<u8>> {
     let Ok(value) = <ipv4::Datagram as Format<R>>::parse_whole(octets) else {
         return None;
     };
@@ -67,10 +64,7 @@ fn ipv4_datagrams(rt: HostRuntime) {
 }
 
 /// Reads a segment of TCP and writes it again. Returns `None` if it or its options are malformed.
-fn tcp_again<R: AsOctets + Copy>(
-    rt: &(impl AllocGlobal + Abort),
-    octets: R,
-) -> Option<Vec<u8>> {
+fn tcp_again<R: AsOctets + Copy>(rt: &(impl AllocGlobal + Abort), octets: R) -> Option<Vec<u8>> {
     let Ok(value) = <tcp::Segment as Format<R>>::parse_whole(octets) else {
         return None;
     };
@@ -160,10 +154,7 @@ fn are_headers<R: AsOctets + Copy>(headers: Parser<R>, first: u8) -> bool {
 }
 
 /// Reads a packet of IPv6 and writes it again. Returns `None` if it, its headers or its length are malformed.
-fn ipv6_again<R: AsOctets + Copy>(
-    rt: &(impl AllocGlobal + Abort),
-    octets: R,
-) -> Option<Vec<u8>> {
+fn ipv6_again<R: AsOctets + Copy>(rt: &(impl AllocGlobal + Abort), octets: R) -> Option<Vec<u8>> {
     let Ok(value) = <ipv6::Packet as Format<R>>::parse_whole(octets) else {
         return None;
     };
@@ -225,5 +216,35 @@ fn ipv6_packets(rt: HostRuntime) {
     ];
     for octets in malformed {
         is_refused(&rt, ipv6_again(&rt, octets));
+    }
+}
+
+/// Reads and writes a packet again.
+fn rtp_again<R: AsOctets + Copy>(rt: &(impl AllocGlobal + Abort), octets: R) -> Option<Vec<u8>> {
+    rewritten::<rtp::Packet, R>(rt, octets)
+}
+
+#[test]
+fn rtp_packets(rt: HostRuntime) {
+    let packets: [&[u8]; 2] = [
+        // two sources, an extension of one word, and a payload
+        b"\x92\xE0\x124\x00\x00\x00\xA0\xDE\xAD\xBE\xEF\x01\x02\x03\x04\x05\x06\x07\x08\
+          \xBE\xDE\x00\x01\x10\xFF\x00\x00hello",
+        b"\x80\x60\x124\x00\x00\x00\xA0\xDE\xAD\xBE\xEF",
+    ];
+    for octets in packets {
+        is_same(&rt, rtp_again(&rt, octets), octets);
+        for len in 0..12 {
+            is_refused(&rt, rtp_again(&rt, &octets[..len]));
+        }
+    }
+    let malformed: [&[u8]; 3] = [
+        // of version 1, without its second source, and without its extension's word
+        b"\x52\xE0\x124\x00\x00\x00\xA0\xDE\xAD\xBE\xEF\x01\x02\x03\x04\x05\x06\x07\x08",
+        b"\x82\xE0\x124\x00\x00\x00\xA0\xDE\xAD\xBE\xEF\x01\x02\x03\x04\x05\x06\x07",
+        b"\x90\xE0\x124\x00\x00\x00\xA0\xDE\xAD\xBE\xEF\xBE\xDE\x00\x01\x10\xFF\x00",
+    ];
+    for octets in malformed {
+        is_refused(&rt, rtp_again(&rt, octets));
     }
 }

@@ -71,10 +71,7 @@ fn cbor_items(rt: HostRuntime) {
     for octets in packets {
         is_same(&rt, cbor_again(&rt, octets), octets);
     }
-    let malformed: [&[u8]; 2] = [
-        b"Z\xFF\xFF\xFF\xFF\x00",
-        b"\x1C",
-    ];
+    let malformed: [&[u8]; 2] = [b"Z\xFF\xFF\xFF\xFF\x00", b"\x1C"];
     for octets in malformed {
         is_refused(&rt, cbor_again(&rt, octets));
     }
@@ -96,10 +93,7 @@ fn msgpack_items(rt: HostRuntime) {
     for octets in packets {
         is_same(&rt, msgpack_again(&rt, octets), octets);
     }
-    let malformed: [&[u8]; 2] = [
-        b"\xC1",
-        b"\xDA\x01\x00abc",
-    ];
+    let malformed: [&[u8]; 2] = [b"\xC1", b"\xDA\x01\x00abc"];
     for octets in malformed {
         is_refused(&rt, msgpack_again(&rt, octets));
     }

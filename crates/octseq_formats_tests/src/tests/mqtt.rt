@@ -11,7 +11,10 @@ fn packet_again<R: AsOctets + Copy>(rt: &(impl AllocGlobal + Abort), octets: R) 
 }
 
 /// Reads and writes a packet again.
-fn packet5_again<R: AsOctets + Copy>(rt: &(impl AllocGlobal + Abort), octets: R) -> Option<Vec<u8>> {
+fn packet5_again<R: AsOctets + Copy>(
+    rt: &(impl AllocGlobal + Abort),
+    octets: R,
+) -> Option<Vec<u8>> {
     rewritten::<mqtt::Packet5, R>(rt, octets)
 }
 
