@@ -5,6 +5,7 @@ use octseq::{AsOctets, Parser};
 use octseq_format::{Format, OneOf2, OneOf3, OneOf4, OneOf5, OneOf7};
 use octseq_formats::{der, msgpack};
 use std::alloc::Global;
+use std::num::{f32_from_bits_with_nan, f64_to_bits_with_nan};
 
 /// A value with its type's name before it.
 fn named(fields: &mut Fields, name: &str, number: u64) -> Result<(), Unshown> {
@@ -62,9 +63,9 @@ fn alone(fields: &mut Fields, owed: &mut Owed, first: u8) -> Result<(), Unshown>
     }
 }
 
-/// The bits of a float of 32 bits, as one of 64.
+/// The bits of a float of 32 bits, as one of 64. Every NaN has the same.
 fn double(bits: u32) -> u64 {
-    f64::from(f32::from_bits(bits)).to_bits()
+    f64_to_bits_with_nan(f64::from(f32_from_bits_with_nan(bits)))
 }
 
 /// An item of MessagePack.
