@@ -1,7 +1,7 @@
 //! MessagePack and DER.
 use crate::fields::{Fields, Unshown, between, next};
 use crate::owed::Owed;
-use octseq::{AsOctets, Parser};
+use octseq::{AsOctets, Malformed, Parser};
 use octseq_format::{Format, OneOf2, OneOf3, OneOf4, OneOf5, OneOf7};
 use octseq_formats::{der, msgpack};
 use std::alloc::Global;
@@ -171,28 +171,21 @@ pub fn msgpack<R: AsOctets + Copy>(
 }
 
 /// A node of DER: its depth, its class, whether it has nodes, its tag number, the octets of its head, and its length.
-fn node(
-    fields: &mut Fields,
-    depth: usize,
-    first: u8,
-    number: u64,
-    head: usize,
-    len: usize,
-) -> Result<(), Unshown> {
+fn node(fields: &mut Fields, depth: usize, tag: Tag, head: usize) -> Result<(), Unshown> {
     fields.item()?;
     fields.decimal(depth as u64)?;
-    fields.push(match first / 64 {
+    fields.push(match tag.first / 64 {
         0 => ":u",
         1 => ":a",
         2 => ":c",
         _ => ":p",
     })?;
-    fields.push(if first / 32 % 2 == 1 { "c" } else { "p" })?;
-    fields.decimal(number)?;
+    fields.push(if tag.first / 32 % 2 == 1 { "c" } else { "p" })?;
+    fields.decimal(tag.number as u64)?;
     fields.push(":")?;
     fields.decimal(head as u64)?;
     fields.push(":")?;
-    fields.decimal(len as u64)
+    fields.decimal(tag.len as u64)
 }
 
 /// Ends the levels that end here.
@@ -205,13 +198,61 @@ fn settle(ends: &mut Vec<usize>, here: usize) {
     }
 }
 
+/// What a head of DER says.
+#[derive(Clone, Copy)]
+struct Tag {
+    first: usize,
+    number: usize,
+    len: usize,
+    // how many octets were read after the head
+    taken: usize,
+}
+
+/// Reads a head, with the octets of a value that has no nodes.
+fn read_tag<R: AsOctets + Copy>(parser: &mut Parser<R>) -> Result<Tag, Malformed> {
+    let (first, inside) = next::<der::Head, R>(parser)?;
+    let (number, len, taken) = match inside {
+        OneOf2::First(OneOf2::First(len)) => (first % 32, len, 0),
+        OneOf2::First(OneOf2::Second(octets)) => {
+            (first % 32, octets.remaining(), octets.remaining())
+        }
+        OneOf2::Second(OneOf2::First((number, len))) => (number, len, 0),
+        OneOf2::Second(OneOf2::Second((number, octets))) => {
+            (number, octets.remaining(), octets.remaining())
+        }
+    };
+    Ok(Tag {
+        first,
+        number,
+        len,
+        taken,
+    })
+}
+
+/// Checks that a value ends within the one around it, and begins the level of its nodes. `left` octets follow it, or
+/// its head if it has nodes.
+fn enter(ends: &mut Vec<usize>, tag: Tag, left: usize) -> Result<(), Unshown> {
+    let mut end = left;
+    if tag.first / 32 % 2 == 1 {
+        end = left.checked_sub(tag.len).ok_or(Unshown::Malformed)?;
+    }
+    if ends.last().is_some_and(|outer| end < *outer) {
+        return Err(Unshown::Malformed);
+    }
+    if tag.first / 32 % 2 == 1 {
+        ends.push(end).map_err(|_| Unshown::Memory)?;
+    }
+    settle(ends, left);
+    Ok(())
+}
+
 /// The nodes of a value of DER.
 pub fn der<R: AsOctets + Copy>(
     alloc: Global,
     fields: &mut Fields,
     octets: R,
 ) -> Result<(), Unshown> {
-    // How many octets follow each level that isn't at its end.
+    // how many octets follow each level that isn't at its end
     let mut ends = Vec::new(alloc);
     ends.push(0).map_err(|_| Unshown::Memory)?;
     let mut parser = Parser::from_ref(octets);
@@ -221,43 +262,11 @@ pub fn der<R: AsOctets + Copy>(
             break;
         }
         let before = parser;
-        let (first, inside) = next::<der::Head, R>(&mut parser)?;
-        let (number, len, inside) = match inside {
-            OneOf2::First(OneOf2::First(len)) => (first as u64 % 32, len, 0),
-            OneOf2::First(OneOf2::Second(octets)) => {
-                (first as u64 % 32, octets.remaining(), octets.remaining())
-            }
-            OneOf2::Second(OneOf2::First((number, len))) => (number as u64, len, 0),
-            OneOf2::Second(OneOf2::Second((number, octets))) => {
-                (number as u64, octets.remaining(), octets.remaining())
-            }
-        };
-        let taken = between(&before, &parser).len().saturating_sub(inside);
-        node(
-            fields,
-            ends.len().saturating_sub(1),
-            (first % 256) as u8,
-            number,
-            taken,
-            len,
-        )?;
-        let left = parser.remaining();
-        if ends.last().is_some_and(|end| left < *end) || left.saturating_add(inside) < len {
-            return Err(Unshown::Malformed);
-        }
-        if first / 32 % 2 == 1 {
-            ends.push(left - len).map_err(|_| Unshown::Memory)?;
-            if ends
-                .iter()
-                .rev()
-                .skip(1)
-                .next()
-                .is_some_and(|end| left - len < *end)
-            {
-                return Err(Unshown::Malformed);
-            }
-        }
-        settle(&mut ends, left);
+        let tag = read_tag(&mut parser)?;
+        let taken = between(&before, &parser).len();
+        let depth = ends.len().saturating_sub(1);
+        node(fields, depth, tag, taken.saturating_sub(tag.taken))?;
+        enter(&mut ends, tag, parser.remaining())?;
     }
     if parser.remaining() > 0 || !ends.is_empty() {
         return Err(Unshown::Malformed);
