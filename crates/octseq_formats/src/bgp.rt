@@ -49,16 +49,20 @@ pub type Prefix = Keyed<Key<U8, OctetsOfBits>, Sized<Rest, 0>>;
 pub type Segment = (U8, Times<U8, U32Be>);
 
 /// The value of an attribute, by its type: ORIGIN, AS_PATH, NEXT_HOP, MULTI_EXIT_DISC, LOCAL_PREF, ATOMIC_AGGREGATE,
-/// AGGREGATOR, COMMUNITIES, and the octets of any other.
+/// AGGREGATOR, COMMUNITIES, and the octets of any other. They are in pairs, as a check of a message stops at its limit
+/// where eight are side by side.
 pub type AttributeValue = (
-    Case<1, U8>,
-    Case<2, Repeated<Segment>>,
-    Case<3, Octets<4>>,
-    Case<4, U32Be>,
-    Case<5, U32Be>,
-    Case<6, Nothing>,
-    Case<7, (U32Be, Octets<4>)>,
-    (Case<8, Repeated<U32Be>>, Any<Rest>),
+    (
+        (Case<1, U8>, Case<2, Repeated<Segment>>),
+        (Case<3, Octets<4>>, Case<4, U32Be>),
+    ),
+    (
+        (Case<5, U32Be>, Case<6, Nothing>),
+        (
+            (Case<7, (U32Be, Octets<4>)>, Case<8, Repeated<U32Be>>),
+            Any<Rest>,
+        ),
+    ),
 );
 
 /// A path attribute: its flags and its type, a length of one octet or two, and its value.

@@ -65,6 +65,15 @@ fn compose<F: Format<R>, R: AsOctets + Copy, B: EmptyBuilder + Truncate>(
     F::compose_whole(alloc, value)
 }
 
+/// Reads a packet and writes it again. Returns `None` if the octets are malformed, or can't be written. (With `rt` as a
+/// parameter, a check of a format of some size takes more than it may.)
+fn again<F: Format<R>, R: AsOctets + Copy>(alloc: Global, octets: R) -> Option<Vec<u8>> {
+    let Ok(value) = F::parse_whole(octets) else {
+        return None;
+    };
+    F::compose_whole(alloc, &value).ok()
+}
+
 /// Reads a packet and writes it again. Returns `None` if the octets are malformed.
 fn rewritten<F: Format<R>, R: AsOctets + Copy>(
     rt: &(impl AllocGlobal + Abort),
