@@ -1,19 +1,13 @@
 //! Items of CBOR, MessagePack and DER, and chunks of PNG, one after another, as tshark 4.0.17, msgpack 1.0.3, openssl
 //! 3.0 and pngcheck 3.0.3 read them.
-use crate::tests::{again, is_refused, is_same, rewritten, unwrap};
+use crate::tests::{is_refused, is_same, rewritten, unwrap};
 use octseq::{AsOctets, Parser};
 use octseq_format::Format;
 use octseq_formats::{cbor, der, msgpack, png};
-use std::alloc::{AllocGlobal, Global};
+use std::alloc::AllocGlobal;
 use std::process::Abort;
 
-/// Reads and writes a packet again.
-fn cbor_again<R: AsOctets + Copy>(alloc: Global, octets: R) -> Option<Vec<u8>> {
-    again::<cbor::Items, R>(alloc, octets)
-}
-
-/// Reads items up to the end, and writes each again. (A list of them as one type has more types than the kit's borrow
-/// checker takes.)
+/// Reads items up to the end, and writes each again. (As a list they are more than a check takes.)
 fn items_again<F: Format<R>, R: AsOctets + Copy>(
     rt: &(impl AllocGlobal + Abort),
     octets: R,
@@ -30,6 +24,11 @@ fn items_again<F: Format<R>, R: AsOctets + Copy>(
         unwrap(rt, F::append(&mut written, &item));
     }
     Some(written)
+}
+
+/// Reads and writes a packet again.
+fn cbor_again<R: AsOctets + Copy>(rt: &(impl AllocGlobal + Abort), octets: R) -> Option<Vec<u8>> {
+    items_again::<cbor::Item, R>(rt, octets)
 }
 
 /// Reads and writes a packet again.
@@ -69,11 +68,11 @@ fn cbor_items(rt: HostRuntime) {
         b"\x1B\x00\x00\x00\x00\x00\x00\x00\x01",
     ];
     for octets in packets {
-        is_same(&rt, cbor_again(rt.alloc(), octets), octets);
+        is_same(&rt, cbor_again(&rt, octets), octets);
     }
     let malformed: [&[u8]; 2] = [b"Z\xFF\xFF\xFF\xFF\x00", b"\x1C"];
     for octets in malformed {
-        is_refused(&rt, cbor_again(rt.alloc(), octets));
+        is_refused(&rt, cbor_again(&rt, octets));
     }
 }
 
