@@ -1,4 +1,4 @@
-//! Messages of BGP, and an UPDATE with its attributes: RFC 4271, 4.1 and 4.3, with AS numbers of four octets (RFC 6793).
+//! Messages of BGP, and an UPDATE with its attributes: RFC 4271, 4.1 and 4.3. AS numbers have four octets (RFC 6793).
 ghost use Rattle.std.specs.Prelude.{◌≡◌, ◌+◌, ◌*◌, ◌/◌, ◌%◌, nat_eq};
 
 use octseq_format::{

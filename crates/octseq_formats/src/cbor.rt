@@ -66,8 +66,8 @@ impl Test for IsSimple {
     }
 }
 
-/// A string by its information: in as many octets as it says, after a length of 1, 2, 4 or 8 octets, or none of its own,
-/// if chunks follow up to a break.
+/// A string by its information: in as many octets as it says, after a length of 1, 2, 4 or 8 octets, or none of its
+/// own, if chunks follow up to a break.
 pub type Str = (
     When<IsArgument, Sized<Rest, 0>>,
     Case<24, Counted<U8, Rest, 0>>,

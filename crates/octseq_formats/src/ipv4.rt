@@ -45,8 +45,8 @@ pub type Datagram = Keyed<
     When<IsVersion4, Then<Through<OptionsLen, Sized<Rest, 0>>, Any<Rest>>>,
 >;
 
-/// An option of IPv4 or TCP: 0 ends the options, and what follows it is padding; 1 is padding between options; any other
-/// has a length, which counts all of the option.
+/// An option of IPv4 or TCP: 0 ends the options, and what follows it is padding; 1 is padding between options; any
+/// other has a length, which counts all of the option.
 pub type HeaderOption = Tagged<
     U8,
     (

@@ -61,8 +61,8 @@ impl Reckoning for FoursLen {
     }
 }
 
-/// An extension header by its number: the number of the header after it, a length, and its octets; or a fragment header.
-/// Any other number ends the chain of headers.
+/// An extension header by its number: the number of the header after it, a length, and its octets; or a fragment
+/// header. Any other number ends the chain of headers.
 pub type Extension = (
     When<IsInEights, Any<Keyed<(U8, Key<U8, EightsLen>), Sized<Rest, 0>>>>,
     Case<44, (U8, U8, U16Be, U32Be)>,

@@ -48,8 +48,8 @@ impl Switch for HasUser {
     }
 }
 
-/// CONNECT: the protocol's name and level, flags, and seconds; a client's identifier; then a will's topic and message, a
-/// user's name and a password, as the flags say.
+/// CONNECT: the protocol's name and level, flags, and seconds; a client's identifier; then a will's topic and message,
+/// a user's name and a password, as the flags say.
 pub type Connect = Keyed<
     (Field, U8, Key<U8, Itself>, U16Be),
     Then<

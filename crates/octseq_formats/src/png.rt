@@ -42,7 +42,8 @@ pub type Chunk = Keyed<
 /// The type of a chunk, and its data.
 pub type Covered = (Octets<4>, Rest);
 
-/// The data of `IHDR`: width and height; bit depth, colour type, methods of compression, of filtering and of interlacing.
+/// The data of `IHDR`: width and height; bit depth, colour type, and the methods of compression, filtering and
+/// interlacing.
 pub type ImageHeader = ((U32Be, U32Be), (U8, U8, U8), (U8, U8));
 
 /// A file: its signature, and chunks. Their order, and what their types demand, are for the caller to check.

@@ -1,6 +1,6 @@
-//! Shows packets of formats of standards: for each line of standard input, which is a packet in hexadecimal, a line with
-//! its fields as JSON has them, or `malformed`. The first argument names the format; with `named`, each line does, before
-//! a space and the packet.
+//! Shows packets of formats of standards: for each line of standard input, which is a packet in hexadecimal, a line
+//! with its fields as JSON has them, or `malformed`. The first argument names the format; with `named`, each line does,
+//! before a space and the packet.
 #![tactic(auto)]
 
 use crate::fields::{Fields, Unshown};

@@ -1,4 +1,4 @@
-//! Transactions of Bitcoin, as python3-bitcoinlib and tshark 4.0.17 read them.
+//! Transactions of Bitcoin, as python3-bitcoinlib 0.11.2 has and reads them.
 use crate::tests::{is_refused, is_same, is_shorter, rewritten};
 use octseq::AsOctets;
 use octseq_formats::bitcoin;

@@ -1,4 +1,4 @@
-//! Packets of scapy and Linux, as tshark 4.0.17 reads them: IPv4, IPv6 and TCP, with options. A packet of RTP by RFC 3550.
+//! Packets of scapy 2.5.0, as tshark 4.0.17 reads them: IPv4, IPv6 and TCP, with options. Packets of RTP by RFC 3550.
 use crate::tests::{is_refused, is_same, rewritten};
 use octseq::{AsOctets, Parser, Turns};
 use octseq_format::{Family, Format, OneOf3};

@@ -1,5 +1,5 @@
-//! Items of CBOR, MessagePack and DER, and chunks of PNG, one after another, as tshark 4.0.17, msgpack 1.0.3, openssl
-//! 3.0 and pngcheck 3.0.3 read them.
+//! Items of CBOR, MessagePack and DER, and chunks of PNG, one after another, as tshark 4.0.17, python3-msgpack 1.0.3,
+//! openssl 3.0 and pngcheck 3.0.3 read them. What spans items, as a count, `octseq_formats_tool` checks.
 use crate::tests::{is_refused, is_same, rewritten, unwrap};
 use octseq::{AsOctets, Parser};
 use octseq_format::Format;

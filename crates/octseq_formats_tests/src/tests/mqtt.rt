@@ -1,4 +1,4 @@
-//! Packets of mosquitto and paho-mqtt, as tshark 4.0.17 reads them.
+//! Packets of mosquitto 2.0.11 and its clients, as tshark 4.0.17 reads them.
 use crate::tests::{is_refused, is_same, is_shorter, rewritten};
 use octseq::AsOctets;
 use octseq_formats::mqtt;
