@@ -4,6 +4,7 @@
 //! compiled into their callers either. Both read what they push from memory, by lengths that the compiler doesn't know,
 //! and both look at what a builder holds.
 mod dns;
+mod format_rows;
 mod formats;
 mod inputs;
 mod report;
@@ -36,11 +37,6 @@ unsafe extern "C" {
     fn octseq_dns_read(octets: *const u8, len: usize) -> u64;
     fn octseq_dns_written(octets: *const u8, len: usize) -> u64;
     fn octseq_dns_pushed(owners: *const u8, len: usize) -> u64;
-    fn octseq_ntp_by_format(octets: *const u8, len: usize) -> u64;
-    fn octseq_ntp_by_calls(octets: *const u8, len: usize) -> u64;
-    fn octseq_ntp_written(octets: *const u8, len: usize) -> u64;
-    fn octseq_hello_by_format(octets: *const u8, len: usize) -> u64;
-    fn octseq_hello_written(octets: *const u8, len: usize) -> u64;
 }
 
 type Sum = unsafe extern "C" fn(*const u8, usize) -> u64;
@@ -445,30 +441,6 @@ fn messages(bench: &mut Bench) {
     }
 }
 
-/// Formats: headers of NTP and ClientHellos, a hundred of each, one after another.
-fn formats(bench: &mut Bench) {
-    const HEADERS: &str = "100 headers of NTP";
-    const HELLOS: &str = "100 ClientHellos of TLS";
-    let hellos = formats::octets_of_lines(include_str!("hellos.hex")).repeat(25);
-    let rows: [(&str, &str, &str, Sum, fn(&[u8]) -> u64, Vec<u8>); 5] = [
-        ("read by their format", HEADERS, "a reader of 48 octets, by hand", octseq_ntp_by_format, formats::headers,
-            random(4800)),
-        ("read by calls of a parser", HEADERS, "the same", octseq_ntp_by_calls, formats::headers, random(4800)),
-        ("read and written", HEADERS, "a writer of 48 octets, by hand", octseq_ntp_written, formats::headers_written,
-            random(4800)),
-        ("checked and read", HELLOS, "a reader over slices, by hand", octseq_hello_by_format, formats::hellos,
-            hellos.clone()),
-        ("read and written", HELLOS, "a writer over slices, by hand", octseq_hello_written, formats::hellos_written,
-            hellos),
-    ];
-    for (what, given, beside, call, rust, octets) in rows {
-        let mut section = Section::new("formats", what, given, beside);
-        let theirs = octets.clone();
-        section.add(given, octets.len(), move || sum_of(call, &octets), move || rust(black_box(&theirs)));
-        bench.add(section);
-    }
-}
-
 /// What is said of the man pages: of which packages they are.
 fn note_on_pages(folder: &str, pages: &[Pages]) -> String {
     if pages.is_empty() {
@@ -493,7 +465,7 @@ fn main() {
     pops(&mut bench);
     integers(&mut bench);
     messages(&mut bench);
-    formats(&mut bench);
+    format_rows::add(&mut bench);
     bench.measure(3);
     bench.tell();
     if let (Some(docs), Some(when)) = (words.next(), words.next()) {

@@ -1,10 +1,4 @@
-//! Readers and a writer of formats, written plainly over slices: what `octseq_format` is timed beside.
-
-/// The octets of lines in hexadecimal, one after another.
-pub fn octets_of_lines(text: &str) -> Vec<u8> {
-    let digits = |line: &str, at| u8::from_str_radix(&line[at..at + 2], 16).expect("a line is hexadecimal");
-    text.lines().flat_map(|line| (0..line.len()).step_by(2).map(move |at| digits(line, at))).collect()
-}
+//! Readers and writers of formats, written plainly over slices: what `octseq_format` is timed beside.
 
 fn u32_at(octets: &[u8; 48], at: usize) -> u32 {
     u32::from_be_bytes(octets[at..at + 4].try_into().unwrap())
@@ -47,7 +41,8 @@ impl Ntp {
     }
 
     fn sum(&self) -> u64 {
-        let octets = self.leap_indicator ^ self.version ^ self.mode ^ self.stratum ^ self.poll as u8 ^ self.precision as u8;
+        let bits = self.leap_indicator ^ self.version ^ self.mode;
+        let octets = bits ^ self.stratum ^ self.poll as u8 ^ self.precision as u8;
         let numbers = self.root_delay ^ self.root_dispersion ^ self.reference_id;
         let (a, b, c, d) = self.timestamps;
         u64::from(octets) ^ u64::from(numbers) ^ a ^ b ^ c ^ d
@@ -78,16 +73,17 @@ pub fn headers(octets: &[u8]) -> u64 {
     sum
 }
 
+/// Each header is made first, and appended at once. All are appended to one content.
 #[inline(never)]
 pub fn headers_written(octets: &[u8]) -> u64 {
     let mut rest = octets;
-    let mut content = [0; 48];
-    let mut sum: u64 = 0;
+    let mut content = Vec::with_capacity(octets.len());
     while let Some(ntp) = Ntp::parse(&mut rest) {
-        ntp.write(&mut content);
-        sum = sum.wrapping_add(u64::from_be_bytes(*std::hint::black_box(&content).last_chunk().unwrap()));
+        let mut header = [0; 48];
+        ntp.write(&mut header);
+        content.extend_from_slice(&header);
     }
-    sum
+    sum_of_content(&content)
 }
 
 fn number<const N: usize>(octets: &mut &[u8]) -> Option<usize> {
@@ -96,11 +92,15 @@ fn number<const N: usize>(octets: &mut &[u8]) -> Option<usize> {
     Some(head.iter().fold(0, |n, octet| n << 8 | usize::from(*octet)))
 }
 
-fn part<'a, const N: usize>(octets: &mut &'a [u8]) -> Option<&'a [u8]> {
-    let len = number::<N>(octets)?;
+fn split<'a>(octets: &mut &'a [u8], len: usize) -> Option<&'a [u8]> {
     let (part, rest) = octets.split_at_checked(len)?;
     *octets = rest;
     Some(part)
+}
+
+fn part<'a, const N: usize>(octets: &mut &'a [u8]) -> Option<&'a [u8]> {
+    let len = number::<N>(octets)?;
+    split(octets, len)
 }
 
 pub struct Hello<'a> {
@@ -196,4 +196,212 @@ pub fn hellos_written(octets: &[u8]) -> u64 {
         sum = sum.wrapping_add(u64::from_be_bytes(*content.last_chunk().unwrap())).wrapping_add(content.len() as u64);
     }
     sum
+}
+
+/// The length of octets, and the first of them.
+fn sum_of_part(octets: &[u8]) -> u64 {
+    octets.first().map_or(0, |&octet| octets.len() as u64 ^ u64::from(octet))
+}
+
+/// The length of a content, and its octets, eight at a time.
+fn sum_of_content(content: &[u8]) -> u64 {
+    let eights = content.as_chunks::<8>().0.iter().map(|eight| u64::from_be_bytes(*eight));
+    eights.fold(content.len() as u64, u64::wrapping_add)
+}
+
+pub struct Datagram<'a> {
+    first: u8,
+    service: u8,
+    total: u16,
+    id: u16,
+    offset: u16,
+    hops: u8,
+    protocol: u8,
+    checksum: u16,
+    addresses: [[u8; 4]; 2],
+    options: &'a [u8],
+    payload: &'a [u8],
+}
+
+impl<'a> Datagram<'a> {
+    /// The number of octets of options, by the first octet of a datagram.
+    fn options_len(first: u8) -> Option<usize> {
+        let is_header = first >> 4 == 4 && first & 15 >= 5;
+        is_header.then(|| 4 * usize::from(first & 15) - 20)
+    }
+
+    /// All of the octets: two tests of the length.
+    fn parse(octets: &'a [u8]) -> Option<Self> {
+        let (head, rest) = octets.split_first_chunk::<20>()?;
+        let (options, payload) = rest.split_at_checked(Self::options_len(head[0])?)?;
+        Some(Datagram {
+            first: head[0],
+            service: head[1],
+            total: u16::from_be_bytes([head[2], head[3]]),
+            id: u16::from_be_bytes([head[4], head[5]]),
+            offset: u16::from_be_bytes([head[6], head[7]]),
+            hops: head[8],
+            protocol: head[9],
+            checksum: u16::from_be_bytes([head[10], head[11]]),
+            addresses: [head[12..16].try_into().unwrap(), head[16..20].try_into().unwrap()],
+            options,
+            payload,
+        })
+    }
+
+    fn sum(&self) -> u64 {
+        let octets = self.first ^ self.service ^ self.hops ^ self.protocol;
+        let numbers = self.total ^ self.id ^ self.offset ^ self.checksum;
+        let addresses = u32::from_be_bytes(self.addresses[0]) ^ u32::from_be_bytes(self.addresses[1]);
+        let parts = sum_of_part(self.options) ^ sum_of_part(self.payload);
+        u64::from(octets) ^ u64::from(numbers) ^ u64::from(addresses) ^ parts
+    }
+
+    /// The header is made first, and appended at once.
+    fn write(&self, content: &mut Vec<u8>) -> Option<()> {
+        if self.options.len() != Self::options_len(self.first)? {
+            return None;
+        }
+        let mut head = [0; 20];
+        head[0] = self.first;
+        head[1] = self.service;
+        head[2..4].copy_from_slice(&self.total.to_be_bytes());
+        head[4..6].copy_from_slice(&self.id.to_be_bytes());
+        head[6..8].copy_from_slice(&self.offset.to_be_bytes());
+        head[8] = self.hops;
+        head[9] = self.protocol;
+        head[10..12].copy_from_slice(&self.checksum.to_be_bytes());
+        head[12..16].copy_from_slice(&self.addresses[0]);
+        head[16..20].copy_from_slice(&self.addresses[1]);
+        content.extend_from_slice(&head);
+        content.extend_from_slice(self.options);
+        content.extend_from_slice(self.payload);
+        Some(())
+    }
+}
+
+/// Datagrams, each after its length in two octets.
+#[inline(never)]
+pub fn datagrams(octets: &[u8]) -> u64 {
+    let mut rest = octets;
+    let mut sum: u64 = 0;
+    while let Some(datagram) = part::<2>(&mut rest).and_then(Datagram::parse) {
+        sum = sum.wrapping_add(datagram.sum());
+    }
+    sum
+}
+
+/// All datagrams are appended to one content.
+#[inline(never)]
+pub fn datagrams_written(octets: &[u8]) -> u64 {
+    let mut rest = octets;
+    let mut content = Vec::with_capacity(octets.len());
+    while let Some(datagram) = part::<2>(&mut rest).and_then(Datagram::parse) {
+        if datagram.write(&mut content).is_none() {
+            break;
+        }
+    }
+    sum_of_content(&content)
+}
+
+/// An item of CBOR: its argument, which is the length of a string, and is 0 if there is none.
+pub struct Item<'a> {
+    first: u8,
+    argument: u64,
+    string: &'a [u8],
+}
+
+impl<'a> Item<'a> {
+    fn is_string(first: u8) -> bool {
+        matches!(first >> 5, 2 | 3)
+    }
+
+    /// The octets of a string: their number is in its first octet, or comes next.
+    fn string(first: u8, octets: &mut &'a [u8]) -> Option<&'a [u8]> {
+        match first & 31 {
+            len @ 0..=23 => split(octets, len.into()),
+            24 => part::<1>(octets),
+            25 => part::<2>(octets),
+            26 => part::<4>(octets),
+            27 => part::<8>(octets),
+            31 => Some(&[]),
+            _ => None,
+        }
+    }
+
+    /// The next item.
+    fn parse(octets: &mut &'a [u8]) -> Option<Self> {
+        let first = number::<1>(octets)? as u8;
+        if Self::is_string(first) {
+            let string = Self::string(first, octets)?;
+            return Some(Item { first, argument: string.len() as u64, string });
+        }
+        let argument = match first & 31 {
+            information @ 0..=23 => information.into(),
+            24 => number::<1>(octets)? as u64,
+            25 => number::<2>(octets)? as u64,
+            26 => number::<4>(octets)? as u64,
+            27 => number::<8>(octets)? as u64,
+            31 if matches!(first, 0x9F | 0xBF | 0xFF) => 0,
+            _ => return None,
+        };
+        let is_simple = first != 0xF8 || argument >= 32;
+        is_simple.then_some(Item { first, argument, string: &[] })
+    }
+
+    fn sum(&self) -> u64 {
+        let octet = self.string.first().copied().unwrap_or(0);
+        u64::from(self.first).wrapping_add(self.argument ^ u64::from(octet))
+    }
+
+    /// The argument and the string have to be what the first octet says.
+    fn write(&self, content: &mut Vec<u8>) -> Option<()> {
+        let Item { first, argument, string } = *self;
+        if Self::is_string(first) && argument != string.len() as u64 {
+            return None;
+        }
+        match first & 31 {
+            information @ 0..=23 if argument == information.into() => content.push(first),
+            24 if first == 0xF8 && argument < 32 => return None,
+            24 => content.extend_from_slice(&[first, argument.try_into().ok()?]),
+            25 => write_head(content, first, u16::try_from(argument).ok()?.to_be_bytes()),
+            26 => write_head(content, first, u32::try_from(argument).ok()?.to_be_bytes()),
+            27 => write_head(content, first, argument.to_be_bytes()),
+            31 if matches!(first, 0x5F | 0x7F | 0x9F | 0xBF | 0xFF) => content.push(first),
+            _ => return None,
+        }
+        if !string.is_empty() {
+            content.extend_from_slice(string);
+        }
+        Some(())
+    }
+}
+
+/// Appends a first octet, and the number after it.
+fn write_head<const N: usize>(content: &mut Vec<u8>, first: u8, number: [u8; N]) {
+    content.push(first);
+    content.extend_from_slice(&number);
+}
+
+#[inline(never)]
+pub fn items(octets: &[u8]) -> u64 {
+    let mut rest = octets;
+    let mut sum: u64 = 0;
+    while let Some(item) = Item::parse(&mut rest) {
+        sum = sum.wrapping_add(item.sum());
+    }
+    sum
+}
+
+/// All items are appended to one content.
+#[inline(never)]
+pub fn items_written(octets: &[u8]) -> u64 {
+    let mut rest = octets;
+    let mut content = Vec::with_capacity(octets.len());
+    while let Some(item) = Item::parse(&mut rest) {
+        if item.write(&mut content).is_none() {
+            break;
+        }
+    }
+    sum_of_content(&content)
 }

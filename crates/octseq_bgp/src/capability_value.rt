@@ -17,7 +17,7 @@ use crate::path::Asn;
 use crate::value::{parse_nothing, parse_some};
 use crate::whole::parse_all;
 use octseq::{AsOctets, Malformed, Parser, Turns};
-use octseq_format::{Rest, U8, U16Be, U32Be};
+use octseq_format::{Nested, U8, U16Be, U32Be};
 use std::alloc::AllocError;
 
 /// A capability says at most one thing.
@@ -55,7 +55,7 @@ impl<R: AsOctets + Copy> GracefulRestart<R> {
         ensures restart { IfOk result (λ it. IsRestart (window parser) (restart_of it)) }
         ensures malformed { IsErr result → (it : said.Restart) → ¬ IsRestart (window parser) it }
     {
-        let (bits, rest) = parse_all::<R, (U16Be, Rest)>(parser)?;
+        let (bits, rest) = parse_all::<R, (U16Be, Nested)>(parser)?;
         let families = Items::parse(rest)?;
         Ok(GracefulRestart { bits, families })
     }

@@ -10,7 +10,7 @@ ghost use Rattle.octseq_bgp.specs.Fills.{Fills};
 ghost use Rattle.octseq_bgp.specs.OneEntry.{EntriesAhead, entries_once};
 
 use octseq::{AsOctets, Malformed, Parser, Turns};
-use octseq_format::{Counted, Format, Rest, U8, U16Be, U32Be};
+use octseq_format::{Counted, Format, Nested, U8, U16Be, U32Be};
 use std::alloc::AllocError;
 
 /// The form of an entry.
@@ -62,10 +62,10 @@ impl<R: AsOctets + Copy> Clone for Entry<R> {
 }
 
 /// A type, and octets with a length of one octet before them.
-type Typed = (U8, Counted<U8, Rest, 0>);
+type Typed = (U8, Counted<U8, Nested, 0>);
 
 /// A type, and octets with a length of two octets before them.
-type LongTyped = (U8, Counted<U16Be, Rest, 0>);
+type LongTyped = (U8, Counted<U16Be, Nested, 0>);
 
 impl<R: AsOctets + Copy> Entry<R> {
     ghost use Rattle.octseq_bgp.specs.EntryOf.{entry_of};

@@ -14,7 +14,7 @@ use crate::session::SessionConfig;
 use crate::update::{UpdateMessage, UpdateParts};
 use crate::whole::parse_all;
 use octseq::{AsOctets, Malformed, Parser, Turns};
-use octseq_format::{Rest, U8, U16Be, U128Be};
+use octseq_format::{Nested, U8, U16Be, U128Be};
 
 /// Octets are a message of a session in at most one way.
 ///
@@ -46,7 +46,7 @@ impl<R: AsOctets + Copy> RouteRefreshMessage<R> {
             (it.afi, (it.subtype, (it.safi, window it.orf)))) }
         ensures malformed { IsErr result → (it : ℕ × (ℕ × (ℕ × Window))) → ¬ Whole IsRouteRefresh (window parser) it }
     {
-        let (afi, subtype, safi, orf) = parse_all::<R, (U16Be, U8, U8, Rest)>(parser)?;
+        let (afi, subtype, safi, orf) = parse_all::<R, (U16Be, U8, U8, Nested)>(parser)?;
         Ok(RouteRefreshMessage {
             afi,
             subtype,
@@ -84,7 +84,7 @@ impl<R: AsOctets + Copy> Header<R> {
         ensures header { IfOk result (λ it. IsHeader (window parser) (it.length, (it.kind, window it.body))) }
         ensures malformed { IsErr result → (h : ℕ × (ℕ × Window)) → ¬ IsHeader (window parser) h }
     {
-        let (marker, length, kind, body) = parse_all::<R, (U128Be, U16Be, U8, Rest)>(parser)?;
+        let (marker, length, kind, body) = parse_all::<R, (U128Be, U16Be, U8, Nested)>(parser)?;
         if marker != MARKER {
             return Err(Malformed);
         }

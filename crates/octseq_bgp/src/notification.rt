@@ -8,7 +8,7 @@ ghost use Rattle.octseq_bgp.specs.Notification.{IsCommunication, IsNotificationD
 
 use crate::whole::parse_all;
 use octseq::{AsOctets, Malformed, Parser};
-use octseq_format::{Counted, Rest, Text, U8};
+use octseq_format::{Counted, Nested, Text, U8};
 use std::alloc::AllocError;
 
 /// The value of the data of a NOTIFICATION.
@@ -51,7 +51,7 @@ impl<R: AsOctets + Copy> NotificationMessage<R> {
             (it.code, (it.subcode, window it.«data»))) }
         ensures malformed { IsErr result → (it : ℕ × (ℕ × Window)) → ¬ Whole IsNotification (window parser) it }
     {
-        let (code, subcode, data) = parse_all::<R, (U8, U8, Rest)>(parser)?;
+        let (code, subcode, data) = parse_all::<R, (U8, U8, Nested)>(parser)?;
         Ok(NotificationMessage {
             code,
             subcode,
@@ -70,7 +70,7 @@ impl<R: AsOctets + Copy> NotificationMessage<R> {
             return Err(Malformed);
         }
         let text = parse_all::<R, Counted<U8, Text, 0>>(self.data)?;
-        Ok(text)
+        Ok(text.parser())
     }
 
     /// Returns what the data says.

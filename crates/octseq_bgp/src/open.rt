@@ -9,7 +9,7 @@ ghost use Rattle.octseq_bgp.specs.Open.{IsOpen, IsLong, HasParameters};
 use crate::parameter::Parameters;
 use crate::whole::parse_all;
 use octseq::{AsOctets, Malformed, Parser, Turns};
-use octseq_format::{Counted, Rest, U8, U16Be, U32Be};
+use octseq_format::{Counted, Nested, U8, U16Be, U32Be};
 
 /// An OPEN.
 #[derive(Debug, Drop)]
@@ -27,10 +27,10 @@ pub struct OpenMessage<R: AsOctets> {
 }
 
 /// The format of the fields before the parameters, and of all that follows.
-type Front = (U8, U16Be, U16Be, U32Be, Rest);
+type Front = (U8, U16Be, U16Be, U32Be, Nested);
 
 /// The format of parameters in the long form: two octets, and octets with a length before them.
-type LongPart = (U8, U8, Counted<U16Be, Rest, 0>);
+type LongPart = (U8, U8, Counted<U16Be, Nested, 0>);
 
 /// Whether a nonzero length comes next, followed by the octet 255.
 pub(crate) fn is_long<R: AsOctets + Copy>(parser: &Parser<R>) -> bool
@@ -60,7 +60,7 @@ impl<R: AsOctets + Copy> OpenMessage<R> {
             let parameters = Parameters::parse_counted(inside, true, turns)?;
             Ok(parameters)
         } else {
-            let inside = parse_all::<R, Counted<U8, Rest, 0>>(parser)?;
+            let inside = parse_all::<R, Counted<U8, Nested, 0>>(parser)?;
             let parameters = Parameters::parse_counted(inside, false, turns)?;
             Ok(parameters)
         }

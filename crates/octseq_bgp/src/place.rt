@@ -14,7 +14,7 @@ use crate::open::is_long;
 use crate::session::SessionConfig;
 use crate::whole::parse_all;
 use octseq::{AsOctets, Parser};
-use octseq_format::{Be, Counted, Format, Rest, U16Be, Width};
+use octseq_format::{Be, Counted, Format, Nested, U16Be, Width};
 
 /// Reading stops at one place.
 ///
@@ -98,14 +98,14 @@ fn place_in_parameters<R: AsOctets + Copy>(parser: Parser<R>) -> usize
 fn place_in_counted<R: AsOctets + Copy, L: Width>(parser: Parser<R>, form: Form) -> usize
     ensures { CountedStop L.width form (window parser) result }
 {
-    match parse_all::<R, Counted<Be<L>, Rest, 0>>(parser) {
+    match parse_all::<R, Counted<Be<L>, Nested, 0>>(parser) {
         Ok(inside) => place_in_entries(inside, form),
         Err(_) => parser.pos(),
     }
 }
 
 /// The format of withdrawn routes and of path attributes: octets with a length before them.
-type Part = Counted<U16Be, Rest, 0>;
+type Part = Counted<U16Be, Nested, 0>;
 
 /// Returns the position where reading stops in an UPDATE, without its header.
 fn place_in_update<R: AsOctets + Copy>(parser: Parser<R>, session: &SessionConfig) -> usize

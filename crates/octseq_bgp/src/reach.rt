@@ -11,7 +11,7 @@ use crate::prefix::Prefixes;
 use crate::session::SessionConfig;
 use crate::whole::parse_all;
 use octseq::{AsOctets, Malformed, Parser, Turns};
-use octseq_format::{Counted, Rest, U8, U16Be};
+use octseq_format::{Counted, Nested, U8, U16Be};
 use std::alloc::AllocError;
 
 /// Reachable prefixes.
@@ -38,7 +38,7 @@ impl<R: AsOctets + Copy> Clone for MpReachNlri<R> {
 }
 
 /// AFI, SAFI, next hops with a length before them, a reserved octet, and what follows.
-type ReachFront = (U16Be, U8, Counted<U8, Rest, 0>, U8, Rest);
+type ReachFront = (U16Be, U8, Counted<U8, Nested, 0>, U8, Nested);
 
 impl<R: AsOctets + Copy> MpReachNlri<R> {
     ghost use Rattle.octseq_bgp.specs.ValueOf.{reach_of};
@@ -105,7 +105,7 @@ impl<R: AsOctets + Copy> MpUnreachNlri<R> {
         ensures least { IfOk result (λ it. turns.old + length (prefixes_left it.prefixes) ≤ turns.new) }
         ensures turns { turns.new ≤ turns.old + left (window parser) }
     {
-        let (afi, safi, rest) = parse_all::<R, (U16Be, U8, Rest)>(parser)?;
+        let (afi, safi, rest) = parse_all::<R, (U16Be, U8, Nested)>(parser)?;
         let Some(family) = AfiSafiType::from_numbers(afi, safi) else {
             return Err(Malformed);
         };

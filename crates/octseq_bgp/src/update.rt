@@ -12,7 +12,7 @@ use crate::prefix::Prefixes;
 use crate::session::SessionConfig;
 use crate::whole::parse_all;
 use octseq::{AsOctets, Malformed, Parser, Turns};
-use octseq_format::{Counted, Rest, U16Be};
+use octseq_format::{Counted, Nested, U16Be};
 
 /// An UPDATE.
 #[derive(Debug, Drop)]
@@ -37,7 +37,7 @@ pub struct UpdateParts<R: AsOctets> {
 }
 
 /// The format of the three parts: octets with a length before them, twice, and the rest.
-type Parts = (Counted<U16Be, Rest, 0>, Counted<U16Be, Rest, 0>, Rest);
+type Parts = (Counted<U16Be, Nested, 0>, Counted<U16Be, Nested, 0>, Nested);
 
 impl<R: AsOctets + Copy> UpdateParts<R> {
     ghost use Rattle.octseq_bgp.specs.Parsed.{parts_of};

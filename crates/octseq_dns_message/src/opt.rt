@@ -12,7 +12,7 @@ use crate::message::Record;
 use octseq::{AsOctets, Parser};
 use octseq_dns_data::Rtype;
 use octseq_dns_name::Malformed;
-use octseq_format::{Counted, Fields, Format, Of, Repeated, Rest, U16Be};
+use octseq_format::{Counted, Fields, Format, Nested, Of, Repeated, U16Be};
 use std::alloc::AllocError;
 
 mod typed;
@@ -50,7 +50,7 @@ impl<R: AsOctets + Copy> Clone for EdnsOption<R> {
 }
 
 impl<R: AsOctets + Copy> Fields<R> for EdnsOption<R> {
-    type Format = (U16Be, Counted<U16Be, Rest, 0>);
+    type Format = (U16Be, Counted<U16Be, Nested, 0>);
 
     ghost fields = { λ option. (option.code, option.octets) };
 

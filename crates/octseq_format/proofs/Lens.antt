@@ -1,8 +1,9 @@
 -- The number of octets of two values, one after the other.
-use Rattle.std.specs.Prelude.{◌≡◌, ℕ, ◌+◌, ◌<◌, ◌^◌, List, ◌++◌, length, refl, Option, Some, None, IfSome, IsSome, IsNone}
+use Rattle.std.specs.Prelude.{◌≡◌, ℕ, ◌+◌, ◌<◌, ◌^◌, List, ◌++◌, length, refl, Option, Some, None, IfSome, IsSome}
+use Rattle.std.specs.Prelude.{IsNone}
 use Rattle.std.proofs.Common.{sym, ap, ◌∙◌, subst, arith, length-append, append_assoc}
 use Rattle.octseq.specs.Limit.{IsWithin}
-use Rattle.octseq_format.specs.Laws.{HasOctets}
+use Rattle.octseq_format.specs.Laws.{AllHave, HasOctets}
 use Rattle.octseq_format.specs.Pair.{◌before◌, ◌also◌, both_octets, BothFit, AreBoth}
 
 -- A value has as many octets, or none encode it.
@@ -42,6 +43,10 @@ module _ {S T : Type 0} (first : S → List ℕ) (second : T → List ℕ) (A : 
   not_second both none has = let long = longs both in let few = has.few in
       none (record { fits = has.fits.second; few = omega (arith, long, few) })
 
+  pub second_has : (both : S × T) → HasOctets (first before second) (A also B) both → HasOctets second B both.1
+  second_has both has = let long = longs both in let few = has.few in
+      record { fits = has.fits.second; few = omega (arith, long, few) }
+
   pub both_has_len : (both : S × T) (m n len : Option ℕ) → HasLen first A both.0 m → HasLen second B both.1 n
       → AreBoth m n len → HasLen (first before second) (A also B) both len
   both_has_len both None n len one two is =
@@ -58,6 +63,18 @@ module _ {S T : Type 0} (first : S → List ℕ) (second : T → List ℕ) (A : 
         omega (arith, long, here, there, sum),
         record { first = one.1; second = two.1 },
       )
+
+  -- if each has as many octets, so have both
+  pub all_have_both : (m n len : Option ℕ) → IfSome m (AllHave first A) → IfSome n (AllHave second B) → AreBoth m n len
+      → IfSome len (AllHave (first before second) (A also B))
+  all_have_both None n len one two is = subst (λ len. IfSome len (AllHave (first before second) (A also B))) (sym is) tt
+  all_have_both (Some m) None len one two is =
+      subst (λ len. IfSome len (AllHave (first before second) (A also B))) (sym is) tt
+  all_have_both (Some m) (Some n) None one two is = tt
+  all_have_both (Some m) (Some n) (Some len) one two is = λ both fits.
+      let long = longs both in
+      let here = one both.0 fits.first in let there = two both.1 fits.second in let sum = is.1 in
+      omega (arith, long, here, there, sum)
 
 -- ---- what was appended so far
 

@@ -8,7 +8,7 @@ use Rattle.std.proofs.Math.Nat.{mul-le-mul_left}
 use Rattle.std.proofs.lemmas.List.Sums.{sum_by_push}
 use Rattle.octseq.specs.Window.{Window, left}
 use Rattle.octseq_format.specs.Laws.{Relation, NoneAt, IsOne, IsMoving}
-use Rattle.octseq_format.specs.Row.{Row, Many, Moved, Holds, HoldsTo, row_turns, one_row, one_many, held_once}
+use Rattle.octseq_format.specs.Row.{Row, RowTo, Many, Moved, Holds, HoldsTo, row_turns, one_row, one_many, held_once}
 use Rattle.octseq_format.specs.Row.{held_to_once}
 use Rattle.std.proofs.lemmas.List.{nil_from_length}
 
@@ -173,3 +173,8 @@ pub turns_more : (base rate before after turns start more : ℕ) → after < bef
 turns_more base rate before after turns start more less tick took =
     let paid : (base + 1) * (after + 1) ≤ (base + 1) * before = mul-le-mul_left (base + 1) (omega (arith, less)) in
     omega (arith, paid, tick, took)
+
+-- values that are there up to the end of a window are a row to the end
+pub not_all : {A : Type 0} (Is : Relation A) → IsMoving Is → (w v : Window) (row : List A) → Row Is w row v
+    → left v ≡ 0 → NoneAt (RowTo (Moved Is)) w → ⊥
+not_all Is moving w v row is ends none = none row v (row_moved Is moving w v row is, ends)

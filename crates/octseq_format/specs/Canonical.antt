@@ -1,5 +1,6 @@
 -- Formats with a unique encoding: what was read is written as the octets it was read from.
-use Rattle.std.specs.Prelude.{◌≡◌, Bool, true, false, ◌&&◌, IsTrue, refl, ℕ, zero, suc, ◌+◌, ◌-◌, ◌≤◌, List, [], ◌∷◌, ◌++◌, length}
+use Rattle.std.specs.Prelude.{◌≡◌, Bool, true, false, ◌&&◌, IsTrue, refl, ℕ, zero, suc, ◌+◌, ◌-◌, ◌≤◌, List, [], ◌∷◌}
+use Rattle.std.specs.Prelude.{◌++◌, length}
 use Rattle.std.proofs.Common.{take, drop, length-take, length-drop, ap, sym, subst, arith}
 use Rattle.std.proofs.Math.Bool.{true≢false}
 pub use Rattle.octseq.proofs.WrittenBack.{AreOctets}

@@ -1,14 +1,16 @@
--- Values after a length or a count of k octets, big-endian. The length includes `extra` octets more, those that a format
+-- Values after a length or a count of k octets, big-endian. The length includes `extra` octets more, those that a
 -- has before the value and counts with it.
 use Rattle.std.specs.Prelude.{ℕ, ◌<◌, ◌^◌, List}
 use Rattle.octseq.specs.Integer.{be, octets_be}
 use Rattle.octseq_format.specs.Canonical.{IsCanonical}
-use Rattle.octseq_format.specs.Family.{IsSized, SizedFit, sized_number, one_sized, onward_sized, delimited_sized, canonical_sized, one_many_by, onward_many}
+use Rattle.octseq_format.specs.Family.{IsSized, SizedFit, sized_number, one_sized, onward_sized, delimited_sized}
+use Rattle.octseq_format.specs.Family.{canonical_sized, one_many_by, onward_many}
 use Rattle.octseq_format.specs.Fixed.{IsFixed, one_fixed, onward_fixed, delimited_fixed, canonical_fixed}
 use Rattle.octseq_format.specs.Integers.{are_be}
 use Rattle.octseq_format.specs.Laws.{Relation, IsOne, IsOnward, IsReadBack, IsDelimited}
 use Rattle.octseq_format.specs.Row.{Many}
-use Rattle.octseq_format.specs.Tagged.{Tagged, tagged_octets, TaggedFits, one_tagged, onward_tagged, delimited_tagged, canonical_tagged}
+use Rattle.octseq_format.specs.Tagged.{Tagged, tagged_octets, TaggedFits, one_tagged, onward_tagged, delimited_tagged}
+use Rattle.octseq_format.specs.Tagged.{canonical_tagged}
 
 -- It takes all of the octets that its length counts.
 abbrev pub Counted : {A : Type 0} → ℕ → ℕ → Relation A → Relation A

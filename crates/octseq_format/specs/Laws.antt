@@ -63,6 +63,10 @@ back_of {octets = octets} delimited = record {
   back = λ w said fits all _. delimited.next w said [] fits (all ∙ sym (append-nil (octets said)));
 }
 
+-- Each value that fits has n octets.
+abbrev pub AllHave : {S : Type 0} → (S → List ℕ) → (S → Type 0) → ℕ → Type 0
+AllHave {S} octets Fits n = (said : S) → Fits said → length (octets said) ≡ n
+
 -- Its lengths fit their fields, and a `usize` can count its octets.
 pub record HasOctets {S : Type 0} (octets : S → List ℕ) (Fits : S → Type 0) (said : S) : Type 0 where
   pub fits : Fits said

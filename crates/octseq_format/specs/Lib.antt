@@ -7,6 +7,7 @@ pub mod CompactSize
 pub mod Conditional
 pub mod Counted
 pub mod Der
+pub mod Either
 pub mod Ended
 pub mod Exactly
 pub mod Family
@@ -23,9 +24,11 @@ pub mod Optional
 pub mod Padding
 pub mod Pair
 pub mod Part
+pub mod Place
 pub mod Quic
 pub mod Rest
 pub mod Row
+pub mod Stop
 pub mod Tagged
 pub mod Text
 pub mod Turns

@@ -1,5 +1,6 @@
 -- One value, followed by another.
-use Rattle.std.specs.Prelude.{◌≡◌, min, ◌⊎◌, Bool, ◌&&◌, IsTrue, ℕ, ◌+◌, ◌<◌, ◌^◌, List, ◌++◌, length, refl, Option, Some, None, SomeIff}
+use Rattle.std.specs.Prelude.{◌≡◌, min, ◌⊎◌, Bool, ◌&&◌, IsTrue, ℕ, ◌+◌, ◌<◌, ◌^◌, List, ◌++◌, length, refl, Option}
+use Rattle.std.specs.Prelude.{Some, None, SomeIff}
 use Rattle.std.proofs.Common.{inl, inr, sym, ap, ◌∙◌, subst, arith, length-append, append_assoc}
 use Rattle.std.specs.Coded.{Coded, coded×}
 use Rattle.octseq.specs.Window.{Window, rest, at, past}

@@ -9,7 +9,7 @@ use Rattle.octseq.specs.Window.{Window, rest, past}
 use Rattle.octseq.proofs.WindowsAfter.{front_comes_next}
 use Rattle.octseq_format.specs.Canonical.{IsCanonical, both_ways}
 use Rattle.octseq_format.specs.Family.{ByKey, IsWhen, WhenFits, one_when, onward_when, delimited_when}
-use Rattle.octseq_format.specs.Laws.{Relation, IsOne, IsOnward, IsReadBack, IsDelimited, back_of}
+use Rattle.octseq_format.specs.Laws.{Relation, NoneAt, IsOne, IsOnward, IsReadBack, IsDelimited, back_of}
 use Rattle.octseq_format.specs.Pair.{past_both}
 use Rattle.octseq_format.specs.Row.{Row, row_octets, row_next, onward_row, each_once, row_written, sound_row}
 use Rattle.octseq_format.specs.Tagged.{Tagged, tagged_octets, TaggedFits, one_tagged, onward_tagged, delimited_tagged}
@@ -46,6 +46,11 @@ module _ {A : Type 0} (n : ℕ) {Number : Relation ℕ} (Is : ByKey A) (number :
   -- a place has an item, or the tag n, but not both
   pub no_item : (w : Window) (a : A) (u v : Window) → IsItem n Number Is w a u → Number w n v → ⊥
   no_item w a u v is ends = is.3.0 (number.same w is.0 n is.1 v is.2 ends).0
+
+  -- if neither an item nor the tag n is there, nothing is past another tag
+  pub none_item : (w v : Window) (tag : ℕ) → Number w tag v → NoneAt (IsNext n Number Is) w → NoneAt (Is tag) v
+  none_item w v tag is none a u item =
+      none (Some a) u (tag, v, is, ((λ same. none None v (subst (λ k. Number w k v) same is)), item))
 
   same_until : IsOne (IsItem n Number Is) → (w : Window) (row others : List A) (u v x y : Window)
       → Row (IsItem n Number Is) w row u → Number u n v → Row (IsItem n Number Is) w others x → Number x n y

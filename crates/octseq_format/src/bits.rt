@@ -6,6 +6,7 @@ ghost use Rattle.octseq_format.specs.Bits.{has_number, one_bit, has_bit, one_bot
 ghost use Rattle.octseq_format.specs.Bits.{delimited_bits, bits_read_back, capped};
 ghost use Rattle.octseq_format.specs.Canonical.{not_one_way};
 ghost use Rattle.octseq_format.specs.Pair.{◌also◌};
+ghost use Rattle.octseq_format.specs.Stop.{stops_here};
 
 use crate::answer::Yes;
 use crate::format::Format;
@@ -360,6 +361,8 @@ impl<R: AsOctets + Copy, L: Number, B: BitFields> Format<R> for Bits<L, B> {
 
     ghost key = { λ _. 0 };
 
+    ghost stops = { stops_here };
+
     #[inline(always)]
     #[tactic(auto, using(crate::specs::Bits::other_bits))]
     fn parse_counted(parser: &mut Parser<R>, _turns: &mut Turns) -> Result<B::Value, Malformed> {
@@ -370,6 +373,10 @@ impl<R: AsOctets + Copy, L: Number, B: BitFields> Format<R> for Bits<L, B> {
         };
         *parser = ahead;
         Ok(value)
+    }
+
+    fn fault(parser: &Parser<R>) -> usize {
+        parser.pos()
     }
 
     #[inline(always)]
@@ -385,6 +392,11 @@ impl<R: AsOctets + Copy, L: Number, B: BitFields> Format<R> for Bits<L, B> {
     #[inline(always)]
     fn is_canonical() -> bool {
         false
+    }
+
+    #[inline(always)]
+    fn fixed_len() -> Option<usize> {
+        L::fixed_octets()
     }
 
     #[inline(always)]
@@ -459,9 +471,15 @@ impl<R: AsOctets + Copy, L: Number, B: BitFields, K: Reckoning> Format<R> for Ke
 
     ghost key = { λ said. K.of (capped (B.number said)) };
 
+    ghost stops = { stops_here };
+
     #[inline(always)]
     fn parse_counted(parser: &mut Parser<R>, turns: &mut Turns) -> Result<B::Value, Malformed> {
         <Bits<L, B> as Format<R>>::parse_counted(parser, turns)
+    }
+
+    fn fault(parser: &Parser<R>) -> usize {
+        parser.pos()
     }
 
     #[inline(always)]
@@ -477,6 +495,11 @@ impl<R: AsOctets + Copy, L: Number, B: BitFields, K: Reckoning> Format<R> for Ke
     #[inline(always)]
     fn is_canonical() -> bool {
         false
+    }
+
+    #[inline(always)]
+    fn fixed_len() -> Option<usize> {
+        L::fixed_octets()
     }
 
     #[inline(always)]

@@ -4,9 +4,10 @@ ghost use Rattle.octseq_format.specs.Checked.{IsChecked, checked_octets, AreSums
 ghost use Rattle.octseq_format.specs.Checked.{onward_checked, checked_read_back};
 ghost use Rattle.octseq_format.specs.Checked.{delimited_checked, canonical_checked};
 ghost use Rattle.octseq_format.specs.Pair.{some_more};
+ghost use Rattle.octseq_format.specs.Stop.{StopsThen, stops_here};
 
 use crate::answer::Yes;
-use crate::format::Format;
+use crate::format::{Format, end_or_fault};
 use crate::number::Number;
 use octseq::{AsOctets, Malformed, OctetsBuilder, Parser, Truncate, Turns};
 use std::alloc::AllocError;
@@ -75,6 +76,8 @@ impl<R: AsOctets + Copy, A: Format<R, Delimited = Yes>, S: Checksum> Format<R> f
 
     ghost key = { A.key };
 
+    ghost stops = { StopsThen A.is_at A.stops (λ _. stops_here) };
+
     ghost one_way = { A.one_way && S.Sum.one_way };
 
     #[inline(always)]
@@ -88,6 +91,10 @@ impl<R: AsOctets + Copy, A: Format<R, Delimited = Yes>, S: Checksum> Format<R> f
         }
         *parser = ahead;
         Ok(value)
+    }
+
+    fn fault(parser: &Parser<R>) -> usize {
+        end_or_fault::<R, A>(parser)
     }
 
     #[inline(always)]

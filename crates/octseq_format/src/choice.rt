@@ -5,6 +5,7 @@ ghost use Rattle.octseq_format.specs.Answer.{not_so};
 ghost use Rattle.octseq_format.specs.Canonical.{not_one_way};
 ghost use Rattle.octseq_format.specs.Family.{IsEither, either_says, either_number, either_octets, EitherFits};
 ghost use Rattle.octseq_format.specs.Family.{one_either, onward_either, either_read_back, delimited_either};
+ghost use Rattle.octseq_format.specs.Stop.{StopsBy};
 
 use crate::answer::And;
 use crate::family::{Family, TellsKey};
@@ -60,6 +61,8 @@ where
 
     ghost rate = { A.rate + B.rate };
 
+    ghost stops = { λ key. StopsBy (A.covers key) (A.stops key) (B.stops key) };
+
     ghost one_way = { false };
 
     #[inline(always)]
@@ -83,6 +86,15 @@ where
                 Ok(value) => Ok(OneOf2::Second(value)),
                 Err(e) => Err(e),
             }
+        }
+    }
+
+    #[tactic(auto, using(crate::specs::Stop::stops_yes, crate::specs::Stop::stops_no))]
+    fn fault_by(key: usize, parser: &Parser<R>) -> usize {
+        if A::has_format(key) {
+            A::fault_by(key, parser)
+        } else {
+            B::fault_by(key, parser)
         }
     }
 
@@ -194,6 +206,8 @@ where
 
     ghost rate = { A.rate + (B.rate + C.rate) };
 
+    ghost stops = { λ key. StopsBy (A.covers key) (A.stops key) (StopsBy (B.covers key) (B.stops key) (C.stops key)) };
+
     ghost one_way = { false };
 
     #[inline(always)]
@@ -213,6 +227,10 @@ where
             Ok(OneOf2::Second(OneOf2::Second(value))) => Ok(OneOf3::Third(value)),
             Err(e) => Err(e),
         }
+    }
+
+    fn fault_by(key: usize, parser: &Parser<R>) -> usize {
+        <(A, (B, C)) as Family<R>>::fault_by(key, parser)
     }
 
     #[inline(always)]
@@ -340,6 +358,9 @@ where
 
     ghost rate = { A.rate + (B.rate + (C.rate + D.rate)) };
 
+    ghost stops = { λ key. StopsBy (A.covers key) (A.stops key) (StopsBy (B.covers key) (B.stops key) (StopsBy (C.covers
+        key) (C.stops key) (D.stops key))) };
+
     ghost one_way = { false };
 
     #[inline(always)]
@@ -360,6 +381,10 @@ where
             Ok(OneOf2::Second(OneOf3::Third(value))) => Ok(OneOf4::Fourth(value)),
             Err(e) => Err(e),
         }
+    }
+
+    fn fault_by(key: usize, parser: &Parser<R>) -> usize {
+        <(A, (B, C, D)) as Family<R>>::fault_by(key, parser)
     }
 
     #[inline(always)]
@@ -520,6 +545,9 @@ where
 
     ghost rate = { A.rate + (B.rate + (C.rate + (D.rate + E.rate))) };
 
+    ghost stops = { λ key. StopsBy (A.covers key) (A.stops key) (StopsBy (B.covers key) (B.stops key) (StopsBy (C.covers
+        key) (C.stops key) (StopsBy (D.covers key) (D.stops key) (E.stops key)))) };
+
     ghost one_way = { false };
 
     #[inline(always)]
@@ -541,6 +569,10 @@ where
             Ok(OneOf2::Second(OneOf4::Fourth(value))) => Ok(OneOf5::Fifth(value)),
             Err(e) => Err(e),
         }
+    }
+
+    fn fault_by(key: usize, parser: &Parser<R>) -> usize {
+        <(A, (B, C, D, E)) as Family<R>>::fault_by(key, parser)
     }
 
     #[inline(always)]

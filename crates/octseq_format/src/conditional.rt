@@ -1,11 +1,12 @@
 //! A value that is there only if the key says so.
-ghost use Rattle.std.specs.Prelude.{Option, false};
+ghost use Rattle.std.specs.Prelude.{Option, IsTrue, false};
 ghost use Rattle.std.specs.Coded.{coded_option};
 ghost use Rattle.octseq_format.specs.Answer.{not_so};
 ghost use Rattle.octseq_format.specs.Canonical.{not_one_way};
 ghost use Rattle.octseq_format.specs.Conditional.{IsIf, IfFits, one_if, onward_if, if_read_back};
 ghost use Rattle.octseq_format.specs.Conditional.{delimited_if};
 ghost use Rattle.octseq_format.specs.Optional.{optional_says, optional_octets, optional_turns};
+ghost use Rattle.octseq_format.specs.Stop.{StopsBy, stops_here};
 
 use crate::families::Switch;
 use crate::family::Family;
@@ -55,6 +56,8 @@ impl<R: AsOctets + Copy, S: Switch, F: Format<R>> Family<R> for If<S, F> {
 
     ghost rate = { F.rate };
 
+    ghost stops = { λ key. StopsBy (IsTrue (S.on key)) F.stops stops_here };
+
     ghost one_way = { false };
 
     #[inline(always)]
@@ -74,6 +77,15 @@ impl<R: AsOctets + Copy, S: Switch, F: Format<R>> Family<R> for If<S, F> {
         match F::parse_counted(parser, turns) {
             Ok(value) => Ok(Some(value)),
             Err(e) => Err(e),
+        }
+    }
+
+    #[tactic(auto, using(crate::specs::Stop::stops_yes, crate::specs::Stop::stops_no))]
+    fn fault_by(key: usize, parser: &Parser<R>) -> usize {
+        if S::is_on(key) {
+            F::fault(parser)
+        } else {
+            parser.pos()
         }
     }
 

@@ -1,15 +1,17 @@
 //! Octets up to the first zero.
 ghost use Rattle.std.specs.Prelude.{◌≡◌, ◌≤◌, ℕ, List, length, IfSome, IsNone, false};
 ghost use Rattle.std.proofs.Common.{rules};
-ghost use Rattle.octseq.specs.Parser.{window};
-ghost use Rattle.octseq.specs.Window.{Window, rest};
+ghost use Rattle.octseq.specs.Window.{Window as Place, rest};
 ghost use Rattle.octseq_format.specs.Ended.{EndsAt, HasNoZero, IsEnded, ended_octets, one_ended, onward_ended};
 ghost use Rattle.octseq_format.specs.Ended.{delimited_ended, ended_read_back};
 ghost use Rattle.octseq_format.specs.Canonical.{not_one_way};
+ghost use Rattle.octseq_format.specs.Place.{place};
 ghost use Rattle.octseq_format.specs.Rest.{window_code};
+ghost use Rattle.octseq_format.specs.Stop.{stops_here};
 
 use crate::answer::Yes;
 use crate::format::Format;
+use crate::window::Window;
 use memchr::memchr;
 use octseq::{AsOctets, Malformed, OctetsBuilder, Parser, Truncate, Turns};
 use std::alloc::AllocError;
@@ -22,20 +24,20 @@ fn first_zero(octets: &[u8]) -> Option<usize>
     memchr(0, octets)
 }
 
-/// The octets before the first zero, as a parser of them alone. The parser goes on after the zero.
+/// The octets before the first zero, as a window of them alone. What comes next is after the zero.
 #[derive(Debug)]
 pub struct ZeroEnded;
 
 impl<R: AsOctets + Copy> Format<R> for ZeroEnded {
-    type Value = Parser<R>;
+    type Value = Window<R>;
 
     type Delimited = Yes;
 
     type Moving = Yes;
 
-    ghost Found = { Window };
+    ghost Found = { Place };
 
-    ghost found = { λ parser. window parser };
+    ghost found = { λ window. place window };
 
     ghost is_at = { IsEnded };
 
@@ -61,8 +63,10 @@ impl<R: AsOctets + Copy> Format<R> for ZeroEnded {
 
     ghost key = { λ _. 0 };
 
+    ghost stops = { stops_here };
+
     #[inline(always)]
-    fn parse_counted(parser: &mut Parser<R>, turns: &mut Turns) -> Result<Parser<R>, Malformed> {
+    fn parse_counted(parser: &mut Parser<R>, turns: &mut Turns) -> Result<Window<R>, Malformed> {
         turns.tick();
         let mut ahead = *parser;
         let Some(len) = first_zero(ahead.peek_all()) else {
@@ -71,7 +75,11 @@ impl<R: AsOctets + Copy> Format<R> for ZeroEnded {
         let before = ahead.parse_parser(len)?;
         ahead.advance(1)?;
         *parser = ahead;
-        Ok(before)
+        Ok(Window::from_parser(before))
+    }
+
+    fn fault(parser: &Parser<R>) -> usize {
+        parser.pos()
     }
 
     #[inline(always)]
@@ -90,8 +98,8 @@ impl<R: AsOctets + Copy> Format<R> for ZeroEnded {
     }
 
     #[inline(always)]
-    fn compose_len(value: &Parser<R>) -> Option<usize> {
-        let octets = value.peek_all();
+    fn compose_len(value: &Window<R>) -> Option<usize> {
+        let octets = value.as_slice();
         if first_zero(octets).is_some() {
             return None;
         }
@@ -101,11 +109,11 @@ impl<R: AsOctets + Copy> Format<R> for ZeroEnded {
     #[inline(always)]
     fn put<B: OctetsBuilder + Truncate>(
         builder: &mut B,
-        value: &Parser<R>,
+        value: &Window<R>,
     ) -> Result<(), AllocError> {
         let before = builder.len();
         builder
-            .append_slice(value.peek_all())
+            .append_slice(value.as_slice())
             .map_err(|_| AllocError)?;
         let appended = builder.append_slice(&[0]);
         if appended.is_err() {

@@ -2,6 +2,7 @@
 ghost use Rattle.std.specs.Prelude.{◌≡◌};
 ghost use Rattle.octseq_format.specs.Exactly.{IsExactly, coded_unit, one_exactly, onward_exactly};
 ghost use Rattle.octseq_format.specs.Exactly.{delimited_exactly, exactly_read_back, canonical_exactly};
+ghost use Rattle.octseq_format.specs.Stop.{stops_here};
 
 use crate::answer::Yes;
 use crate::format::Format;
@@ -51,6 +52,8 @@ impl<R: AsOctets + Copy, L: Number, const N: usize> Format<R> for Exactly<L, N> 
 
     ghost key = { λ _. 0 };
 
+    ghost stops = { stops_here };
+
     #[inline(always)]
     #[tactic(auto, using(crate::specs::Exactly::other_exactly))]
     fn parse_counted(parser: &mut Parser<R>, _turns: &mut Turns) -> Result<(), Malformed> {
@@ -60,6 +63,10 @@ impl<R: AsOctets + Copy, L: Number, const N: usize> Format<R> for Exactly<L, N> 
         }
         *parser = ahead;
         Ok(())
+    }
+
+    fn fault(parser: &Parser<R>) -> usize {
+        parser.pos()
     }
 
     #[inline(always)]
@@ -75,6 +82,11 @@ impl<R: AsOctets + Copy, L: Number, const N: usize> Format<R> for Exactly<L, N> 
     #[inline(always)]
     fn is_canonical() -> bool {
         L::is_unique()
+    }
+
+    #[inline(always)]
+    fn fixed_len() -> Option<usize> {
+        L::fixed_octets()
     }
 
     #[inline(always)]

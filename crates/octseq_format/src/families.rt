@@ -6,9 +6,11 @@ ghost use Rattle.octseq_format.specs.Canonical.{not_one_way};
 ghost use Rattle.octseq_format.specs.Family.{IsSized, sized_number, SizedFit, one_sized, onward_sized, delimited_sized};
 ghost use Rattle.octseq_format.specs.Family.{any_onward, IsWhen, WhenFits, one_when, onward_when, when_read_back};
 ghost use Rattle.octseq_format.specs.Family.{delimited_when};
+ghost use Rattle.octseq.specs.Parser.{window};
 ghost use Rattle.octseq_format.specs.Laws.{back_of};
 ghost use Rattle.octseq_format.specs.Pair.{◌then◌, ◌and◌, ◌before◌, ◌also◌, ◌code_then◌, ◌plus◌};
 ghost use Rattle.octseq_format.specs.Pair.{◌one_then◌, ◌onward_then◌, ◌back_then◌, ◌delimited_then◌};
+ghost use Rattle.octseq_format.specs.Stop.{StopsThen, StopsBy, stops_here, stops_sized};
 ghost use Rattle.octseq_format.specs.Tagged.{Tagged, tagged_octets, TaggedFits, one_tagged, onward_tagged};
 ghost use Rattle.octseq_format.specs.Tagged.{delimited_tagged, one_by_switch, onward_by_switch, delimited_by_switch};
 
@@ -61,6 +63,8 @@ impl<R: AsOctets + Copy, K: Reckoning, F: Family<R>> Family<R> for Through<K, F>
 
     ghost rate = { F.rate };
 
+    ghost stops = { λ key. F.stops (K.of key) };
+
     ghost one_way = { false };
 
     #[inline(always)]
@@ -75,6 +79,10 @@ impl<R: AsOctets + Copy, K: Reckoning, F: Family<R>> Family<R> for Through<K, F>
         turns: &mut Turns,
     ) -> Result<Self::Value, Malformed> {
         F::parse_by(K::of(key), parser, turns)
+    }
+
+    fn fault_by(key: usize, parser: &Parser<R>) -> usize {
+        F::fault_by(K::of(key), parser)
     }
 
     #[inline(always)]
@@ -110,6 +118,34 @@ impl<R: AsOctets + Copy, K: Reckoning, F: Family<R>> Family<R> for Through<K, F>
     ghost canonical = { λ yes key. not_one_way yes };
 
     ghost told = { λ yes key said fits. not_so yes };
+}
+
+/// Returns the position past a value of a family, or where reading it stops.
+#[tactic(auto, using(crate::specs::Stop::at_first, crate::specs::Stop::at_second))]
+fn end_or_fault_by<R: AsOctets + Copy, F: Family<R>>(key: usize, parser: &Parser<R>) -> usize
+    ensures { StopsThen (F.is_at key) (F.stops key) (λ _. stops_here) (window parser.now) result }
+{
+    let mut ahead = *parser;
+    match F::parse_by(key, &mut ahead, &mut Turns::new()) {
+        Err(_) => F::fault_by(key, parser),
+        Ok(_value) => ahead.pos(),
+    }
+}
+
+/// Returns the position where reading a value in the next `len` octets stops, or its end.
+#[tactic(auto, using(crate::specs::Stop::stops_yes, crate::specs::Stop::stops_no))]
+fn fault_in_sized<R: AsOctets + Copy, F: Family<R>>(
+    key: usize,
+    len: usize,
+    parser: &Parser<R>,
+) -> usize
+    ensures { stops_sized 0 (F.is_at key) (F.stops key) len (window parser.now) result }
+{
+    let mut ahead = *parser;
+    match ahead.parse_parser(len) {
+        Err(_) => parser.pos(),
+        Ok(inside) => end_or_fault_by::<R, F>(key, &inside),
+    }
 }
 
 /// A length `N`, followed by `F` for the same key, which takes all the octets that the length counts.
@@ -152,6 +188,8 @@ impl<R: AsOctets + Copy, N: Number, F: Family<R>> Family<R> for Within<N, F> {
 
     ghost rate = { F.rate };
 
+    ghost stops = { λ key. StopsThen N.is_at stops_here (stops_sized 0 (F.is_at key) (F.stops key)) };
+
     ghost one_way = { false };
 
     #[inline(always)]
@@ -174,6 +212,15 @@ impl<R: AsOctets + Copy, N: Number, F: Family<R>> Family<R> for Within<N, F> {
         }
         *parser = ahead;
         Ok(value)
+    }
+
+    #[tactic(auto, using(crate::specs::Stop::at_first))]
+    fn fault_by(key: usize, parser: &Parser<R>) -> usize {
+        let mut ahead = *parser;
+        match N::parse_number(&mut ahead) {
+            Err(_) => parser.pos(),
+            Ok(len) => fault_in_sized::<R, F>(key, len, &ahead),
+        }
     }
 
     #[inline(always)]
@@ -263,6 +310,8 @@ impl<R: AsOctets + Copy, F: Family<R, Delimited = Yes>, G: Family<R>> Family<R> 
 
     ghost rate = { F.rate + G.rate };
 
+    ghost stops = { λ key. StopsThen (F.is_at key) (F.stops key) (λ _. G.stops key) };
+
     ghost one_way = { false };
 
     #[inline(always)]
@@ -281,6 +330,15 @@ impl<R: AsOctets + Copy, F: Family<R, Delimited = Yes>, G: Family<R>> Family<R> 
         let second = G::parse_by(key, &mut ahead, turns)?;
         *parser = ahead;
         Ok((first, second))
+    }
+
+    #[tactic(auto, using(crate::specs::Stop::at_first, crate::specs::Stop::at_second))]
+    fn fault_by(key: usize, parser: &Parser<R>) -> usize {
+        let mut ahead = *parser;
+        match F::parse_by(key, &mut ahead, &mut Turns::new()) {
+            Err(_) => F::fault_by(key, parser),
+            Ok(_first) => G::fault_by(key, &ahead),
+        }
     }
 
     #[inline(always)]
@@ -368,6 +426,8 @@ impl<R: AsOctets + Copy, T: Test, F: Family<R>> Family<R> for When<T, F> {
 
     ghost rate = { F.rate };
 
+    ghost stops = { λ key. StopsBy (T.holds key) (F.stops key) stops_here };
+
     ghost one_way = { false };
 
     #[inline(always)]
@@ -387,6 +447,14 @@ impl<R: AsOctets + Copy, T: Test, F: Family<R>> Family<R> for When<T, F> {
         F::parse_by(key, parser, turns)
     }
 
+    #[tactic(auto, using(crate::specs::Stop::stops_yes, crate::specs::Stop::stops_no, crate::specs::Stop::none_when))]
+    fn fault_by(key: usize, parser: &Parser<R>) -> usize {
+        if !T::test(key) {
+            return parser.pos();
+        }
+        F::fault_by(key, parser)
+    }
+
     #[inline(always)]
     fn is_unique() -> bool {
         false
@@ -395,6 +463,15 @@ impl<R: AsOctets + Copy, T: Test, F: Family<R>> Family<R> for When<T, F> {
     #[inline(always)]
     fn tag_of(value: &Self::Value) -> Option<usize> {
         F::tag_of(value)
+    }
+
+    #[inline(always)]
+    fn told_len(value: &Self::Value) -> Option<(usize, usize)> {
+        let told = F::told_len(value)?;
+        if !T::test(told.0) {
+            return None;
+        }
+        Some(told)
     }
 
     #[inline(always)]
@@ -482,6 +559,9 @@ impl<R: AsOctets + Copy, S: Switch, N: Number, M: Number, F: Family<R>> Family<R
 
     ghost rate = { F.rate };
 
+    ghost stops = { λ key. cond (S.on key) (StopsThen N.is_at stops_here (stops_sized 0 (F.is_at key) (F.stops key)))
+        (StopsThen M.is_at stops_here (stops_sized 0 (F.is_at key) (F.stops key))) };
+
     ghost one_way = { false };
 
     #[inline(always)]
@@ -499,6 +579,14 @@ impl<R: AsOctets + Copy, S: Switch, N: Number, M: Number, F: Family<R>> Family<R
             <Within<N, F> as Family<R>>::parse_by(key, parser, turns)
         } else {
             <Within<M, F> as Family<R>>::parse_by(key, parser, turns)
+        }
+    }
+
+    fn fault_by(key: usize, parser: &Parser<R>) -> usize {
+        if S::is_on(key) {
+            <Within<N, F> as Family<R>>::fault_by(key, parser)
+        } else {
+            <Within<M, F> as Family<R>>::fault_by(key, parser)
         }
     }
 

@@ -26,7 +26,8 @@ ghost use Rattle.octseq_format.specs.Canonical.{IsCanonical, not_one_way};
 ghost use Rattle.octseq_format.specs.Family.{ByKey, IsCase, CaseFits, one_case, onward_case, case_read_back};
 ghost use Rattle.octseq_format.specs.Family.{delimited_case, IsOther, OtherFits, other_says, one_other, onward_other};
 ghost use Rattle.octseq_format.specs.Family.{other_read_back, delimited_other, any_onward};
-ghost use Rattle.octseq_format.specs.Laws.{IsOne, IsOnward, IsReadBack, IsDelimited, HasOctets};
+ghost use Rattle.octseq_format.specs.Stop.{Stop, StopsBy, stops_here};
+ghost use Rattle.octseq_format.specs.Laws.{NoneAt, IsOne, IsOnward, IsReadBack, IsDelimited, HasOctets};
 ghost use Rattle.octseq_format.specs.Turns.{TakesTurns};
 
 use crate::answer::Answer;
@@ -76,6 +77,9 @@ pub trait Family<R: AsOctets + Copy> {
 
     ghost rate: { ℕ };
 
+    // Where reading stops, after a key, if nothing of its format is there.
+    ghost stops: { ℕ → Stop };
+
     // Whether its encoding, with the number that a value tells, is known to be unique.
     ghost one_way: { Bool };
 
@@ -106,6 +110,12 @@ pub trait Family<R: AsOctets + Copy> {
         ensures took { OnOk result (turns.new + rate * left (window parser.new)
             ≤ turns.old + base + rate * left (window parser.old)) };
 
+    /// Returns the position where reading stops, if there is no value of this format after this key: that of the first
+    /// part that isn't there.
+    fn fault_by(key: usize, parser: &Parser<R>) -> usize
+        requires { NoneAt (is_at key) (window parser.now) }
+        ensures { stops key (window parser.now) result };
+
     /// Whether a value has one encoding only, so that what was read is written as the octets it was read from. Returns
     /// `false` if that isn't known.
     fn is_unique() -> bool
@@ -116,8 +126,26 @@ pub trait Family<R: AsOctets + Copy> {
     fn tag_of(value: &Self::Value) -> Option<usize>
         ensures some { IfSome result (λ number. number ≡ tag (says (found value.now))) }
         ensures none { IsNone result
-            → HasOctets (octets (tag (says (found value.now)))) (fits (tag (says (found value.now)))) (says (found value.now))
+            → HasOctets (octets (tag (says (found value.now)))) (fits (tag (says (found value.now))))
+            (says (found value.now))
             → 2 ^ 64 ≤ tag (says (found value.now)) };
+
+    /// Returns the number that a value tells, and the number of octets that encode the value after it. Returns `None`
+    /// if no octets do, or the number doesn't fit a `usize`.
+    #[inline(always)]
+    fn told_len(value: &Self::Value) -> Option<(usize, usize)>
+        ensures number { IfSome result (λ both. both.0 ≡ tag (says (found value.now))) }
+        ensures len { IfSome result (λ both.
+            both.1 ≡ length (octets (tag (says (found value.now))) (says (found value.now)))) }
+        ensures fit { IsSome result → fits (tag (says (found value.now))) (says (found value.now)) }
+        ensures none { IsNone result
+            → HasOctets (octets (tag (says (found value.now)))) (fits (tag (says (found value.now))))
+            (says (found value.now))
+            → 2 ^ 64 ≤ tag (says (found value.now)) }
+    {
+        let number = Self::tag_of(value)?;
+        Some((number, Self::len_by(number, value)?))
+    }
 
     /// Returns the number of octets that encode a value after this key, or `None` if none do.
     fn len_by(key: usize, value: &Self::Value) -> Option<usize>
@@ -203,6 +231,8 @@ impl<R: AsOctets + Copy, const N: usize, F: Format<R>> Family<R> for Case<N, F> 
 
     ghost rate = { F.rate };
 
+    ghost stops = { λ key. StopsBy (key ≡ N) F.stops stops_here };
+
     ghost one_way = { false };
 
     #[inline(always)]
@@ -220,6 +250,14 @@ impl<R: AsOctets + Copy, const N: usize, F: Format<R>> Family<R> for Case<N, F> 
             return Err(Malformed);
         }
         F::parse_counted(parser, turns)
+    }
+
+    #[tactic(auto, using(crate::specs::Stop::stops_yes, crate::specs::Stop::stops_no, crate::specs::Stop::none_case))]
+    fn fault_by(key: usize, parser: &Parser<R>) -> usize {
+        if key != N {
+            return parser.pos();
+        }
+        F::fault(parser)
     }
 
     #[inline(always)]
@@ -301,6 +339,8 @@ impl<R: AsOctets + Copy, F: Format<R>> Family<R> for Others<F> {
 
     ghost rate = { F.rate };
 
+    ghost stops = { λ _. F.stops };
+
     ghost one_way = { false };
 
     #[inline(always)]
@@ -318,6 +358,10 @@ impl<R: AsOctets + Copy, F: Format<R>> Family<R> for Others<F> {
             Ok(value) => Ok((key, value)),
             Err(e) => Err(e),
         }
+    }
+
+    fn fault_by(_key: usize, parser: &Parser<R>) -> usize {
+        F::fault(parser)
     }
 
     #[inline(always)]
@@ -397,6 +441,8 @@ impl<R: AsOctets + Copy, F: Format<R>> Family<R> for Any<F> {
 
     ghost rate = { F.rate };
 
+    ghost stops = { λ _. F.stops };
+
     ghost one_way = { false };
 
     #[inline(always)]
@@ -411,6 +457,10 @@ impl<R: AsOctets + Copy, F: Format<R>> Family<R> for Any<F> {
         turns: &mut Turns,
     ) -> Result<F::Value, Malformed> {
         F::parse_counted(parser, turns)
+    }
+
+    fn fault_by(_key: usize, parser: &Parser<R>) -> usize {
+        F::fault(parser)
     }
 
     #[inline(always)]

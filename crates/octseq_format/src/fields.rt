@@ -64,12 +64,18 @@ impl<R: AsOctets + Copy, S: Fields<R>> Format<R> for Of<S> {
 
     ghost key = { S.Format.key };
 
+    ghost stops = { S.Format.stops };
+
     #[inline(always)]
     fn parse_counted(parser: &mut Parser<R>, turns: &mut Turns) -> Result<S, Malformed> {
         match S::Format::parse_counted(parser, turns) {
             Ok(parts) => Ok(S::from_fields(parts)),
             Err(e) => Err(e),
         }
+    }
+
+    fn fault(parser: &Parser<R>) -> usize {
+        S::Format::fault(parser)
     }
 
     #[inline(always)]
@@ -85,6 +91,11 @@ impl<R: AsOctets + Copy, S: Fields<R>> Format<R> for Of<S> {
     #[inline(always)]
     fn is_canonical() -> bool {
         S::Format::is_canonical()
+    }
+
+    #[inline(always)]
+    fn fixed_len() -> Option<usize> {
+        S::Format::fixed_len()
     }
 
     #[inline(always)]

@@ -5,6 +5,7 @@ ghost use Rattle.octseq_format.specs.Where.{IsWhere, WhereFits, one_where, onwar
 ghost use Rattle.octseq_format.specs.Canonical.{not_one_way};
 ghost use Rattle.octseq_format.specs.Laws.{back_of};
 ghost use Rattle.octseq_format.specs.Where.{where_read_back, delimited_where};
+ghost use Rattle.octseq_format.specs.Stop.{stops_here};
 
 use crate::answer::Yes;
 use crate::format::Format;
@@ -65,6 +66,8 @@ impl<R: AsOctets + Copy, L: Number, T: Test> Format<R> for Where<L, T> {
 
     ghost key = { λ _. 0 };
 
+    ghost stops = { stops_here };
+
     #[inline(always)]
     #[tactic(auto, using(crate::specs::Where::other_where))]
     fn parse_counted(parser: &mut Parser<R>, _turns: &mut Turns) -> Result<usize, Malformed> {
@@ -75,6 +78,10 @@ impl<R: AsOctets + Copy, L: Number, T: Test> Format<R> for Where<L, T> {
         }
         *parser = ahead;
         Ok(number)
+    }
+
+    fn fault(parser: &Parser<R>) -> usize {
+        parser.pos()
     }
 
     #[inline(always)]
@@ -90,6 +97,11 @@ impl<R: AsOctets + Copy, L: Number, T: Test> Format<R> for Where<L, T> {
     #[inline(always)]
     fn is_canonical() -> bool {
         false
+    }
+
+    #[inline(always)]
+    fn fixed_len() -> Option<usize> {
+        L::fixed_octets()
     }
 
     #[inline(always)]

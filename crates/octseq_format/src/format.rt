@@ -4,16 +4,18 @@ ghost use Rattle.std.specs.Prelude.{IsErr, IfOk, OnOk, OnErr, IsNone, IsSome, If
 ghost use Rattle.std.specs.Coded.{Coded};
 ghost use Rattle.octseq.specs.Limit.{IsPast, IsWithin};
 ghost use Rattle.octseq.specs.Parser.{window, sequence};
-ghost use Rattle.octseq.specs.Refusal.{IsShort, IsMemory, IsTooLong, compose_error};
+ghost use Rattle.octseq.specs.Refusal.{IsShort, IsMemory, IsMalformed, write_error};
 ghost use Rattle.octseq.specs.Window.{Window, left, whole, past};
 ghost use Rattle.octseq_format.specs.Canonical.{IsCanonical};
-ghost use Rattle.octseq_format.specs.Laws.{Relation, IsOne, IsOnward, IsReadBack, IsDelimited, HasOctets};
+ghost use Rattle.octseq_format.specs.Laws.{Relation, NoneAt, AllHave, IsOne, IsOnward, IsReadBack, IsDelimited};
+ghost use Rattle.octseq_format.specs.Laws.{HasOctets};
+ghost use Rattle.octseq_format.specs.Stop.{Stop, StopsThen, stops_here, stops_whole};
 ghost use Rattle.octseq_format.specs.Turns.{TakesTurns};
 
 use crate::answer::Answer;
-use octseq::compose::ComposeError;
 use octseq::{
-    AsOctets, EmptyBuilder, Malformed, OctetsBuilder, OctetsLimit, Parser, Truncate, Turns,
+    Array, AsOctets, EmptyBuilder, Malformed, OctetsBuilder, OctetsLimit, Parser, Truncate, Turns,
+    WriteError,
 };
 use std::alloc::{AllocError, Global};
 
@@ -67,6 +69,9 @@ pub trait Format<R: AsOctets + Copy> {
     // The number that decides what follows, or 0 if none does.
     ghost key: { Said → ℕ };
 
+    // Where reading stops if nothing of the format is there.
+    ghost stops: { Stop };
+
     // Whether its encoding is known to be unique.
     ghost one_way: { Bool };
 
@@ -87,6 +92,12 @@ pub trait Format<R: AsOctets + Copy> {
         ensures took { OnOk result (turns.new + rate * left (window parser.new)
             ≤ turns.old + base + rate * left (window parser.old)) };
 
+    /// Returns the position where reading stops, if there is no value of this format: that of the first part that isn't
+    /// there.
+    fn fault(parser: &Parser<R>) -> usize
+        requires { NoneAt is_at (window parser.now) }
+        ensures { stops (window parser.now) result };
+
     /// Returns the minimum number of octets of a value.
     fn least_len() -> usize
         ensures { result ≤ least };
@@ -99,6 +110,13 @@ pub trait Format<R: AsOctets + Copy> {
     /// `false` if that isn't known.
     fn is_canonical() -> bool
         ensures { result ≡ one_way };
+
+    /// Returns the number of octets of each value, if all have as many. Returns `None` if that isn't known.
+    fn fixed_len() -> Option<usize>
+        ensures { IfSome result (λ len. AllHave octets fits len) }
+    {
+        None
+    }
 
     /// Returns the number of octets that encode a value, or `None` if none do: a length doesn't fit its field, or the
     /// number doesn't fit a `usize`.
@@ -159,34 +177,53 @@ pub trait Format<R: AsOctets + Copy> {
         Ok(value)
     }
 
+    /// Returns the position where reading all the octets stops, or `None` if they are a value: that of the first part
+    /// that isn't there, or of the octets that are left after a value.
+    final fn place_of_fault(from: R) -> Option<usize>
+        ensures some { IfSome result (λ place. stops_whole is_at stops (whole (R.content from)) place) }
+        ensures none { IsNone result → (value : Found) × is_at (whole (R.content from)) value
+            (past (length (R.content from)) (whole (R.content from))) }
+    {
+        let parser = Parser::from_ref(from);
+        let mut ahead = parser;
+        let Ok(_value) = Self::parse(&mut ahead) else {
+            return Some(Self::fault(&parser));
+        };
+        if ahead.remaining() > 0 {
+            return Some(ahead.pos());
+        }
+        None
+    }
+
     /// Appends the octets of a value. On an error it appends nothing.
     ///
     /// # Errors
     ///
-    /// `TooLong` if a length doesn't fit its field. Otherwise `Short` if the content would exceed the limit of its
-    /// type. Otherwise `Memory` if a request for memory was refused. The content is then unchanged.
+    /// `Malformed` if no octets say the value: a number doesn't fit its octets, or a field doesn't agree with what it
+    /// decides. Otherwise `Short` if the content would exceed the limit of its type. Otherwise `Memory` if a request
+    /// for memory was refused. The content is then unchanged.
     #[inline(always)]
     final fn append<B: OctetsBuilder + Truncate>(
         builder: &mut B,
         value: &Self::Value,
-    ) -> Result<(), ComposeError>
+    ) -> Result<(), WriteError>
         ensures ok { OnOk result (B.content builder.new ≡ B.content builder.old ++ octets (says (found value.now))) }
         ensures err { OnErr result (B.content builder.new ≡ B.content builder.old) }
-        ensures too_long { IsTooLong compose_error result ↔ ¬ HasOctets octets fits (says (found value.now)) }
-        ensures short { IsShort compose_error result ↔ HasOctets octets fits (says (found value.now))
+        ensures malformed { IsMalformed write_error result ↔ ¬ HasOctets octets fits (says (found value.now)) }
+        ensures short { IsShort write_error result ↔ HasOctets octets fits (says (found value.now))
             × IsPast B.limit (length (B.content builder.old) + length (octets (says (found value.now)))) }
-        ensures memory { IsMemory compose_error result → B.asks ≡ true }
+        ensures memory { IsMemory write_error result → B.asks ≡ true }
         ensures borrows { B.borrows builder.new ≡ B.borrows builder.old }
     {
         let Some(len) = Self::compose_len(value) else {
-            return Err(ComposeError::TooLong);
+            return Err(WriteError::Malformed);
         };
         if !has_room(builder.max_len(), builder.len(), len) {
-            return Err(ComposeError::Short);
+            return Err(WriteError::Short);
         }
-        match Self::put(builder, value) {
+        match put_at_once::<B, R, Self>(builder, value) {
             Ok(()) => Ok(()),
-            Err(_) => Err(ComposeError::Memory),
+            Err(_) => Err(WriteError::Memory),
         }
     }
 
@@ -194,32 +231,33 @@ pub trait Format<R: AsOctets + Copy> {
     ///
     /// # Errors
     ///
-    /// `TooLong` if a length doesn't fit its field. Otherwise `Short` if the octets exceed the limit of the builder's
-    /// type. Otherwise `Memory` if a request for memory was refused.
+    /// `Malformed` if no octets say the value: a number doesn't fit its octets, or a field doesn't agree with what it
+    /// decides. Otherwise `Short` if the octets exceed the limit of the builder's type. Otherwise `Memory` if a request
+    /// for memory was refused.
     #[inline(always)]
     final fn compose_whole<B: EmptyBuilder + Truncate>(
         alloc: Global,
         value: &Self::Value,
-    ) -> Result<B, ComposeError>
+    ) -> Result<B, WriteError>
         ensures ok { IfOk result (λ builder. B.content builder ≡ octets (says (found value.now))) }
         ensures fit { OnOk result (HasOctets octets fits (says (found value.now))) }
-        ensures too_long { IsTooLong compose_error result ↔ ¬ HasOctets octets fits (says (found value.now)) }
-        ensures short { IsShort compose_error result ↔ HasOctets octets fits (says (found value.now))
+        ensures malformed { IsMalformed write_error result ↔ ¬ HasOctets octets fits (says (found value.now)) }
+        ensures short { IsShort write_error result ↔ HasOctets octets fits (says (found value.now))
             × IsPast B.limit (length (octets (says (found value.now)))) }
-        ensures memory { IsMemory compose_error result → B.asks ≡ true }
+        ensures memory { IsMemory write_error result → B.asks ≡ true }
     {
         let Some(len) = Self::compose_len(value) else {
-            return Err(ComposeError::TooLong);
+            return Err(WriteError::Malformed);
         };
         if !has_room(B::limit(), 0, len) {
-            return Err(ComposeError::Short);
+            return Err(WriteError::Short);
         }
         let Ok(mut builder) = B::with_capacity(alloc, len) else {
-            return Err(ComposeError::Memory);
+            return Err(WriteError::Memory);
         };
-        match Self::put(&mut builder, value) {
+        match put_at_once::<B, R, Self>(&mut builder, value) {
             Ok(()) => Ok(builder),
-            Err(_) => Err(ComposeError::Memory),
+            Err(_) => Err(WriteError::Memory),
         }
     }
 
@@ -236,6 +274,55 @@ pub trait Format<R: AsOctets + Copy> {
     ghost delimited: { IsTrue Self.Delimited.yes → IsDelimited is_at says octets fits };
 
     ghost moving: { IsTrue Self.Moving.yes → 0 < least };
+}
+
+/// The greatest number of octets that are put together in an array, to be appended at once.
+const FEW: usize = 64;
+
+/// Whether all values of a format have as many octets, and not many.
+#[inline(always)]
+fn are_few<R: AsOctets + Copy, F: Format<R>>() -> bool
+    ensures { IsTrue result → (said : F.Said) → F.fits said → length (F.octets said) ≤ 64 }
+{
+    match F::fixed_len() {
+        Some(len) => len <= FEW,
+        None => false,
+    }
+}
+
+/// Appends the octets of a value as [`put`](Format::put) does: at once if it is known that they are few, and the builder
+/// has no limit.
+#[inline(always)]
+pub(crate) fn put_at_once<B: OctetsBuilder + Truncate, R: AsOctets + Copy, F: Format<R>>(
+    builder: &mut B,
+    value: &F::Value,
+) -> Result<(), AllocError>
+    requires fit { HasOctets F.octets F.fits (F.says (F.found value.now)) }
+    requires within { IsWithin B.limit (length (B.content builder.now)
+        + length (F.octets (F.says (F.found value.now)))) }
+    ensures ok { OnOk result (B.content builder.new ≡ B.content builder.old ++ F.octets (F.says (F.found value.now))) }
+    ensures err { OnErr result (B.content builder.new ≡ B.content builder.old) }
+    ensures memory { IsErr result → B.asks ≡ true }
+    ensures borrows { B.borrows builder.new ≡ B.borrows builder.old }
+{
+    if !are_few::<R, F>() || builder.max_len().is_some() {
+        return F::put(builder, value);
+    }
+    let mut few = Array::<FEW>::new();
+    F::put(&mut few, value)?;
+    builder.append_slice(few.as_slice()).map_err(|_| AllocError)
+}
+
+/// Returns the position past a value, or where reading it stops.
+#[tactic(auto, using(crate::specs::Stop::at_first, crate::specs::Stop::at_second))]
+pub(crate) fn end_or_fault<R: AsOctets + Copy, F: Format<R>>(parser: &Parser<R>) -> usize
+    ensures { StopsThen F.is_at F.stops (λ _. stops_here) (window parser.now) result }
+{
+    let mut ahead = *parser;
+    match F::parse(&mut ahead) {
+        Err(_) => F::fault(parser),
+        Ok(_value) => ahead.pos(),
+    }
 }
 
 /// Whether `before` octets and `len` more are within a limit. Always, if there is none.

@@ -5,6 +5,7 @@ ghost use Rattle.octseq.specs.Parser.{window, sequence, Takes};
 ghost use Rattle.octseq.specs.Window.{Window, next};
 ghost use Rattle.std.proofs.Common.{rules};
 ghost use Rattle.octseq_format.specs.Integers.{Kind, unsigned_kind, signed_kind, octet_kind};
+ghost use Rattle.octseq_format.specs.Stop.{stops_here};
 
 use crate::answer::Yes;
 use crate::format::Format;
@@ -532,9 +533,15 @@ impl<R: AsOctets + Copy, T: Integer> Format<R> for Be<T> {
 
     ghost key = { λ _. 0 };
 
+    ghost stops = { stops_here };
+
     #[inline(always)]
     fn parse_counted(parser: &mut Parser<R>, _turns: &mut Turns) -> Result<T::Value, Malformed> {
         Ok(T::parse_be(parser)?)
+    }
+
+    fn fault(parser: &Parser<R>) -> usize {
+        parser.pos()
     }
 
     #[inline(always)]
@@ -550,6 +557,11 @@ impl<R: AsOctets + Copy, T: Integer> Format<R> for Be<T> {
     #[inline(always)]
     fn is_canonical() -> bool {
         true
+    }
+
+    #[inline(always)]
+    fn fixed_len() -> Option<usize> {
+        Some(T::width())
     }
 
     #[inline(always)]
@@ -626,9 +638,15 @@ impl<R: AsOctets + Copy, T: Integer> Format<R> for Le<T> {
 
     ghost key = { λ _. 0 };
 
+    ghost stops = { stops_here };
+
     #[inline(always)]
     fn parse_counted(parser: &mut Parser<R>, _turns: &mut Turns) -> Result<T::Value, Malformed> {
         Ok(T::parse_le(parser)?)
+    }
+
+    fn fault(parser: &Parser<R>) -> usize {
+        parser.pos()
     }
 
     #[inline(always)]
@@ -644,6 +662,11 @@ impl<R: AsOctets + Copy, T: Integer> Format<R> for Le<T> {
     #[inline(always)]
     fn is_canonical() -> bool {
         true
+    }
+
+    #[inline(always)]
+    fn fixed_len() -> Option<usize> {
+        Some(T::width())
     }
 
     #[inline(always)]

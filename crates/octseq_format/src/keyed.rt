@@ -7,10 +7,11 @@ ghost use Rattle.octseq_format.specs.Keyed.{delimited_keyed, keyed_read_back};
 ghost use Rattle.octseq_format.specs.Laws.{back_of};
 ghost use Rattle.octseq_format.specs.Pair.{both_say};
 ghost use Rattle.std.specs.Prelude.{refl};
+ghost use Rattle.octseq_format.specs.Stop.{StopsThen, stops_here};
 
 use crate::answer::Yes;
 use crate::family::Family;
-use crate::format::Format;
+use crate::format::{Format, put_at_once};
 use crate::number::Number;
 use octseq::{AsOctets, Malformed, OctetsBuilder, Parser, Truncate, Turns};
 use std::alloc::AllocError;
@@ -58,6 +59,8 @@ impl<R: AsOctets + Copy, H: Format<R, Delimited = Yes>, F: Family<R>> Format<R> 
 
     ghost key = { λ both. H.key both.0 };
 
+    ghost stops = { StopsThen H.is_at H.stops (λ head. F.stops (H.key (H.says head))) };
+
     ghost one_way = { false };
 
     #[inline(always)]
@@ -67,6 +70,15 @@ impl<R: AsOctets + Copy, H: Format<R, Delimited = Yes>, F: Family<R>> Format<R> 
         let value = F::parse_by(H::key_of(&head), &mut ahead, turns)?;
         *parser = ahead;
         Ok((head, value))
+    }
+
+    #[tactic(auto, using(crate::specs::Stop::at_first, crate::specs::Stop::at_second))]
+    fn fault(parser: &Parser<R>) -> usize {
+        let mut ahead = *parser;
+        match H::parse(&mut ahead) {
+            Err(_) => H::fault(parser),
+            Ok(head) => F::fault_by(H::key_of(&head), &ahead),
+        }
     }
 
     #[inline(always)]
@@ -98,7 +110,7 @@ impl<R: AsOctets + Copy, H: Format<R, Delimited = Yes>, F: Family<R>> Format<R> 
         value: &Self::Value,
     ) -> Result<(), AllocError> {
         let before = builder.len();
-        H::put(builder, &value.0)?;
+        put_at_once::<B, R, H>(builder, &value.0)?;
         let appended = F::put_by(H::key_of(&value.0), builder, &value.1);
         if appended.is_err() {
             builder.truncate(before);
@@ -181,11 +193,17 @@ impl<R: AsOctets + Copy, N: Number, K: Reckoning> Format<R> for Key<N, K> {
 
     ghost key = { K.of };
 
+    ghost stops = { stops_here };
+
     ghost one_way = { N.one_way };
 
     #[inline(always)]
     fn parse_counted(parser: &mut Parser<R>, _turns: &mut Turns) -> Result<usize, Malformed> {
         N::parse_number(parser)
+    }
+
+    fn fault(parser: &Parser<R>) -> usize {
+        parser.pos()
     }
 
     #[inline(always)]
@@ -201,6 +219,11 @@ impl<R: AsOctets + Copy, N: Number, K: Reckoning> Format<R> for Key<N, K> {
     #[inline(always)]
     fn is_canonical() -> bool {
         N::is_unique()
+    }
+
+    #[inline(always)]
+    fn fixed_len() -> Option<usize> {
+        N::fixed_octets()
     }
 
     #[inline(always)]

@@ -1,11 +1,16 @@
 //! The laws of every format. Each law is the contract of a function that does nothing.
-ghost use Rattle.std.specs.Prelude.{◌≡◌, ℕ, List, ◌++◌, length};
+ghost use Rattle.std.specs.Prelude.{◌≡◌, ℕ, List, ◌++◌, length, map};
+ghost use Rattle.std.specs.List.{AllByRecursion};
 ghost use Rattle.octseq_format.specs.Canonical.{AreOctets};
 ghost use Rattle.octseq_format.specs.Laws.{HasOctets};
+ghost use Rattle.octseq_format.specs.Row.{row_octets};
+ghost use Rattle.octseq_format.specs.Walk.{items_left};
 ghost use Rattle.octseq.specs.Window.{Window, rest, past, whole};
 
 use crate::answer::Yes;
 use crate::format::Format;
+use crate::rows::Repeated;
+use crate::walk::Walk;
 use octseq::AsOctets;
 
 /// A slice holds octets.
@@ -39,6 +44,22 @@ pub fn parse_composed<R: AsOctets + Copy, F: Format<R>>(octets: R, value: &F::Va
     ensures { F.says (F.found result) ≡ F.says (F.found value.now) }
 {
     match F::parse_whole(octets) {
+        Ok(again) => again,
+        Err(_) => unreachable!(),
+    }
+}
+
+/// Reads octets that were composed of values, one after another, as [`append_all`](crate::append_all) does: a list that
+/// wasn't read. It never fails, and what it reads says the same.
+pub fn parse_all_composed<R: AsOctets + Copy, F: Format<R, Delimited = Yes, Moving = Yes>>(
+    octets: R,
+    values: &[F::Value],
+) -> Walk<R, F>
+    requires fit { AllByRecursion F.fits (map (λ v. F.says (F.found v)) values.now) }
+    requires octets { R.content octets ≡ row_octets F.octets (map (λ v. F.says (F.found v)) values.now) }
+    ensures { map F.says (items_left result) ≡ map (λ v. F.says (F.found v)) values.now }
+{
+    match Repeated::<F>::parse_whole(octets) {
         Ok(again) => again,
         Err(_) => unreachable!(),
     }

@@ -5,6 +5,7 @@ ghost use Rattle.octseq_format.specs.Exactly.{coded_unit};
 ghost use Rattle.octseq_format.specs.Nothing.{IsNothing, one_nothing, onward_nothing};
 ghost use Rattle.octseq_format.specs.Nothing.{delimited_nothing, nothing_read_back};
 ghost use Rattle.octseq_format.specs.Nothing.{canonical_nothing};
+ghost use Rattle.octseq_format.specs.Stop.{stops_here};
 
 use crate::answer::{No, Yes};
 use crate::format::Format;
@@ -50,11 +51,17 @@ impl<R: AsOctets + Copy> Format<R> for Nothing {
 
     ghost key = { λ _. 0 };
 
+    ghost stops = { stops_here };
+
     ghost one_way = { true };
 
     #[inline(always)]
     fn parse_counted(_parser: &mut Parser<R>, _turns: &mut Turns) -> Result<(), Malformed> {
         Ok(())
+    }
+
+    fn fault(parser: &Parser<R>) -> usize {
+        parser.pos()
     }
 
     #[inline(always)]
@@ -70,6 +77,11 @@ impl<R: AsOctets + Copy> Format<R> for Nothing {
     #[inline(always)]
     fn is_canonical() -> bool {
         true
+    }
+
+    #[inline(always)]
+    fn fixed_len() -> Option<usize> {
+        Some(0)
     }
 
     #[inline(always)]

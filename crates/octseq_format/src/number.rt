@@ -22,7 +22,7 @@ ghost use Rattle.octseq.specs.Limit.{IsWithin};
 ghost use Rattle.octseq.specs.Parser.{window, sequence};
 ghost use Rattle.octseq.specs.Window.{left};
 ghost use Rattle.octseq_format.specs.Canonical.{IsCanonical};
-ghost use Rattle.octseq_format.specs.Laws.{Relation, NoneAt, IsOne, IsOnward, IsDelimited};
+ghost use Rattle.octseq_format.specs.Laws.{Relation, NoneAt, AllHave, IsOne, IsOnward, IsDelimited};
 
 use octseq::{AsOctets, Malformed, OctetsBuilder, Parser};
 use std::alloc::AllocError;
@@ -66,6 +66,13 @@ pub trait Number {
     /// Whether a number has one encoding only. Returns `false` if that isn't known.
     fn is_unique() -> bool
         ensures { result ≡ one_way };
+
+    /// Returns the number of octets of each number, if all have as many. Returns `None` if that isn't known.
+    fn fixed_octets() -> Option<usize>
+        ensures { IfSome result (λ len. AllHave octets fits len) }
+    {
+        None
+    }
 
     /// Returns the number of octets that encode a number, or `None` if none do.
     fn number_len(number: usize) -> Option<usize>

@@ -53,6 +53,8 @@ impl<R: AsOctets + Copy, A: Format<R>> Format<R> for Optional<A> {
 
     ghost key = { λ _. 0 };
 
+    ghost stops = { A.stops };
+
     #[inline(always)]
     fn parse_counted(parser: &mut Parser<R>, turns: &mut Turns) -> Result<Self::Value, Malformed> {
         if parser.remaining() == 0 {
@@ -62,6 +64,10 @@ impl<R: AsOctets + Copy, A: Format<R>> Format<R> for Optional<A> {
             Ok(value) => Ok(Some(value)),
             Err(e) => Err(e),
         }
+    }
+
+    fn fault(parser: &Parser<R>) -> usize {
+        A::fault(parser)
     }
 
     #[inline(always)]

@@ -13,9 +13,10 @@ ghost use Rattle.octseq_format.specs.Padding.{zeros_read_back, canonical_zeros};
 ghost use Rattle.octseq_format.specs.Padding.{padding, IsPadded, padded_octets, one_padded};
 ghost use Rattle.octseq_format.specs.Padding.{onward_padded, delimited_padded, padded_read_back};
 ghost use Rattle.octseq_format.specs.Padding.{canonical_padded};
+ghost use Rattle.octseq_format.specs.Stop.{StopsThen, stops_here};
 
 use crate::answer::{No, Yes};
-use crate::format::Format;
+use crate::format::{Format, end_or_fault};
 use crate::number::put_octets;
 use octseq::{AsOctets, Malformed, OctetsBuilder, Parser, Truncate, Turns};
 use std::alloc::AllocError;
@@ -104,11 +105,17 @@ impl<R: AsOctets + Copy, const N: usize> Format<R> for Zeros<N> {
 
     ghost key = { λ _. 0 };
 
+    ghost stops = { stops_here };
+
     ghost one_way = { true };
 
     #[inline(always)]
     fn parse_counted(parser: &mut Parser<R>, _turns: &mut Turns) -> Result<(), Malformed> {
         parse_zeros(parser, N)
+    }
+
+    fn fault(parser: &Parser<R>) -> usize {
+        parser.pos()
     }
 
     #[inline(always)]
@@ -124,6 +131,11 @@ impl<R: AsOctets + Copy, const N: usize> Format<R> for Zeros<N> {
     #[inline(always)]
     fn is_canonical() -> bool {
         true
+    }
+
+    #[inline(always)]
+    fn fixed_len() -> Option<usize> {
+        Some(N)
     }
 
     #[inline(always)]
@@ -209,6 +221,8 @@ impl<R: AsOctets + Copy, const N: usize, A: Format<R, Delimited = Yes>> Format<R
 
     ghost key = { A.key };
 
+    ghost stops = { StopsThen A.is_at A.stops (λ _. stops_here) };
+
     ghost one_way = { A.one_way };
 
     #[inline(always)]
@@ -219,6 +233,10 @@ impl<R: AsOctets + Copy, const N: usize, A: Format<R, Delimited = Yes>> Format<R
         parse_zeros(&mut ahead, len)?;
         *parser = ahead;
         Ok(value)
+    }
+
+    fn fault(parser: &Parser<R>) -> usize {
+        end_or_fault::<R, A>(parser)
     }
 
     #[inline(always)]

@@ -7,14 +7,15 @@ ghost use Rattle.octseq.specs.Limit.{IsWithin};
 ghost use Rattle.octseq.specs.Parser.{window, sequence};
 ghost use Rattle.octseq.specs.Parts.{IsFront};
 ghost use Rattle.octseq.specs.Window.{Window, left};
-ghost use Rattle.octseq_format.specs.Laws.{HasOctets};
-ghost use Rattle.octseq_format.specs.Row.{Many, RowTo, row_octets, row_turns};
+ghost use Rattle.octseq_format.specs.Laws.{HasOctets, NoneAt};
+ghost use Rattle.octseq_format.specs.Row.{Many, Row, RowTo, row_octets, row_turns};
+ghost use Rattle.octseq_format.specs.Stop.{StopsInRow};
 ghost use Rattle.octseq_format.specs.Turns.{TakesTurns};
 ghost use Rattle.octseq_format.specs.Walk.{items_left};
 ghost use Rattle.octseq_format.specs.Answer.{not_so};
 
 use crate::answer::{No, Yes};
-use crate::format::Format;
+use crate::format::{Format, put_at_once};
 use crate::walk::Walk;
 use octseq::{AsOctets, Malformed, OctetsBuilder, Parser, Truncate, Turns};
 use std::alloc::AllocError;
@@ -30,6 +31,8 @@ fn pass_many<R: AsOctets + Copy, F: Format<R, Delimited = Yes, Moving = Yes>>(
         × (turns.old + row_turns F.turns_of row ≤ turns.new)) }
     ensures malformed { IsErr result → (row : List F.Found) (v : Window)
         → ¬ Many count F.is_at (window parser.old) row v }
+    ensures passed { IsErr result → (row : List F.Found) × Row F.is_at (window parser.old) row (window parser.new) }
+    ensures none { IsErr result → NoneAt F.is_at (window parser.new) }
     ensures same { sequence parser.new ≡ sequence parser.old }
     ensures end { (window parser.new).end ≡ (window parser.old).end }
     ensures onward { left (window parser.new) ≤ left (window parser.old) }
@@ -74,6 +77,22 @@ pub fn parse_many<R: AsOctets + Copy, F: Format<R, Delimited = Yes, Moving = Yes
     Ok(Walk::at(first, count, ahead.pos()))
 }
 
+/// Returns the position where reading as many items stops.
+#[tactic(auto, using(crate::specs::Stop::stops_in_row))]
+pub(crate) fn fault_in_many<R: AsOctets + Copy, F: Format<R, Delimited = Yes, Moving = Yes>>(
+    parser: &Parser<R>,
+    count: usize,
+) -> usize
+    requires { NoneAt (Many count F.is_at) (window parser.now) }
+    ensures { StopsInRow F.is_at F.stops (window parser.now) result }
+{
+    let mut ahead = *parser;
+    match pass_many::<R, F>(&mut ahead, count, &mut Turns::new()) {
+        Ok(()) => unreachable!(),
+        Err(_) => F::fault(&ahead),
+    }
+}
+
 /// Reads all items up to the end of the window. Returns how many there are.
 fn pass_all<R: AsOctets + Copy, F: Format<R, Delimited = Yes, Moving = Yes>>(
     parser: &mut Parser<R>,
@@ -84,6 +103,8 @@ fn pass_all<R: AsOctets + Copy, F: Format<R, Delimited = Yes, Moving = Yes>>(
         × (turns.old + row_turns F.turns_of row ≤ turns.new)) }
     ensures ends { OnOk result (left (window parser.new) ≡ 0) }
     ensures malformed { IsErr result → (row : List F.Found) (v : Window) → ¬ RowTo F.is_at (window parser.old) row v }
+    ensures passed { IsErr result → (row : List F.Found) × Row F.is_at (window parser.old) row (window parser.new) }
+    ensures none { IsErr result → NoneAt F.is_at (window parser.new) }
     ensures same { sequence parser.new ≡ sequence parser.old }
     ensures end { (window parser.new).end ≡ (window parser.old).end }
     ensures onward { left (window parser.new) ≤ left (window parser.old) }
@@ -140,7 +161,7 @@ pub(crate) fn put_items<B: OctetsBuilder + Truncate, R: AsOctets + Copy, F: Form
             .map_err(|_| AllocError);
     }
     for item in walk {
-        F::put(builder, &item)?;
+        put_at_once::<B, R, F>(builder, &item)?;
     }
     Ok(())
 }
@@ -191,6 +212,8 @@ impl<R: AsOctets + Copy, F: Format<R, Delimited = Yes, Moving = Yes>> Format<R> 
 
     ghost key = { λ _. 0 };
 
+    ghost stops = { StopsInRow F.is_at F.stops };
+
     #[inline(always)]
     fn parse_counted(parser: &mut Parser<R>, turns: &mut Turns) -> Result<Walk<R, F>, Malformed> {
         let first = *parser;
@@ -198,6 +221,15 @@ impl<R: AsOctets + Copy, F: Format<R, Delimited = Yes, Moving = Yes>> Format<R> 
         let count = pass_all::<R, F>(&mut ahead, turns)?;
         *parser = ahead;
         Ok(Walk::at(first, count, ahead.pos()))
+    }
+
+    #[tactic(auto, using(crate::specs::Stop::stops_in_row, crate::proofs::RowSteps::not_all))]
+    fn fault(parser: &Parser<R>) -> usize {
+        let mut ahead = *parser;
+        match pass_all::<R, F>(&mut ahead, &mut Turns::new()) {
+            Ok(_) => unreachable!(),
+            Err(_) => F::fault(&ahead),
+        }
     }
 
     #[inline(always)]

@@ -5,13 +5,14 @@ ghost use Rattle.octseq_format.specs.Family.{IsSized, sized_number, SizedFit, on
 ghost use Rattle.octseq_format.specs.Family.{delimited_sized, canonical_sized, ManyFit, one_many_by, onward_many};
 ghost use Rattle.octseq_format.specs.Family.{many_read_back, delimited_many, canonical_many};
 ghost use Rattle.octseq_format.specs.Row.{Many, row_octets, row_turns};
+ghost use Rattle.octseq_format.specs.Stop.{StopsInRow, stops_sized};
 ghost use Rattle.octseq_format.specs.Walk.{items_left};
 ghost use Rattle.std.specs.Prelude.{refl};
 
 use crate::answer::Yes;
 use crate::family::{Family, TellsKey};
-use crate::format::Format;
-use crate::rows::{items_len, parse_many, put_items};
+use crate::format::{Format, end_or_fault};
+use crate::rows::{fault_in_many, items_len, parse_many, put_items};
 use crate::tagged::Tagged;
 use crate::walk::Walk;
 use octseq::{AsOctets, Malformed, OctetsBuilder, Parser, Truncate, Turns};
@@ -66,6 +67,8 @@ impl<R: AsOctets + Copy, A: Format<R>, const EXTRA: usize> Family<R> for Sized<A
 
     ghost rate = { A.rate };
 
+    ghost stops = { stops_sized EXTRA A.is_at A.stops };
+
     ghost one_way = { A.one_way };
 
     #[inline(always)]
@@ -92,6 +95,17 @@ impl<R: AsOctets + Copy, A: Format<R>, const EXTRA: usize> Family<R> for Sized<A
         Ok(value)
     }
 
+    fn fault_by(key: usize, parser: &Parser<R>) -> usize {
+        if key < EXTRA {
+            return parser.pos();
+        }
+        let mut ahead = *parser;
+        match ahead.parse_parser(key - EXTRA) {
+            Err(_) => parser.pos(),
+            Ok(inside) => end_or_fault::<R, A>(&inside),
+        }
+    }
+
     #[inline(always)]
     fn is_unique() -> bool {
         A::is_canonical()
@@ -100,6 +114,12 @@ impl<R: AsOctets + Copy, A: Format<R>, const EXTRA: usize> Family<R> for Sized<A
     #[inline(always)]
     fn tag_of(value: &A::Value) -> Option<usize> {
         A::compose_len(value)?.checked_add(EXTRA)
+    }
+
+    #[inline(always)]
+    fn told_len(value: &A::Value) -> Option<(usize, usize)> {
+        let len = A::compose_len(value)?;
+        Some((len.checked_add(EXTRA)?, len))
     }
 
     #[inline(always)]
@@ -172,6 +192,8 @@ impl<R: AsOctets + Copy, A: Format<R, Delimited = Yes, Moving = Yes>> Family<R> 
 
     ghost rate = { A.base + 1 + A.rate };
 
+    ghost stops = { λ _. StopsInRow A.is_at A.stops };
+
     ghost one_way = { A.one_way };
 
     #[inline(always)]
@@ -186,6 +208,10 @@ impl<R: AsOctets + Copy, A: Format<R, Delimited = Yes, Moving = Yes>> Family<R> 
         turns: &mut Turns,
     ) -> Result<Walk<R, A>, Malformed> {
         parse_many(parser, key, turns)
+    }
+
+    fn fault_by(key: usize, parser: &Parser<R>) -> usize {
+        fault_in_many::<R, A>(parser, key)
     }
 
     #[inline(always)]

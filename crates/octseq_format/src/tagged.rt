@@ -2,6 +2,7 @@
 ghost use Rattle.std.specs.Prelude.{◌&&◌};
 ghost use Rattle.octseq_format.specs.Tagged.{Tagged, tagged_octets, TaggedFits, one_tagged, onward_tagged};
 ghost use Rattle.octseq_format.specs.Tagged.{tagged_read_back, delimited_tagged, canonical_told};
+ghost use Rattle.octseq_format.specs.Stop.{StopsThen, stops_here};
 
 use crate::answer::Yes;
 use crate::family::{Family, TellsKey};
@@ -53,6 +54,8 @@ impl<R: AsOctets + Copy, N: Number, F: Family<R> + TellsKey> Format<R> for Tagge
 
     ghost key = { λ _. 0 };
 
+    ghost stops = { StopsThen N.is_at stops_here F.stops };
+
     ghost one_way = { N.one_way && F.one_way };
 
     #[inline(always)]
@@ -62,6 +65,15 @@ impl<R: AsOctets + Copy, N: Number, F: Family<R> + TellsKey> Format<R> for Tagge
         let value = F::parse_by(number, &mut ahead, turns)?;
         *parser = ahead;
         Ok(value)
+    }
+
+    #[tactic(auto, using(crate::specs::Stop::at_first, crate::specs::Stop::at_second))]
+    fn fault(parser: &Parser<R>) -> usize {
+        let mut ahead = *parser;
+        match N::parse_number(&mut ahead) {
+            Err(_) => parser.pos(),
+            Ok(number) => F::fault_by(number, &ahead),
+        }
     }
 
     #[inline(always)]
@@ -82,8 +94,8 @@ impl<R: AsOctets + Copy, N: Number, F: Family<R> + TellsKey> Format<R> for Tagge
     #[inline(always)]
     #[tactic(auto, using(crate::specs::Tagged::tagged_long))]
     fn compose_len(value: &F::Value) -> Option<usize> {
-        let number = F::tag_of(value)?;
-        N::number_len(number)?.checked_add(F::len_by(number, value)?)
+        let (number, len) = F::told_len(value)?;
+        N::number_len(number)?.checked_add(len)
     }
 
     #[inline(always)]

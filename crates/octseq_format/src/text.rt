@@ -1,33 +1,35 @@
 //! Octets that are UTF-8.
 ghost use Rattle.std.specs.Prelude.{ℕ, List, false};
-ghost use Rattle.octseq.specs.Parser.{window};
-ghost use Rattle.octseq.specs.Window.{Window, rest};
+ghost use Rattle.octseq.specs.Window.{Window as Place, rest};
+ghost use Rattle.octseq_format.specs.Place.{place};
 ghost use Rattle.octseq_format.specs.Rest.{window_code};
 ghost use Rattle.octseq_format.specs.Canonical.{not_one_way};
 ghost use Rattle.octseq_format.specs.Text.{IsText, TextFits, one_text, onward_text, text_read_back};
 ghost use Rattle.octseq_format.specs.Answer.{not_so};
+ghost use Rattle.octseq_format.specs.Stop.{stops_here};
 
 use crate::answer::No;
 use crate::format::Format;
+use crate::window::Window;
 use octseq::utf8::{Turns, find_fault};
 use octseq::{AsOctets, Malformed, OctetsBuilder, Parser, Truncate};
 use std::alloc::AllocError;
 
-/// All octets up to the end of the window, if they are well-formed UTF-8, as a parser of them alone. They are known to
+/// All octets up to the end of the window, if they are well-formed UTF-8, as a window of them alone. They are known to
 /// be UTF-8, so `Str::from_utf8_unchecked` makes a text of them without a second check.
 #[derive(Debug)]
 pub struct Text;
 
 impl<R: AsOctets + Copy> Format<R> for Text {
-    type Value = Parser<R>;
+    type Value = Window<R>;
 
     type Delimited = No;
 
     type Moving = No;
 
-    ghost Found = { Window };
+    ghost Found = { Place };
 
-    ghost found = { λ parser. window parser };
+    ghost found = { λ window. place window };
 
     ghost is_at = { IsText };
 
@@ -53,14 +55,20 @@ impl<R: AsOctets + Copy> Format<R> for Text {
 
     ghost key = { λ _. 0 };
 
+    ghost stops = { stops_here };
+
     #[inline(always)]
-    fn parse_counted(parser: &mut Parser<R>, turns: &mut Turns) -> Result<Parser<R>, Malformed> {
+    fn parse_counted(parser: &mut Parser<R>, turns: &mut Turns) -> Result<Window<R>, Malformed> {
         turns.tick();
         if find_fault(parser.peek_all()).is_some() {
             return Err(Malformed);
         }
         let len = parser.remaining();
-        Ok(parser.parse_parser(len)?)
+        Ok(Window::from_parser(parser.parse_parser(len)?))
+    }
+
+    fn fault(parser: &Parser<R>) -> usize {
+        parser.pos()
     }
 
     #[inline(always)]
@@ -79,20 +87,20 @@ impl<R: AsOctets + Copy> Format<R> for Text {
     }
 
     #[inline(always)]
-    fn compose_len(value: &Parser<R>) -> Option<usize> {
-        if find_fault(value.peek_all()).is_some() {
+    fn compose_len(value: &Window<R>) -> Option<usize> {
+        if find_fault(value.as_slice()).is_some() {
             return None;
         }
-        Some(value.remaining())
+        Some(value.len())
     }
 
     #[inline(always)]
     fn put<B: OctetsBuilder + Truncate>(
         builder: &mut B,
-        value: &Parser<R>,
+        value: &Window<R>,
     ) -> Result<(), AllocError> {
         builder
-            .append_slice(value.peek_all())
+            .append_slice(value.as_slice())
             .map_err(|_| AllocError)
     }
 

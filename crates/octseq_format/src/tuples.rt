@@ -5,14 +5,15 @@ ghost use Rattle.octseq_format.specs.Laws.{HasOctets};
 ghost use Rattle.octseq_format.specs.Pair.{◌then◌, ◌and◌, ◌before◌, ◌also◌, ◌code_then◌, ◌plus◌, ◌key_and◌};
 ghost use Rattle.octseq_format.specs.Pair.{◌one_then◌, ◌onward_then◌, ◌back_then◌, ◌delimited_then◌, ◌canonical_then◌};
 ghost use Rattle.octseq_format.specs.Pair.{AreBoth, some_either};
+ghost use Rattle.octseq_format.specs.Stop.{StopsThen};
 
 use crate::answer::{Or, Yes};
 use crate::format::Format;
 use octseq::{AsOctets, Malformed, OctetsBuilder, Parser, Truncate, Turns};
 use std::alloc::AllocError;
 
-/// Returns the number of octets of two values, by those of each. Returns `None` if one has none, or a `usize` can't hold
-/// the sum.
+/// Returns the number of octets of two values, by those of each. Returns `None` if one has none, or a `usize` can't
+/// hold the sum.
 #[inline(always)]
 pub(crate) fn both_len(first: Option<usize>, second: Option<usize>) -> Option<usize>
     ensures { AreBoth first second result }
@@ -31,7 +32,8 @@ pub(crate) fn put_or_cut<B: OctetsBuilder + Truncate, R: AsOctets + Copy, F: For
     start: usize,
 ) -> Result<(), AllocError>
     requires fit { HasOctets F.octets F.fits (F.says (F.found value.now)) }
-    requires within { IsWithin B.limit (length (B.content builder.now) + length (F.octets (F.says (F.found value.now)))) }
+    requires within { IsWithin B.limit (length (B.content builder.now)
+        + length (F.octets (F.says (F.found value.now)))) }
     requires start { start ≤ length (B.content builder.now) }
     ensures ok { OnOk result (B.content builder.new ≡ B.content builder.old ++ F.octets (F.says (F.found value.now))) }
     ensures err { OnErr result (B.content builder.new ≡ take start (B.content builder.old)) }
@@ -83,6 +85,8 @@ where
 
     ghost key = { A.key key_and B.key };
 
+    ghost stops = { StopsThen A.is_at A.stops (λ _. B.stops) };
+
     #[inline(always)]
     fn parse_counted(parser: &mut Parser<R>, turns: &mut Turns) -> Result<Self::Value, Malformed> {
         if parser.remaining() < Self::least_len() {
@@ -93,6 +97,15 @@ where
         let second = B::parse_counted(&mut ahead, turns)?;
         *parser = ahead;
         Ok((first, second))
+    }
+
+    #[tactic(auto, using(crate::specs::Stop::at_first, crate::specs::Stop::at_second))]
+    fn fault(parser: &Parser<R>) -> usize {
+        let mut ahead = *parser;
+        match A::parse(&mut ahead) {
+            Err(_) => A::fault(parser),
+            Ok(_first) => B::fault(&ahead),
+        }
     }
 
     #[inline(always)]
@@ -109,6 +122,11 @@ where
     #[inline(always)]
     fn is_canonical() -> bool {
         A::is_canonical() && B::is_canonical()
+    }
+
+    #[inline(always)]
+    fn fixed_len() -> Option<usize> {
+        both_len(A::fixed_len(), B::fixed_len())
     }
 
     #[inline(always)]
@@ -189,12 +207,18 @@ where
 
     ghost key = { A.key key_and B.key key_and C.key };
 
+    ghost stops = { StopsThen A.is_at A.stops (λ _. StopsThen B.is_at B.stops (λ _. C.stops)) };
+
     #[inline(always)]
     fn parse_counted(parser: &mut Parser<R>, turns: &mut Turns) -> Result<Self::Value, Malformed> {
         match <(A, (B, C)) as Format<R>>::parse_counted(parser, turns) {
             Ok((a, (b, c))) => Ok((a, b, c)),
             Err(e) => Err(e),
         }
+    }
+
+    fn fault(parser: &Parser<R>) -> usize {
+        <(A, (B, C)) as Format<R>>::fault(parser)
     }
 
     #[inline(always)]
@@ -211,6 +235,11 @@ where
     #[inline(always)]
     fn is_canonical() -> bool {
         <(A, (B, C)) as Format<R>>::is_canonical()
+    }
+
+    #[inline(always)]
+    fn fixed_len() -> Option<usize> {
+        <(A, (B, C)) as Format<R>>::fixed_len()
     }
 
     #[inline(always)]
@@ -294,12 +323,19 @@ where
 
     ghost key = { A.key key_and B.key key_and C.key key_and D.key };
 
+    ghost stops = { StopsThen A.is_at A.stops (λ _. StopsThen B.is_at B.stops (λ _. StopsThen C.is_at C.stops (λ _.
+        D.stops))) };
+
     #[inline(always)]
     fn parse_counted(parser: &mut Parser<R>, turns: &mut Turns) -> Result<Self::Value, Malformed> {
         match <(A, (B, C, D)) as Format<R>>::parse_counted(parser, turns) {
             Ok((a, (b, c, d))) => Ok((a, b, c, d)),
             Err(e) => Err(e),
         }
+    }
+
+    fn fault(parser: &Parser<R>) -> usize {
+        <(A, (B, C, D)) as Format<R>>::fault(parser)
     }
 
     #[inline(always)]
@@ -318,6 +354,11 @@ where
     #[inline(always)]
     fn is_canonical() -> bool {
         <(A, (B, C, D)) as Format<R>>::is_canonical()
+    }
+
+    #[inline(always)]
+    fn fixed_len() -> Option<usize> {
+        <(A, (B, C, D)) as Format<R>>::fixed_len()
     }
 
     #[inline(always)]
@@ -409,12 +450,19 @@ where
 
     ghost key = { A.key key_and B.key key_and C.key key_and D.key key_and E.key };
 
+    ghost stops = { StopsThen A.is_at A.stops (λ _. StopsThen B.is_at B.stops (λ _. StopsThen C.is_at C.stops (λ _.
+        StopsThen D.is_at D.stops (λ _. E.stops)))) };
+
     #[inline(always)]
     fn parse_counted(parser: &mut Parser<R>, turns: &mut Turns) -> Result<Self::Value, Malformed> {
         match <(A, (B, C, D, E)) as Format<R>>::parse_counted(parser, turns) {
             Ok((a, (b, c, d, e))) => Ok((a, b, c, d, e)),
             Err(e) => Err(e),
         }
+    }
+
+    fn fault(parser: &Parser<R>) -> usize {
+        <(A, (B, C, D, E)) as Format<R>>::fault(parser)
     }
 
     #[inline(always)]
@@ -433,6 +481,11 @@ where
     #[inline(always)]
     fn is_canonical() -> bool {
         <(A, (B, C, D, E)) as Format<R>>::is_canonical()
+    }
+
+    #[inline(always)]
+    fn fixed_len() -> Option<usize> {
+        <(A, (B, C, D, E)) as Format<R>>::fixed_len()
     }
 
     #[inline(always)]
@@ -553,12 +606,19 @@ where
 
     ghost key = { A.key key_and B.key key_and C.key key_and D.key key_and E.key key_and F.key };
 
+    ghost stops = { StopsThen A.is_at A.stops (λ _. StopsThen B.is_at B.stops (λ _. StopsThen C.is_at C.stops (λ _.
+        StopsThen D.is_at D.stops (λ _. StopsThen E.is_at E.stops (λ _. F.stops))))) };
+
     #[inline(always)]
     fn parse_counted(parser: &mut Parser<R>, turns: &mut Turns) -> Result<Self::Value, Malformed> {
         match <(A, (B, C, D, E, F)) as Format<R>>::parse_counted(parser, turns) {
             Ok((a, (b, c, d, e, f))) => Ok((a, b, c, d, e, f)),
             Err(e) => Err(e),
         }
+    }
+
+    fn fault(parser: &Parser<R>) -> usize {
+        <(A, (B, C, D, E, F)) as Format<R>>::fault(parser)
     }
 
     #[inline(always)]
@@ -579,6 +639,11 @@ where
     #[inline(always)]
     fn is_canonical() -> bool {
         <(A, (B, C, D, E, F)) as Format<R>>::is_canonical()
+    }
+
+    #[inline(always)]
+    fn fixed_len() -> Option<usize> {
+        <(A, (B, C, D, E, F)) as Format<R>>::fixed_len()
     }
 
     #[inline(always)]

@@ -1,6 +1,6 @@
 //! Items up to a tag that ends them.
 ghost use Rattle.std.specs.Prelude.{◌≡◌, ◌≤◌, ◌+◌, ◌*◌, List, map, refl, ◌&&◌};
-ghost use Rattle.std.specs.Prelude.{IsErr, IfOk, OnOk};
+ghost use Rattle.std.specs.Prelude.{IsErr, IfOk, OnOk, OnErr};
 ghost use Rattle.std.specs.Coded.{coded_list};
 ghost use Rattle.octseq.specs.Parser.{window, sequence};
 ghost use Rattle.octseq.specs.Window.{Window, left};
@@ -8,7 +8,8 @@ ghost use Rattle.octseq_format.specs.Family.{IsWhen, WhenFits, one_when, onward_
 ghost use Rattle.octseq_format.specs.Family.{when_read_back, delimited_when};
 ghost use Rattle.octseq_format.specs.Laws.{NoneAt};
 ghost use Rattle.octseq_format.specs.Optional.{optional_says, optional_turns};
-ghost use Rattle.octseq_format.specs.Row.{Many, row_turns};
+ghost use Rattle.octseq_format.specs.Row.{Many, Row, row_turns};
+ghost use Rattle.octseq_format.specs.Stop.{StopsThen, StopsBy, StopsInRow, stops_here};
 ghost use Rattle.octseq_format.specs.Turns.{TakesTurns};
 ghost use Rattle.octseq_format.specs.Until.{IsNot, IsItem, IsNext, IsUntil, until_octets};
 ghost use Rattle.octseq_format.specs.Until.{UntilFits, one_until, onward_until};
@@ -68,6 +69,8 @@ impl<R: AsOctets + Copy, const N: usize, F: Family<R>> Family<R> for Unless<N, F
 
     ghost rate = { F.rate };
 
+    ghost stops = { λ key. StopsBy (IsNot N key) (F.stops key) stops_here };
+
     ghost one_way = { F.one_way };
 
     #[inline(always)]
@@ -85,6 +88,14 @@ impl<R: AsOctets + Copy, const N: usize, F: Family<R>> Family<R> for Unless<N, F
             return Err(Malformed);
         }
         F::parse_by(key, parser, turns)
+    }
+
+    #[tactic(auto, using(crate::specs::Stop::stops_yes, crate::specs::Stop::stops_no, crate::specs::Stop::none_when))]
+    fn fault_by(key: usize, parser: &Parser<R>) -> usize {
+        if key == N {
+            return parser.pos();
+        }
+        F::fault_by(key, parser)
     }
 
     #[inline(always)]
@@ -136,6 +147,7 @@ fn next_item<
     ensures value { IfOk result (λ next. IsNext END N.is_at F.is_at (window parser.old)
         (optional_says F.found next) (window parser.new)) }
     ensures malformed { IsErr result → NoneAt (IsNext END N.is_at F.is_at) (window parser.old) }
+    ensures kept { OnErr result (window parser.new ≡ window parser.old) }
     ensures same { sequence parser.new ≡ sequence parser.old }
     ensures end { (window parser.new).end ≡ (window parser.old).end }
     ensures onward { left (window parser.new) ≤ left (window parser.old) }
@@ -145,12 +157,34 @@ fn next_item<
     ensures took { OnOk result (turns.new + F.rate * left (window parser.new)
         ≤ turns.old + F.base + F.rate * left (window parser.old)) }
 {
-    let tag = N::parse_number(parser)?;
+    let mut ahead = *parser;
+    let tag = N::parse_number(&mut ahead)?;
     if tag == END {
+        *parser = ahead;
         return Ok(None);
     }
-    let item = F::parse_by(tag, parser, turns)?;
+    let item = F::parse_by(tag, &mut ahead, turns)?;
+    *parser = ahead;
     Ok(Some(item))
+}
+
+/// Returns the position where reading an item stops.
+#[inline(always)]
+#[tactic(auto, using(crate::specs::Stop::at_first, crate::specs::Stop::at_second))]
+fn fault_of_item<
+    R: AsOctets + Copy,
+    N: Number,
+    const END: usize,
+    F: Family<R, Delimited = Yes> + TellsKey,
+>(parser: &Parser<R>) -> usize
+    requires { NoneAt (IsNext END N.is_at F.is_at) (window parser.now) }
+    ensures { StopsThen N.is_at stops_here F.stops (window parser.now) result }
+{
+    let mut ahead = *parser;
+    match N::parse_number(&mut ahead) {
+        Err(_) => parser.pos(),
+        Ok(number) => F::fault_by(number, &ahead),
+    }
 }
 
 /// Reads all items and the tag that ends them. Returns how many items there are, and the position
@@ -166,6 +200,9 @@ fn pass_until<
         × (u.position ≡ passed.1) × N.is_at u END (window parser.new)
         × (turns.old + row_turns F.turns_of row ≤ turns.new)) }
     ensures malformed { IsErr result → NoneAt (IsUntil END N.is_at F.is_at) (window parser.old) }
+    ensures passed { IsErr result → (row : List F.Found)
+        × Row (IsItem END N.is_at F.is_at) (window parser.old) row (window parser.new) }
+    ensures none { IsErr result → NoneAt (IsNext END N.is_at F.is_at) (window parser.new) }
     ensures same { sequence parser.new ≡ sequence parser.old }
     ensures end { (window parser.new).end ≡ (window parser.old).end }
     ensures onward { left (window parser.new) ≤ left (window parser.old) }
@@ -234,6 +271,8 @@ impl<
 
     ghost key = { λ _. 0 };
 
+    ghost stops = { StopsInRow (IsItem END N.is_at F.is_at) (StopsThen N.is_at stops_here F.stops) };
+
     ghost one_way = { N.one_way && F.one_way };
 
     #[inline(always)]
@@ -243,6 +282,15 @@ impl<
         let passed = pass_until::<R, N, END, F>(&mut ahead, turns)?;
         *parser = ahead;
         Ok(Walk::at(first, passed.0, passed.1))
+    }
+
+    #[tactic(auto, using(crate::specs::Stop::stops_in_row))]
+    fn fault(parser: &Parser<R>) -> usize {
+        let mut ahead = *parser;
+        match pass_until::<R, N, END, F>(&mut ahead, &mut Turns::new()) {
+            Ok(_) => unreachable!(),
+            Err(_) => fault_of_item::<R, N, END, F>(&ahead),
+        }
     }
 
     #[inline(always)]

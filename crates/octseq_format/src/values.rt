@@ -3,13 +3,12 @@ ghost use Rattle.std.specs.Prelude.{◌≡◌, ◌↔◌, ◌+◌, ◌++◌, len
 ghost use Rattle.std.specs.List.{AllByRecursion};
 ghost use Rattle.octseq.specs.Limit.{IsPast, IsWithin};
 ghost use Rattle.octseq.specs.Parts.{IsFront};
-ghost use Rattle.octseq.specs.Refusal.{IsShort, IsMemory, IsTooLong, compose_error};
+ghost use Rattle.octseq.specs.Refusal.{IsShort, IsMemory, IsMalformed, write_error};
 ghost use Rattle.octseq_format.specs.Laws.{HasOctets};
 ghost use Rattle.octseq_format.specs.Row.{row_octets};
 
-use crate::format::{Format, has_room};
-use octseq::compose::ComposeError;
-use octseq::{AsOctets, OctetsBuilder, Truncate};
+use crate::format::{Format, has_room, put_at_once};
+use octseq::{AsOctets, OctetsBuilder, Truncate, WriteError};
 use std::alloc::AllocError;
 
 /// Returns the number of octets of all the items.
@@ -45,7 +44,7 @@ fn put_values<B: OctetsBuilder + Truncate, R: AsOctets + Copy, F: Format<R>>(
 {
     let mut left = values;
     'values: while let Some((value, others)) = left.split_first() {
-        F::put(builder, value)?;
+        put_at_once::<B, R, F>(builder, value)?;
         left = others;
     }
     Ok(())
@@ -55,34 +54,34 @@ fn put_values<B: OctetsBuilder + Truncate, R: AsOctets + Copy, F: Format<R>>(
 ///
 /// # Errors
 ///
-/// `TooLong` if a length doesn't fit its field. Otherwise `Short` if the content would exceed the limit of its type.
+/// `Malformed` if no octets say one of the values. Otherwise `Short` if the content would exceed the limit of its type.
 /// Otherwise `Memory` if a request for memory was refused. The content is then unchanged.
 pub fn append_all<R: AsOctets + Copy, F: Format<R>, B: OctetsBuilder + Truncate>(
     builder: &mut B,
     values: &[F::Value],
-) -> Result<(), ComposeError>
+) -> Result<(), WriteError>
     ensures ok { OnOk result (B.content builder.new
         ≡ B.content builder.old ++ row_octets F.octets (map (λ v. F.says (F.found v)) values.now)) }
     ensures err { OnErr result (B.content builder.new ≡ B.content builder.old) }
-    ensures too_long { IsTooLong compose_error result ↔ ¬ HasOctets (row_octets F.octets) (AllByRecursion F.fits)
+    ensures malformed { IsMalformed write_error result ↔ ¬ HasOctets (row_octets F.octets) (AllByRecursion F.fits)
         (map (λ v. F.says (F.found v)) values.now) }
-    ensures short { IsShort compose_error result ↔ HasOctets (row_octets F.octets) (AllByRecursion F.fits)
+    ensures short { IsShort write_error result ↔ HasOctets (row_octets F.octets) (AllByRecursion F.fits)
         (map (λ v. F.says (F.found v)) values.now)
         × IsPast B.limit (length (B.content builder.old)
         + length (row_octets F.octets (map (λ v. F.says (F.found v)) values.now))) }
-    ensures memory { IsMemory compose_error result → B.asks ≡ true }
+    ensures memory { IsMemory write_error result → B.asks ≡ true }
     ensures borrows { B.borrows builder.new ≡ B.borrows builder.old }
 {
     let Some(len) = values_len::<R, F>(values) else {
-        return Err(ComposeError::TooLong);
+        return Err(WriteError::Malformed);
     };
     let before = builder.len();
     if !has_room(builder.max_len(), before, len) {
-        return Err(ComposeError::Short);
+        return Err(WriteError::Short);
     }
     if put_values::<B, R, F>(builder, values).is_err() {
         builder.truncate(before);
-        return Err(ComposeError::Memory);
+        return Err(WriteError::Memory);
     }
     Ok(())
 }

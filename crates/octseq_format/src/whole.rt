@@ -1,8 +1,9 @@
 //! Values that say how many octets they take.
 ghost use Rattle.octseq_format.specs.Whole.{IsWhole, WholeFits, one_whole, onward_whole};
 ghost use Rattle.octseq_format.specs.Whole.{whole_read_back, delimited_whole, canonical_whole};
+ghost use Rattle.octseq_format.specs.Stop.{StopsThen, stops_here};
 
-use crate::format::Format;
+use crate::format::{Format, end_or_fault};
 use octseq::{AsOctets, Malformed, OctetsBuilder, Parser, Truncate, Turns};
 use std::alloc::AllocError;
 use std::marker::PhantomData;
@@ -49,6 +50,8 @@ impl<R: AsOctets + Copy, A: Format<R>> Format<R> for Whole<A> {
 
     ghost key = { λ _. 0 };
 
+    ghost stops = { StopsThen A.is_at A.stops (λ _. stops_here) };
+
     ghost one_way = { A.one_way };
 
     #[inline(always)]
@@ -61,6 +64,10 @@ impl<R: AsOctets + Copy, A: Format<R>> Format<R> for Whole<A> {
         }
         *parser = ahead;
         Ok(value)
+    }
+
+    fn fault(parser: &Parser<R>) -> usize {
+        end_or_fault::<R, A>(parser)
     }
 
     #[inline(always)]

@@ -3,6 +3,7 @@ ghost use Rattle.std.specs.Prelude.{◌+◌, ◌&&◌, refl};
 ghost use Rattle.octseq_format.specs.Pair.{◌then◌, ◌and◌, ◌before◌, ◌also◌, ◌code_then◌, ◌plus◌, ◌key_and◌};
 ghost use Rattle.octseq_format.specs.Pair.{◌one_then◌, ◌onward_then◌, ◌back_then◌, ◌delimited_then◌, ◌canonical_then◌};
 ghost use Rattle.octseq_format.specs.Pair.{some_either};
+ghost use Rattle.octseq_format.specs.Stop.{StopsThen};
 
 use crate::answer::{Or, Yes};
 use crate::format::Format;
@@ -112,12 +113,19 @@ where
 
     ghost key = { A.key key_and B.key key_and C.key key_and D.key key_and E.key key_and F.key key_and G.key };
 
+    ghost stops = { StopsThen A.is_at A.stops (λ _. StopsThen B.is_at B.stops (λ _. StopsThen C.is_at C.stops (λ _.
+        StopsThen D.is_at D.stops (λ _. StopsThen E.is_at E.stops (λ _. StopsThen F.is_at F.stops (λ _. G.stops)))))) };
+
     #[inline(always)]
     fn parse_counted(parser: &mut Parser<R>, turns: &mut Turns) -> Result<Self::Value, Malformed> {
         match <(A, (B, C, D, E, F, G)) as Format<R>>::parse_counted(parser, turns) {
             Ok((a, (b, c, d, e, f, g))) => Ok((a, b, c, d, e, f, g)),
             Err(e) => Err(e),
         }
+    }
+
+    fn fault(parser: &Parser<R>) -> usize {
+        <(A, (B, C, D, E, F, G)) as Format<R>>::fault(parser)
     }
 
     #[inline(always)]
@@ -138,6 +146,11 @@ where
     #[inline(always)]
     fn is_canonical() -> bool {
         <(A, (B, C, D, E, F, G)) as Format<R>>::is_canonical()
+    }
+
+    #[inline(always)]
+    fn fixed_len() -> Option<usize> {
+        <(A, (B, C, D, E, F, G)) as Format<R>>::fixed_len()
     }
 
     #[inline(always)]
@@ -309,12 +322,20 @@ where
     ghost key = { A.key key_and B.key key_and C.key key_and D.key key_and E.key key_and F.key key_and G.key key_and
         H.key };
 
+    ghost stops = { StopsThen A.is_at A.stops (λ _. StopsThen B.is_at B.stops (λ _. StopsThen C.is_at C.stops (λ _.
+        StopsThen D.is_at D.stops (λ _. StopsThen E.is_at E.stops (λ _. StopsThen F.is_at F.stops (λ _. StopsThen
+        G.is_at G.stops (λ _. H.stops))))))) };
+
     #[inline(always)]
     fn parse_counted(parser: &mut Parser<R>, turns: &mut Turns) -> Result<Self::Value, Malformed> {
         match <(A, (B, C, D, E, F, G, H)) as Format<R>>::parse_counted(parser, turns) {
             Ok((a, (b, c, d, e, f, g, h))) => Ok((a, b, c, d, e, f, g, h)),
             Err(e) => Err(e),
         }
+    }
+
+    fn fault(parser: &Parser<R>) -> usize {
+        <(A, (B, C, D, E, F, G, H)) as Format<R>>::fault(parser)
     }
 
     #[inline(always)]
@@ -337,6 +358,11 @@ where
     #[inline(always)]
     fn is_canonical() -> bool {
         <(A, (B, C, D, E, F, G, H)) as Format<R>>::is_canonical()
+    }
+
+    #[inline(always)]
+    fn fixed_len() -> Option<usize> {
+        <(A, (B, C, D, E, F, G, H)) as Format<R>>::fixed_len()
     }
 
     #[inline(always)]

@@ -172,6 +172,11 @@ impl<T: Width> Number for Be<T> {
     }
 
     #[inline(always)]
+    fn fixed_octets() -> Option<usize> {
+        Some(T::octets())
+    }
+
+    #[inline(always)]
     #[tactic(auto, using(octseq::proofs::Written::length_be))]
     fn number_len(number: usize) -> Option<usize> {
         fitting::<T>(number)
@@ -225,6 +230,11 @@ impl<T: Width> Number for Le<T> {
     #[inline(always)]
     fn is_unique() -> bool {
         true
+    }
+
+    #[inline(always)]
+    fn fixed_octets() -> Option<usize> {
+        Some(T::octets())
     }
 
     #[inline(always)]

@@ -1,12 +1,12 @@
 -- The fields of a TFTP packet.
 use Rattle.std.specs.Prelude.{ℕ}
 use Rattle.octseq.specs.declared.AsOctets.{Ghosts}
-use Rattle.octseq.specs.declared.parse.Parser.{Parser}
+use Rattle.octseq_format.specs.declared.window.Window.{Window}
 use Rattle.octseq_format.specs.declared.choice.OneOf5.{OneOf5}
 use Rattle.octseq_formats.specs.declared.tftp.Packet.{Packet}
 
 abbrev pub Fields : (R : Type 0) → Ghosts R → Type 0
-Fields R g = OneOf5 (Parser R g × Parser R g) (Parser R g × Parser R g) (ℕ × Parser R g) ℕ (ℕ × Parser R g)
+Fields R g = OneOf5 (Window R g × Window R g) (Window R g × Window R g) (ℕ × Window R g) ℕ (ℕ × Window R g)
 
 abbrev pub packet_fields : {R : Type 0} {g : Ghosts R} → Packet R g → Fields R g
 packet_fields (Packet.Read name mode) = OneOf5.First (name, mode)

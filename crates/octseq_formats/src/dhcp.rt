@@ -1,9 +1,9 @@
 //! DHCP: packets of RFC 2131, 2, with the options of RFC 2132.
 
-use octseq::{AsOctets, Parser};
+use octseq::AsOctets;
 use octseq_format::{
     Case, Counted, Exactly, Fields, Format, Nothing, Octets, Of, OneOf3, Optional, Others,
-    Repeated, Rest, Tagged, U8, U16Be, U32Be, Until,
+    Repeated, Rest, Tagged, U8, U16Be, U32Be, Until, Window,
 };
 
 /// An option.
@@ -14,7 +14,7 @@ pub enum DhcpOption<R: AsOctets + Copy> {
     /// The end of the options.
     End,
     /// Any other: its code and its octets.
-    Other(usize, Parser<R>),
+    Other(usize, Window<R>),
 }
 
 impl<R: AsOctets + Copy> Fields<R> for DhcpOption<R> {

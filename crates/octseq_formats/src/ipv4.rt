@@ -3,7 +3,7 @@ ghost use Rattle.std.specs.Prelude.{◌≡◌, ◌≤◌, ◌-◌, ◌*◌, ◌/
 
 use octseq_format::{
     Any, Case, Counted, Itself, Key, Keyed, Nothing, Octets, Others, Reckoning, Rest, Sized,
-    Tagged, Test, Then, Through, U8, U16Be, When,
+    Tagged, Test, Then, Through, U8, U16Be, UntilOrEnd, When,
 };
 
 /// The first octet of a datagram: version 4, and a header of five words of four octets or more.
@@ -55,3 +55,6 @@ pub type HeaderOption = Tagged<
         Others<Counted<U8, Rest, 2>>,
     ),
 >;
+
+/// Options of IPv4 or TCP, up to their end or the option 0, after which the octets are kept as they are.
+pub type Options = UntilOrEnd<U8, 0, (Case<1, Nothing>, Others<Counted<U8, Rest, 2>>)>;

@@ -9,6 +9,7 @@ pub mod dhcp;
 pub mod ipv4;
 pub mod ipv6;
 pub mod mqtt;
+pub mod mqtt5;
 pub mod msgpack;
 pub mod ntp;
 pub mod png;

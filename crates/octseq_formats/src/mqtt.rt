@@ -1,9 +1,9 @@
-//! Packets of MQTT 3.1.1 and 5.0, as a server reads them: 1.5, 2, 3.1, 3.3 and 3.8 of both standards.
+//! Packets of MQTT 3.1.1, as a server reads them: its standard, 1.5, 2, 3.1, 3.3 and 3.8.
 ghost use Rattle.std.specs.Prelude.{◌≡◌, ◌≤◌, ◌<◌, ◌*◌, ◌/◌, ◌%◌, nat_eq};
 
 use octseq_format::{
-    Any, Case, Counted, If, Itself, Key, Keyed, Leb128, Minimal, Repeated, Rest, Switch, Test,
-    Then, U8, U16Be, When, Within,
+    Any, Case, Counted, If, Itself, Key, Keyed, Leb128, Repeated, Rest, Switch, Test, Then, U8,
+    U16Be, When, Within,
 };
 
 /// A string or octets after their length.
@@ -106,30 +106,3 @@ pub type Body = (
 
 /// A packet: its first octet, with its type and flags, and its body after its length.
 pub type Packet = Keyed<Key<U8, Itself>, Within<Length, Body>>;
-
-/// Properties of MQTT 5.0: octets after their length.
-pub type Properties = Counted<Length, Rest, 0>;
-
-/// CONNECT of MQTT 5.0, which has properties before the client's identifier, and before the will.
-pub type Connect5 = Keyed<
-    (Field, U8, Key<U8, Itself>, U16Be),
-    Then<
-        Any<(Properties, Field)>,
-        Then<
-            If<HasWill, (Properties, Field, Field)>,
-            Then<If<HasUser, Field>, If<HasPassword, Field>>,
-        >,
-    >,
->;
-
-/// What follows the first octet and the length of a packet of MQTT 5.0: CONNECT and PUBLISH, with their properties, or
-/// the octets of another.
-pub type Body5 = (
-    Case<0x10, Connect5>,
-    When<IsUnacknowledged, Any<(Field, Properties, Rest)>>,
-    When<IsAcknowledged, Any<(Field, U16Be, Properties, Rest)>>,
-    When<IsOther, Any<Rest>>,
-);
-
-/// A packet of MQTT 5.0. Which version a packet has, its connection's CONNECT says.
-pub type Packet5 = Keyed<Key<U8, Itself>, Within<Minimal<Length>, Body5>>;

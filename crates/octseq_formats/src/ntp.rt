@@ -2,8 +2,7 @@
 
 ghost use Rattle.std.specs.Prelude.{◌≡◌, IfOk};
 
-use octseq::AsOctets;
-use octseq::compose::ComposeError;
+use octseq::{AsOctets, WriteError};
 use octseq_format::{Bits, Fields, Format, I8, Low, Of, U8, U32Be, U64Be, parse_composed};
 use std::alloc::Global;
 
@@ -88,9 +87,9 @@ impl<R: AsOctets + Copy> Fields<R> for Ntp {
 ///
 /// # Errors
 ///
-/// `TooLong` if a number has more bits than its field, `Memory` if a request for memory was refused.
+/// `Malformed` if a number has more bits than its field, `Memory` if a request for memory was refused.
 #[tactic(auto, unfolding(octseq_format::specs::Pair::both_say))]
-pub fn round_trip(alloc: Global, ntp: &Ntp) -> Result<Ntp, ComposeError>
+pub fn round_trip(alloc: Global, ntp: &Ntp) -> Result<Ntp, WriteError>
     ensures { IfOk result (λ again. again ≡ ntp.now) }
 {
     let octets: Vec<u8> = <Of<Ntp> as Format<&[u8]>>::compose_whole(alloc, ntp)?;

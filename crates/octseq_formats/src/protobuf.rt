@@ -20,8 +20,8 @@ impl Reckoning for WireType {
 /// A number of 64 bits in at most ten octets. It is written in the fewest.
 pub type Varint = Leb128<10, 64>;
 
-/// A field: its key, eight times its number plus its wire type, and a value. The types are a varint (0), eight octets (1),
-/// octets after their length (2) and four octets (5).
+/// A field: its key, eight times its number plus its wire type, and a value. The types are a varint (0), eight octets
+/// (1), octets after their length (2) and four octets (5).
 pub type Field = Keyed<
     Key<Varint, WireType>,
     (

@@ -1,21 +1,21 @@
 //! TFTP packets: RFC 1350, 5.
 
-use octseq::{AsOctets, Parser};
-use octseq_format::{Case, Fields, Format, OneOf5, Rest, Tagged, U16Be, ZeroEnded};
+use octseq::AsOctets;
+use octseq_format::{Case, Fields, Format, OneOf5, Rest, Tagged, U16Be, Window, ZeroEnded};
 
-/// A TFTP packet. Texts are parsers of their octets.
+/// A TFTP packet. Texts are windows of their octets.
 #[derive(Clone, Copy, Debug, Drop)]
 pub enum Packet<R: AsOctets + Copy> {
     /// A read request: a file name and a mode.
-    Read(Parser<R>, Parser<R>),
+    Read(Window<R>, Window<R>),
     /// A write request: a file name and a mode.
-    Write(Parser<R>, Parser<R>),
+    Write(Window<R>, Window<R>),
     /// A block of data: its number and its octets.
-    Data(u16, Parser<R>),
+    Data(u16, Window<R>),
     /// An acknowledgment: the number of the block.
     Acknowledgment(u16),
     /// An error: a code and a message.
-    Error(u16, Parser<R>),
+    Error(u16, Window<R>),
 }
 
 impl<R: AsOctets + Copy> Fields<R> for Packet<R> {

@@ -1,7 +1,7 @@
 //! A TLS record with a ClientHello: RFC 8446, 5.1 and 4.1.2.
-use octseq::{AsOctets, Parser};
+use octseq::AsOctets;
 use octseq_format::{
-    Counted, Exactly, Fields, Format, Octets, Of, Repeated, Rest, U8, U16Be, U24Be, Walk,
+    At, Counted, Exactly, Fields, Format, Of, Repeated, Rest, Sized, U8, U16Be, U24Be, Walk, Window,
 };
 
 /// An extension: its type, and its data with a length prefix.
@@ -13,13 +13,13 @@ pub struct ClientHello<R: AsOctets + Copy, S, E> {
     /// The legacy version.
     pub version: u16,
     /// 32 random octets.
-    pub random: [u8; 32],
+    pub random: Window<R>,
     /// The id of the session to resume.
-    pub session: Parser<R>,
+    pub session: Window<R>,
     /// The cipher suites.
     pub suites: S,
     /// The compression methods.
-    pub compression: Parser<R>,
+    pub compression: Window<R>,
     /// The extensions.
     pub extensions: E,
 }
@@ -30,7 +30,7 @@ pub type Hello<R> = ClientHello<R, Walk<R, U16Be>, Walk<R, Extension>>;
 impl<R: AsOctets + Copy> Fields<R> for Hello<R> {
     type Format = (
         U16Be,
-        Octets<32>,
+        At<32, Sized<Rest, 0>>,
         Counted<U8, Rest, 0>,
         Counted<U16Be, Repeated<U16Be>, 0>,
         Counted<U8, Rest, 0>,

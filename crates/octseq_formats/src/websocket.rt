@@ -13,7 +13,8 @@ pub struct Kind;
 
 impl Reckoning for Kind {
     ghost of = { λ first. if nat_le (first % 16) 2 then 0
-        else (if nat_le 136 (first % 16 + first / 128 * 128) then (if nat_le (first % 16) 10 then 256 else 512) else 512) };
+        else (if nat_le 136 (first % 16 + first / 128 * 128) then (if nat_le (first % 16) 10 then 256 else 512)
+        else 512) };
 
     fn of(first: usize) -> usize {
         if first % 16 <= 2 {
@@ -62,8 +63,8 @@ impl Test for IsMasked {
     }
 }
 
-/// A payload, as its length and its mask say: up to 125 octets; after a length of 16 bits (126) or 64 bits (127), which a
-/// control frame doesn't have; with a key of four octets before it if it is masked.
+/// A payload, as its length and its mask say: up to 125 octets; after a length of 16 bits (126) or 64 bits (127), which
+/// a control frame doesn't have; with a key of four octets before it if it is masked.
 pub type Payload = (
     When<IsPlain, Through<Length, Sized<Rest, 0>>>,
     When<IsMasked, Then<Any<Octets<4>>, Through<Length, Sized<Rest, 0>>>>,

@@ -1,6 +1,5 @@
 //! What the tests share.
-use octseq::compose::ComposeError;
-use octseq::{AsOctets, EmptyBuilder, Malformed, OctetsBuilder, Truncate};
+use octseq::{AsOctets, EmptyBuilder, Malformed, OctetsBuilder, Truncate, WriteError};
 use octseq_asserts::{assert_equal, assert_true};
 use octseq_format::Format;
 use std::alloc::{AllocGlobal, Global};
@@ -53,7 +52,7 @@ fn refusal<F: Format<R>, R: AsOctets + Copy>(octets: R) -> Option<Malformed> {
 fn append<F: Format<R>, R: AsOctets + Copy, B: OctetsBuilder + Truncate>(
     builder: &mut B,
     value: &F::Value,
-) -> Result<(), ComposeError> {
+) -> Result<(), WriteError> {
     F::append(builder, value)
 }
 
@@ -61,7 +60,7 @@ fn append<F: Format<R>, R: AsOctets + Copy, B: OctetsBuilder + Truncate>(
 fn compose<F: Format<R>, R: AsOctets + Copy, B: EmptyBuilder + Truncate>(
     alloc: Global,
     value: &F::Value,
-) -> Result<B, ComposeError> {
+) -> Result<B, WriteError> {
     F::compose_whole(alloc, value)
 }
 
@@ -115,6 +114,7 @@ mod bgp;
 mod bitcoin;
 mod dhcp;
 mod families;
+mod faults;
 mod headers;
 mod heads;
 mod keyed;

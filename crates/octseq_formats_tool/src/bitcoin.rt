@@ -18,7 +18,7 @@ fn inputs<R: AsOctets + Copy>(
         fields.push(":")?;
         fields.decimal(u64::from(index))?;
         fields.push(":")?;
-        fields.hex(script.peek_all())?;
+        fields.hex(script.as_slice())?;
         fields.push(":")?;
         fields.decimal(u64::from(sequence))?;
     }
@@ -34,7 +34,7 @@ fn outputs<R: AsOctets + Copy>(fields: &mut Fields, parser: &mut Parser<R>) -> R
         fields.item()?;
         fields.decimal(value)?;
         fields.push(":")?;
-        fields.hex(script.peek_all())?;
+        fields.hex(script.as_slice())?;
     }
     fields.end()
 }
@@ -51,7 +51,7 @@ fn witness<R: AsOctets + Copy>(
             fields.push("+")?;
         }
         let item = next::<Counted<CompactSize, Rest, 0>, R>(parser)?;
-        fields.hex(item.peek_all())?;
+        fields.hex(item.as_slice())?;
     }
     if count == 0 {
         fields.push("-")?;
@@ -136,6 +136,6 @@ pub fn message<R: AsOctets + Copy>(fields: &mut Fields, octets: R) -> Result<(),
             }
             fields.end()
         }
-        OneOf2::Second(rest) => fields.octets("payload", rest.peek_all()),
+        OneOf2::Second(rest) => fields.octets("payload", rest.as_slice()),
     }
 }

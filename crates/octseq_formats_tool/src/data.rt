@@ -2,7 +2,7 @@
 use crate::fields::{Fields, Unshown, between, next, value};
 use crate::owed::Owed;
 use octseq::{AsOctets, Parser};
-use octseq_format::{Counted, Format, OneOf3, OneOf4, OneOf5, OneOf6, Rest, U8};
+use octseq_format::{Counted, Format, OneOf3, OneOf4, OneOf5, OneOf6, Rest, U8, Window};
 use octseq_formats::{cbor, png, protobuf, wasm};
 use std::alloc::Global;
 
@@ -19,7 +19,7 @@ pub fn protobuf<R: AsOctets + Copy>(fields: &mut Fields, octets: R) -> Result<()
         match field {
             OneOf4::First(number) => fields.decimal(number as u64)?,
             OneOf4::Second(eight) => fields.hex(eight.to_le_bytes().as_slice())?,
-            OneOf4::Third(octets) => fields.hex(octets.peek_all())?,
+            OneOf4::Third(octets) => fields.hex(octets.as_slice())?,
             OneOf4::Fourth(four) => fields.hex(four.to_le_bytes().as_slice())?,
         }
     }
@@ -42,10 +42,10 @@ fn section<R: AsOctets + Copy>(fields: &mut Fields, octets: R) -> Result<u8, Uns
     fields.item()?;
     fields.decimal(u64::from(number))?;
     fields.push(":")?;
-    fields.decimal(contents.remaining() as u64)?;
+    fields.decimal(contents.len() as u64)?;
     fields.push(":")?;
     match value::<wasm::Section, R>(octets)? {
-        OneOf3::First(inside) => fields.decimal(inside.remaining() as u64)?,
+        OneOf3::First(inside) => fields.decimal(inside.len() as u64)?,
         OneOf3::Second(index) => fields.decimal(index as u64)?,
         OneOf3::Third((_, (count, _))) => fields.decimal(count as u64)?,
     }
@@ -110,7 +110,7 @@ fn image_header<R: AsOctets + Copy>(fields: &mut Fields, octets: R) -> Result<()
 /// The type and the length of a chunk, whose octets without their length and CRC are these.
 fn chunk<R: AsOctets + Copy>(
     fields: &mut Fields,
-    (kind, data): ([u8; 4], Parser<R>),
+    (kind, data): ([u8; 4], Window<R>),
     sum: u32,
     covered: &[u8],
 ) -> Result<[u8; 4], Unshown> {
@@ -123,7 +123,7 @@ fn chunk<R: AsOctets + Copy>(
         Err(_) => return Err(Unshown::Malformed),
     }
     fields.push(":")?;
-    fields.decimal(data.remaining() as u64)?;
+    fields.decimal(data.len() as u64)?;
     Ok(kind)
 }
 
@@ -185,12 +185,12 @@ fn string<R: AsOctets + Copy>(
     fields: &mut Fields,
     owed: &mut Owed,
     major: u64,
-    octets: Option<Parser<R>>,
+    octets: Option<Window<R>>,
 ) -> Result<(), Unshown> {
     fields.decimal(major)?;
     fields.push(":")?;
     match octets {
-        Some(octets) => fields.hex(octets.peek_all()),
+        Some(octets) => fields.hex(octets.as_slice()),
         None => {
             fields.push("*")?;
             owed.open()

@@ -77,18 +77,18 @@ fn msgpack_item<R: AsOctets + Copy>(
     let (first, inside) = item;
     match inside {
         OneOf5::First(_) => alone(fields, owed, (first % 256) as u8),
-        OneOf5::Second(text) => octets(fields, "str:", text.peek_all()),
+        OneOf5::Second(text) => octets(fields, "str:", text.as_slice()),
         OneOf5::Third(lengthy) => match lengthy {
             OneOf7::First(inside) | OneOf7::Second(inside) | OneOf7::Third(inside) => {
-                octets(fields, "bin:", inside.peek_all())
+                octets(fields, "bin:", inside.as_slice())
             }
             OneOf7::Fourth(
                 OneOf3::First(((_, kind), inside))
                 | OneOf3::Second(((_, kind), inside))
                 | OneOf3::Third(((_, kind), inside)),
-            ) => extension(fields, kind, inside.peek_all()),
+            ) => extension(fields, kind, inside.as_slice()),
             OneOf7::Fifth(text) | OneOf7::Sixth(text) | OneOf7::Seventh(text) => {
-                octets(fields, "str:", text.peek_all())
+                octets(fields, "str:", text.as_slice())
             }
         },
         OneOf5::Fourth(fixed) => match fixed {
@@ -213,13 +213,9 @@ fn read_tag<R: AsOctets + Copy>(parser: &mut Parser<R>) -> Result<Tag, Malformed
     let (first, inside) = next::<der::Head, R>(parser)?;
     let (number, len, taken) = match inside {
         OneOf2::First(OneOf2::First(len)) => (first % 32, len, 0),
-        OneOf2::First(OneOf2::Second(octets)) => {
-            (first % 32, octets.remaining(), octets.remaining())
-        }
+        OneOf2::First(OneOf2::Second(octets)) => { (first % 32, octets.len(), octets.len()) }
         OneOf2::Second(OneOf2::First((number, len))) => (number, len, 0),
-        OneOf2::Second(OneOf2::Second((number, octets))) => {
-            (number, octets.remaining(), octets.remaining())
-        }
+        OneOf2::Second(OneOf2::Second((number, octets))) => { (number, octets.len(), octets.len()) }
     };
     Ok(Tag {
         first,

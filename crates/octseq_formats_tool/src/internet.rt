@@ -1,14 +1,14 @@
 //! IPv4, IPv6 and TCP.
 use crate::fields::{Fields, Unshown, between, next, value};
 use octseq::{AsOctets, Parser, Turns};
-use octseq_format::{Family, OneOf3};
+use octseq_format::{Family, OneOf3, Window};
 use octseq_formats::{ipv4, ipv6, tcp};
 
 /// The options of IPv4 and TCP. After the option 0 is padding.
-fn options<R: AsOctets + Copy>(fields: &mut Fields, options: Parser<R>) -> Result<(), Unshown> {
-    let mut parser = options;
+fn options<R: AsOctets + Copy>(fields: &mut Fields, options: Window<R>) -> Result<(), Unshown> {
+    let mut parser = options.parser();
     fields.begin("options")?;
-    for _ in 0..options.remaining() {
+    for _ in 0..options.len() {
         if parser.remaining() == 0 {
             break;
         }
@@ -40,7 +40,7 @@ pub fn ipv4<R: AsOctets + Copy>(fields: &mut Fields, octets: R) -> Result<(), Un
     fields.octets("src", source.as_slice())?;
     fields.octets("dst", destination.as_slice())?;
     options(fields, inside)?;
-    fields.octets("payload", payload.peek_all())
+    fields.octets("payload", payload.as_slice())
 }
 
 /// A segment of TCP.
@@ -56,16 +56,16 @@ pub fn tcp<R: AsOctets + Copy>(fields: &mut Fields, octets: R) -> Result<(), Uns
     fields.number("window", u64::from(window))?;
     fields.number("urgent", u64::from(urgent))?;
     options(fields, inside)?;
-    fields.octets("payload", payload.peek_all())
+    fields.octets("payload", payload.as_slice())
 }
 
 /// The options of a header of IPv6.
 fn header_options<R: AsOctets + Copy>(
     fields: &mut Fields,
-    options: Parser<R>,
+    options: Window<R>,
 ) -> Result<(), Unshown> {
-    let mut parser = options;
-    for _ in 0..options.remaining() {
+    let mut parser = options.parser();
+    for _ in 0..options.len() {
         if parser.remaining() == 0 {
             break;
         }
@@ -81,7 +81,7 @@ fn header_options<R: AsOctets + Copy>(
 #[derive(Clone, Copy)]
 enum After<R: AsOctets + Copy> {
     /// A header of this number, and options before it.
-    Header(u8, Option<Parser<R>>),
+    Header(u8, Option<Window<R>>),
     /// The rest, which has this number.
     End(u8),
 }
@@ -133,13 +133,13 @@ fn chain<R: AsOctets + Copy>(
 /// The options in the headers of a chain.
 fn chain_options<R: AsOctets + Copy>(
     fields: &mut Fields,
-    headers: Parser<R>,
+    headers: Window<R>,
     first: u8,
 ) -> Result<(), Unshown> {
-    let mut parser = headers;
+    let mut parser = headers.parser();
     let mut number = first;
     fields.begin("options")?;
-    for _ in 0..headers.remaining() {
+    for _ in 0..headers.len() {
         if !<ipv6::Extension as Family<R>>::has_format(usize::from(number)) {
             break;
         }
@@ -161,7 +161,7 @@ pub fn ipv6<R: AsOctets + Copy>(fields: &mut Fields, octets: R) -> Result<(), Un
     let ((_, len, number, hops), (source, destination, headers)) = value::<ipv6::Packet, R>(
         octets,
     )?;
-    if usize::from(len) != headers.remaining() {
+    if usize::from(len) != headers.len() {
         return Err(Unshown::Malformed);
     }
     fields.number("payload_length", u64::from(len))?;
@@ -169,7 +169,7 @@ pub fn ipv6<R: AsOctets + Copy>(fields: &mut Fields, octets: R) -> Result<(), Un
     fields.number("hop_limit", u64::from(hops))?;
     fields.octets("src", source.as_slice())?;
     fields.octets("dst", destination.as_slice())?;
-    let mut payload = headers;
+    let mut payload = headers.parser();
     let upper = chain(fields, &mut payload, number)?;
     chain_options(fields, headers, number)?;
     fields.number("upper", u64::from(upper))?;

@@ -1,13 +1,15 @@
 //! DHCP, MQTT, QUIC, SOCKS and WebSocket.
 use crate::fields::{Fields, Unshown, value};
-use octseq::{AsOctets, Parser};
-use octseq_format::{Itself, Key, OneOf2, OneOf3, OneOf4, OneOf5, OneOf6, QuicInteger, Rest};
-use octseq_formats::{dhcp, mqtt, quic, socks5, websocket};
+use octseq::AsOctets;
+use octseq_format::{
+    Itself, Key, OneOf2, OneOf3, OneOf4, OneOf5, OneOf6, QuicInteger, Rest, Window,
+};
+use octseq_formats::{dhcp, mqtt, mqtt5, quic, socks5, websocket};
 
 /// What a client of SOCKS 5 offers.
 pub fn socks5_methods<R: AsOctets + Copy>(fields: &mut Fields, octets: R) -> Result<(), Unshown> {
     let (_, methods) = value::<socks5::Methods, R>(octets)?;
-    fields.octets("methods", methods.peek_all())
+    fields.octets("methods", methods.as_slice())
 }
 
 /// A request of SOCKS 5.
@@ -27,7 +29,7 @@ pub fn socks5_reply<R: AsOctets + Copy>(fields: &mut Fields, octets: R) -> Resul
 /// An address and a port.
 fn socks5_address<R: AsOctets + Copy>(
     fields: &mut Fields,
-    address: OneOf3<[u8; 4], Parser<R>, [u8; 16]>,
+    address: OneOf3<[u8; 4], Window<R>, [u8; 16]>,
     port: u16,
 ) -> Result<(), Unshown> {
     match address {
@@ -37,7 +39,7 @@ fn socks5_address<R: AsOctets + Copy>(
         }
         OneOf3::Second(name) => {
             fields.number("address_type", 3)?;
-            fields.octets("address", name.peek_all())?;
+            fields.octets("address", name.as_slice())?;
         }
         OneOf3::Third(sixteen) => {
             fields.number("address_type", 4)?;
@@ -51,20 +53,20 @@ fn socks5_address<R: AsOctets + Copy>(
 pub fn websocket<R: AsOctets + Copy>(fields: &mut Fields, octets: R) -> Result<(), Unshown> {
     let (head, payload) = value::<websocket::Frame, R>(octets)?;
     match payload {
-        OneOf6::First(octets) => plain(fields, head, 7, octets.peek_all()),
+        OneOf6::First(octets) => plain(fields, head, 7, octets.as_slice()),
         OneOf6::Second(pair) => {
             let key = pair.0;
-            masked(fields, head, 7, key.as_slice(), pair.1.peek_all())
+            masked(fields, head, 7, key.as_slice(), pair.1.as_slice())
         }
-        OneOf6::Third(octets) => plain(fields, head, 16, octets.peek_all()),
-        OneOf6::Fourth(octets) => plain(fields, head, 64, octets.peek_all()),
+        OneOf6::Third(octets) => plain(fields, head, 16, octets.as_slice()),
+        OneOf6::Fourth(octets) => plain(fields, head, 64, octets.as_slice()),
         OneOf6::Fifth(pair) => {
             let key = pair.0.1;
-            masked(fields, head, 16, key.as_slice(), pair.1.peek_all())
+            masked(fields, head, 16, key.as_slice(), pair.1.as_slice())
         }
         OneOf6::Sixth(pair) => {
             let key = pair.0.1;
-            masked(fields, head, 64, key.as_slice(), pair.1.peek_all())
+            masked(fields, head, 64, key.as_slice(), pair.1.as_slice())
         }
     }
 }
@@ -140,7 +142,7 @@ fn dhcp_options<R: AsOctets + Copy>(
     fields.begin(name)?;
     for option in options {
         if let OneOf2::Second((code, inside)) = option {
-            let octets = inside.peek_all();
+            let octets = inside.as_slice();
             if code == 52 {
                 overload = octets.first().copied().unwrap_or(0);
             }
@@ -202,23 +204,23 @@ pub fn quic_varint<R: AsOctets + Copy>(fields: &mut Fields, octets: R) -> Result
 fn connection<R: AsOctets + Copy>(
     fields: &mut Fields,
     version: usize,
-    destination: Parser<R>,
-    source: Parser<R>,
+    destination: Window<R>,
+    source: Window<R>,
 ) -> Result<(), Unshown> {
     fields.number("version", version as u64)?;
-    fields.octets("dcid", destination.peek_all())?;
-    fields.octets("scid", source.peek_all())
+    fields.octets("dcid", destination.as_slice())?;
+    fields.octets("scid", source.as_slice())
 }
 
 /// What a packet of QUIC protects, and what is left of its datagram.
 fn protected<R: AsOctets + Copy>(
     fields: &mut Fields,
-    inside: Parser<R>,
-    next: Parser<R>,
+    inside: Window<R>,
+    next: Window<R>,
 ) -> Result<(), Unshown> {
-    fields.number("length", inside.remaining() as u64)?;
-    fields.octets("protected", inside.peek_all())?;
-    fields.octets("next", next.peek_all())
+    fields.number("length", inside.len() as u64)?;
+    fields.octets("protected", inside.as_slice())?;
+    fields.octets("next", next.as_slice())
 }
 
 /// A datagram of QUIC that begins with a long header.
@@ -228,7 +230,7 @@ pub fn quic_long<R: AsOctets + Copy>(fields: &mut Fields, octets: R) -> Result<(
         OneOf5::First((to, from, token, inside, next)) => {
             connection(fields, version, to, from)?;
             fields.number("type", 0)?;
-            fields.octets("token", token.peek_all())?;
+            fields.octets("token", token.as_slice())?;
             protected(fields, inside, next)
         }
         OneOf5::Second((to, from, inside, next)) | OneOf5::Third((to, from, inside, next)) => {
@@ -239,7 +241,7 @@ pub fn quic_long<R: AsOctets + Copy>(fields: &mut Fields, octets: R) -> Result<(
         OneOf5::Fourth((to, from, rest)) => {
             connection(fields, version, to, from)?;
             fields.number("type", 3)?;
-            retry(fields, rest.peek_all())
+            retry(fields, rest.as_slice())
         }
         OneOf5::Fifth((to, from, versions)) => {
             connection(fields, version, to, from)?;
@@ -282,10 +284,10 @@ fn mqtt_head(fields: &mut Fields, first: usize, octets: &[u8]) -> Result<(), Uns
 fn optional<R: AsOctets + Copy>(
     fields: &mut Fields,
     name: &str,
-    field: Option<Parser<R>>,
+    field: Option<Window<R>>,
 ) -> Result<(), Unshown> {
     match field {
-        Some(field) => fields.octets(name, field.peek_all()),
+        Some(field) => fields.octets(name, field.as_slice()),
         None => Ok(()),
     }
 }
@@ -296,14 +298,14 @@ pub fn mqtt<R: AsOctets + Copy>(fields: &mut Fields, octets: R) -> Result<(), Un
     mqtt_head(fields, first, octets.as_ref())?;
     match body {
         OneOf5::First(((name, level, flags, seconds), (client, (will, (user, password))))) => {
-            fields.octets("name", name.peek_all())?;
+            fields.octets("name", name.as_slice())?;
             fields.number("level", u64::from(level))?;
             fields.number("connect_flags", flags as u64)?;
             fields.number("keep_alive", u64::from(seconds))?;
-            fields.octets("client_id", client.peek_all())?;
+            fields.octets("client_id", client.as_slice())?;
             if let Some((topic, message)) = will {
-                fields.octets("will_topic", topic.peek_all())?;
-                fields.octets("will_payload", message.peek_all())?;
+                fields.octets("will_topic", topic.as_slice())?;
+                fields.octets("will_payload", message.as_slice())?;
             }
             optional(fields, "user", user)?;
             optional(fields, "password", password)
@@ -313,57 +315,57 @@ pub fn mqtt<R: AsOctets + Copy>(fields: &mut Fields, octets: R) -> Result<(), Un
             fields.begin("topics")?;
             for (topic, asked) in topics {
                 fields.item()?;
-                fields.hex(topic.peek_all())?;
+                fields.hex(topic.as_slice())?;
                 fields.push(":")?;
                 fields.decimal(u64::from(asked))?;
             }
             fields.end()
         }
         OneOf5::Third((topic, payload)) => {
-            fields.octets("topic", topic.peek_all())?;
-            fields.octets("payload", payload.peek_all())
+            fields.octets("topic", topic.as_slice())?;
+            fields.octets("payload", payload.as_slice())
         }
         OneOf5::Fourth((topic, number, payload)) => {
-            fields.octets("topic", topic.peek_all())?;
+            fields.octets("topic", topic.as_slice())?;
             fields.number("packet_id", u64::from(number))?;
-            fields.octets("payload", payload.peek_all())
+            fields.octets("payload", payload.as_slice())
         }
-        OneOf5::Fifth(rest) => fields.octets("payload", rest.peek_all()),
+        OneOf5::Fifth(rest) => fields.octets("payload", rest.as_slice()),
     }
 }
 
 /// A packet of MQTT 5.0.
 pub fn mqtt5<R: AsOctets + Copy>(fields: &mut Fields, octets: R) -> Result<(), Unshown> {
-    let (first, body) = value::<mqtt::Packet5, R>(octets)?;
+    let (first, body) = value::<mqtt5::Packet, R>(octets)?;
     mqtt_head(fields, first, octets.as_ref())?;
     match body {
         OneOf4::First((head, ((properties, client), (will, (user, password))))) => {
             let (name, level, flags, seconds) = head;
-            fields.octets("name", name.peek_all())?;
+            fields.octets("name", name.as_slice())?;
             fields.number("level", u64::from(level))?;
             fields.number("connect_flags", flags as u64)?;
             fields.number("keep_alive", u64::from(seconds))?;
-            fields.octets("properties", properties.peek_all())?;
-            fields.octets("client_id", client.peek_all())?;
+            fields.octets("properties", properties.as_slice())?;
+            fields.octets("client_id", client.as_slice())?;
             if let Some((properties, topic, message)) = will {
-                fields.octets("will_properties", properties.peek_all())?;
-                fields.octets("will_topic", topic.peek_all())?;
-                fields.octets("will_payload", message.peek_all())?;
+                fields.octets("will_properties", properties.as_slice())?;
+                fields.octets("will_topic", topic.as_slice())?;
+                fields.octets("will_payload", message.as_slice())?;
             }
             optional(fields, "user", user)?;
             optional(fields, "password", password)
         }
         OneOf4::Second((topic, properties, payload)) => {
-            fields.octets("topic", topic.peek_all())?;
-            fields.octets("properties", properties.peek_all())?;
-            fields.octets("payload", payload.peek_all())
+            fields.octets("topic", topic.as_slice())?;
+            fields.octets("properties", properties.as_slice())?;
+            fields.octets("payload", payload.as_slice())
         }
         OneOf4::Third((topic, number, properties, payload)) => {
-            fields.octets("topic", topic.peek_all())?;
+            fields.octets("topic", topic.as_slice())?;
             fields.number("packet_id", u64::from(number))?;
-            fields.octets("properties", properties.peek_all())?;
-            fields.octets("payload", payload.peek_all())
+            fields.octets("properties", properties.as_slice())?;
+            fields.octets("payload", payload.as_slice())
         }
-        OneOf4::Fourth(rest) => fields.octets("payload", rest.peek_all()),
+        OneOf4::Fourth(rest) => fields.octets("payload", rest.as_slice()),
     }
 }

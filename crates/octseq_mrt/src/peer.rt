@@ -11,7 +11,7 @@ ghost use Rattle.octseq_mrt.specs.Peer.{IsPeer, IsPeerIndexTable, peer_family};
 use crate::address::{parse_address, parse_asn};
 use octseq::{AsOctets, Malformed, Parser, Turns};
 use octseq_bgp::{Afi, Asn};
-use octseq_format::{Counted, Format, Rest, U8, U16Be, U32Be};
+use octseq_format::{Counted, Format, Nested, U8, U16Be, U32Be};
 use std::alloc::AllocError;
 use std::net::IpAddr;
 
@@ -176,7 +176,7 @@ impl<R: AsOctets + Copy> PeerIndexTable<R> {
     {
         let mut ahead = parser;
         let collector_bgp_id = U32Be::parse(&mut ahead)?;
-        let view_name = <Counted<U16Be, Rest, 0> as Format<R>>::parse(&mut ahead)?;
+        let view_name = <Counted<U16Be, Nested, 0> as Format<R>>::parse(&mut ahead)?;
         let count = U16Be::parse(&mut ahead)?;
         let first = ahead;
         pass_peers(&mut ahead, count, turns)?;

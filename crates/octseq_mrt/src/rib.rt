@@ -16,7 +16,7 @@ use crate::address::parse_optional;
 use crate::rib_attribute::{RibAttributes, pass_attributes};
 use octseq::{AsOctets, Malformed, Parser, Turns};
 use octseq_bgp::{Afi, AfiSafiType, Nlri, PathId};
-use octseq_format::{Counted, Format, Rest, U16Be, U32Be};
+use octseq_format::{Counted, Format, Nested, U16Be, U32Be};
 use std::alloc::AllocError;
 
 /// An entry of a RIB.
@@ -63,7 +63,7 @@ impl<R: AsOctets + Copy> EntryParts<R> {
         let peer_index = U16Be::parse(parser)?;
         let originated_time = U32Be::parse(parser)?;
         let path_id = parse_optional(parser, paths)?;
-        let octets = <Counted<U16Be, Rest, 0> as Format<R>>::parse(parser)?;
+        let octets = <Counted<U16Be, Nested, 0> as Format<R>>::parse(parser)?;
         Ok(EntryParts {
             peer_index,
             originated_time,

@@ -13,14 +13,14 @@ ghost use Rattle.octseq_mrt.specs.Rib.{rib_session, is_next_hop_size, IsNextHopA
 use octseq::{AsOctets, Malformed, Parser, Turns};
 use octseq_bgp::whole::parse_all;
 use octseq_bgp::{AttributeValue, Flags, PathAttribute, SessionConfig};
-use octseq_format::{Counted, Format, Rest, U8, U16Be};
+use octseq_format::{Counted, Format, Nested, U8, U16Be};
 use std::alloc::AllocError;
 
 /// A type, and octets with a length of one octet before them.
-type Short = (U8, Counted<U8, Rest, 0>);
+type Short = (U8, Counted<U8, Nested, 0>);
 
 /// A type, and octets with a length of two octets before them.
-type Long = (U8, Counted<U16Be, Rest, 0>);
+type Long = (U8, Counted<U16Be, Nested, 0>);
 
 /// A path attribute of a RIB entry, where it was read.
 #[derive(Debug)]
@@ -194,7 +194,7 @@ impl<R: AsOctets + Copy> RibAttribute<R> {
         if self.type_code != 14 {
             return None;
         }
-        match parse_all::<R, Counted<U8, Rest, 0>>(self.value) {
+        match parse_all::<R, Counted<U8, Nested, 0>>(self.value) {
             Ok(inside) => {
                 if is_next_hop_size(inside.remaining()) {
                     Some(inside)

@@ -4,7 +4,7 @@ ghost use Rattle.std.specs.Prelude.{◌≡◌, ⊤};
 use crate::data::formed::Formed;
 use crate::data::some_octets::CaaTag;
 use octseq::{AsOctets, Parser};
-use octseq_format::{Counted, Fields, Format, Rest, U8};
+use octseq_format::{Counted, Fields, Format, Nested, U8};
 use std::alloc::AllocError;
 
 /// Certification authority authorization: who may issue certificates for a name.
@@ -31,7 +31,7 @@ impl<R: AsOctets + Copy> Clone for Caa<R> {
 }
 
 impl<R: AsOctets + Copy> Fields<R> for Caa<R> {
-    type Format = (U8, Counted<U8, Formed<CaaTag<R>>, 0>, Rest);
+    type Format = (U8, Counted<U8, Formed<CaaTag<R>>, 0>, Nested);
 
     ghost fields = { λ caa. (caa.flags, caa.tag, caa.value) };
 

@@ -7,6 +7,7 @@ ghost use Rattle.octseq_format.specs.Answer.{not_so};
 ghost use Rattle.octseq_format.specs.Canonical.{not_one_way};
 ghost use Rattle.octseq_format.specs.Rest.{window_code};
 ghost use Rattle.octseq_format.specs.Turns.{TakesTurns};
+ghost use Rattle.octseq_format.specs.Stop.{stops_here};
 
 use octseq::{AsOctets, Malformed, OctetsBuilder, Parser, Truncate, Turns};
 use octseq_format::{Format, No};
@@ -85,12 +86,18 @@ impl<R: AsOctets + Copy, V: FormedOctets<R>> Format<R> for Formed<V> {
 
     ghost key = { λ _. 0 };
 
+    ghost stops = { stops_here };
+
     #[inline(always)]
     fn parse_counted(parser: &mut Parser<R>, turns: &mut Turns) -> Result<V, Malformed> {
         let formed = V::from_parser(parser, turns)?;
         let _inside = formed.parser();
         parser.advance_to_end();
         Ok(formed)
+    }
+
+    fn fault(parser: &Parser<R>) -> usize {
+        parser.pos()
     }
 
     #[inline(always)]

@@ -8,6 +8,7 @@ ghost use Rattle.octseq_dns_name.specs.NameFormat.{NameFits, least_turns, name_c
 ghost use Rattle.octseq_dns_name.specs.Read.{name_of};
 ghost use Rattle.octseq_dns_name.specs.Wire.{wire};
 ghost use Rattle.octseq_format.specs.Canonical.{not_one_way};
+ghost use Rattle.octseq_format.specs.Stop.{stops_here};
 
 use octseq::{AsOctets, Malformed, OctetsBuilder, Parser, Truncate, Turns};
 use octseq_dns_name::name::a_name_has_labels;
@@ -55,6 +56,8 @@ impl<R: AsOctets + Copy> Format<R> for PlainName {
 
     ghost key = { λ _. 0 };
 
+    ghost stops = { stops_here };
+
     // (if the octets of a name are as many as its wire form, it has no pointer: a pointer takes two octets, and no name
     // has two in wire form)
     fn parse_counted(
@@ -71,6 +74,10 @@ impl<R: AsOctets + Copy> Format<R> for PlainName {
         }
         *parser = ahead;
         Ok(name)
+    }
+
+    fn fault(parser: &Parser<R>) -> usize {
+        parser.pos()
     }
 
     #[inline(always)]

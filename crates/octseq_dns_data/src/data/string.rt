@@ -7,10 +7,10 @@ ghost use Rattle.octseq_dns_data.specs.Data.{HasString};
 
 use octseq::{AsOctets, Parser};
 use octseq_dns_name::Malformed;
-use octseq_format::{Counted, Format, Rest, U8, are_octets};
+use octseq_format::{Counted, Format, Nested, U8, are_octets};
 
 /// The format of a character string: octets with a length of one octet before them.
-pub(crate) type CharacterString = Counted<U8, Rest, 0>;
+pub(crate) type CharacterString = Counted<U8, Nested, 0>;
 
 /// Reads the next string. Returns a parser of its octets.
 pub(crate) fn take_string<R: AsOctets + Copy>(

@@ -12,7 +12,7 @@ ghost use Rattle.octseq_dns_message.specs.Opt.{EdnsOption as Found};
 use crate::opt::EdnsOption;
 use octseq::builder::infallible;
 use octseq::{AsOctets, Parser};
-use octseq_format::{Format, Octets, Rest, U8, U16Be};
+use octseq_format::{Format, Nested, Octets, U8, U16Be};
 use std::alloc::AllocError;
 
 /// The name server identifier: RFC 5001, 4.1.
@@ -170,7 +170,7 @@ impl<R: AsOctets + Copy> ClientSubnet<R> {
         ensures none { IsNone result → (it : said.ClientSubnet) → ¬ IsClientSubnet (window octets) it }
     {
         let mut ahead = octets;
-        let Ok(parts) = <(U16Be, U8, U8, Rest)>::parse(&mut ahead) else {
+        let Ok(parts) = <(U16Be, U8, U8, Nested)>::parse(&mut ahead) else {
             return None;
         };
         let (family, source, scope, address) = parts;
@@ -244,7 +244,7 @@ impl<R: AsOctets + Copy> Cookie<R> {
         ensures none { IsNone result → (it : said.Cookie) → ¬ IsCookie (window octets) it }
     {
         let mut ahead = octets;
-        let Ok(parts) = <(Octets<8>, Rest)>::parse(&mut ahead) else {
+        let Ok(parts) = <(Octets<8>, Nested)>::parse(&mut ahead) else {
             return None;
         };
         let (client, server) = parts;
@@ -265,7 +265,7 @@ impl<R: AsOctets + Copy> ExtendedError<R> {
         ensures none { IsNone result → (it : said.ExtendedError) → ¬ IsExtendedError (window octets) it }
     {
         let mut ahead = octets;
-        let Ok(parts) = <(U16Be, Rest)>::parse(&mut ahead) else {
+        let Ok(parts) = <(U16Be, Nested)>::parse(&mut ahead) else {
             return None;
         };
         let (code, extra) = parts;

@@ -7,6 +7,7 @@ ghost use Rattle.octseq_dns_name.specs.NameFormat.{name_read_back, one_named, on
 ghost use Rattle.octseq_dns_name.specs.Read.{name_of};
 ghost use Rattle.octseq_dns_name.specs.Wire.{wire};
 ghost use Rattle.octseq_format.specs.Canonical.{not_one_way};
+ghost use Rattle.octseq_format.specs.Stop.{stops_here};
 
 use crate::error::Malformed;
 use crate::name::ParsedName;
@@ -55,6 +56,8 @@ impl<R: AsOctets + Copy> Format<R> for DomainName {
 
     ghost key = { λ _. 0 };
 
+    ghost stops = { stops_here };
+
     #[inline(always)]
     fn parse_counted(
         parser: &mut Parser<R>,
@@ -62,6 +65,10 @@ impl<R: AsOctets + Copy> Format<R> for DomainName {
     ) -> Result<ParsedName<R>, Malformed> {
         let name = ParsedName::parse_counted(parser, turns)?;
         Ok(name)
+    }
+
+    fn fault(parser: &Parser<R>) -> usize {
+        parser.pos()
     }
 
     #[inline(always)]

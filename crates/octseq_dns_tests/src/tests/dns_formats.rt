@@ -1,7 +1,6 @@
 //! Names and data as formats: read in a message, with their pointers, and written plain.
 use crate::tests::unwrap;
-use octseq::compose::ComposeError;
-use octseq::{Array, AsOctets, EmptyBuilder, Parser, Truncate};
+use octseq::{Array, AsOctets, EmptyBuilder, Parser, Truncate, WriteError};
 use octseq_asserts::assert_equal;
 use octseq_dns::DomainName;
 use octseq_dns::data::{Mx, Soa, Srv};
@@ -19,7 +18,7 @@ fn written<R: AsOctets + Copy, F: Format<R>, B: EmptyBuilder + Truncate>(
     rt: &(impl Abort + AllocGlobal),
     octets: R,
     place: usize,
-) -> (usize, Result<B, ComposeError>) {
+) -> (usize, Result<B, WriteError>) {
     let mut parser = Parser::from_ref(octets);
     unwrap(rt, parser.seek(place));
     let value = unwrap(rt, F::parse(&mut parser));
@@ -31,7 +30,7 @@ fn name<R: AsOctets + Copy, B: EmptyBuilder + Truncate>(
     rt: &(impl Abort + AllocGlobal),
     octets: R,
     place: usize,
-) -> (usize, Result<B, ComposeError>) {
+) -> (usize, Result<B, WriteError>) {
     written::<R, DomainName, B>(rt, octets, place)
 }
 
@@ -57,7 +56,7 @@ fn a_name_is_written_where_it_fits(rt: HostRuntime) {
     let (_end, octets) = name::<&[u8], Array<15>>(&rt, EXCHANGE, 14);
     assert_equal!(
         &rt,
-        octets.is_err_and(|error| error == ComposeError::Short),
+        octets.is_err_and(|error| error == WriteError::Short),
         true
     );
 }

@@ -36,7 +36,7 @@ fn is_packet<R: AsOctets + Copy>(
         match walk.next() {
             Some(DhcpOption::Other(other, value)) => {
                 assert_equal!(rt, other, code);
-                assert_equal!(rt, value.peek_all(), octets);
+                assert_equal!(rt, value.as_slice(), octets);
             }
             Some(DhcpOption::Pad) => assert_equal!(rt, 0, code),
             Some(DhcpOption::End) => assert_equal!(rt, 255, code),

@@ -2,13 +2,12 @@
 ghost use Rattle.std.specs.Prelude.{◌≡◌, ◌/◌, ◌%◌, nat_eq};
 
 use crate::tests::{compose, is_said, refusal};
-use octseq::Malformed;
-use octseq::compose::ComposeError;
+use octseq::{Malformed, WriteError};
 use octseq_asserts::assert_equal;
 use octseq_format::{
-    Any, Case, Counted, Flag, Format, Itself, Key, KeyBits, Keyed, Leb128, Low, Octets, OneOf2,
-    OneOf3, OneOf4, Reckoning, Sized, Switch, Test, Then, Through, U8, U16Be, U24Be, U32Be, U32Le,
-    U64Le, When, Within, WithinBy,
+    After, Any, Case, Counted, Flag, Format, Itself, Key, KeyBits, Keyed, Leb128, Low, Octets,
+    OneOf2, OneOf3, OneOf4, Reckoning, Sized, Switch, Tagged, Test, Then, Through, U8, U16Be,
+    U24Be, U32Be, U32Le, U64Le, When, Within, WithinBy,
 };
 use std::alloc::AllocGlobal;
 use std::process::Abort;
@@ -21,7 +20,7 @@ fn is_refused<'a, F: Format<&'a [u8]>>(rt: &impl Abort, octets: &'a [u8]) {
 /// Checks that a value isn't written.
 fn is_unwritten<'a, F: Format<&'a [u8]>>(rt: &(impl AllocGlobal + Abort), value: F::Value) {
     let written: Result<Vec<u8>, _> = compose::<F, &'a [u8], _>(rt.alloc(), &value);
-    assert_equal!(rt, written, Err(ComposeError::TooLong));
+    assert_equal!(rt, written, Err(WriteError::Malformed));
 }
 
 /// A frame of HTTP/2 with a payload of eight octets: length, type, flags and stream, and the payload (RFC 9113, 4.1).
@@ -37,6 +36,33 @@ fn a_head_may_have_the_length(rt: HostRuntime) {
     is_refused::<Frame>(&rt, b"\0\0\x08\x06\x01\0\0\0\01234567");
     is_refused::<Frame>(&rt, b"\0\0\x07\x06\x01\0\0\0\01234567");
     is_unwritten::<Frame>(&rt, ((7, 6, 1, 0), *b"12345678"));
+}
+
+/// The same frame, whose value has no length: it is that of the payload.
+type Measured = Tagged<U24Be, After<(U8, U8, U32Be), Sized<Octets<8>, 0>>>;
+
+/// A datagram of UDP: ports, a length that counts the header too, a checksum, and a payload of two octets (RFC 768).
+type Datagram = (
+    U16Be,
+    U16Be,
+    Tagged<U16Be, After<U16Be, Sized<Octets<2>, 8>>>,
+);
+
+#[test]
+fn a_length_before_other_fields_is_computed(rt: HostRuntime) {
+    is_said::<Measured>(
+        &rt,
+        b"\0\0\x08\x06\x01\0\0\0\012345678",
+        ((6, 1, 0), *b"12345678"),
+    );
+    is_refused::<Measured>(&rt, b"\0\0\x07\x06\x01\0\0\0\01234567");
+    is_said::<Datagram>(
+        &rt,
+        b"\0\x35\xC0\x01\0\x0A\x12\x34hi",
+        (53, 49153, (0x1234, *b"hi")),
+    );
+    is_refused::<Datagram>(&rt, b"\0\x35\xC0\x01\0\x0B\x12\x34hi");
+    is_refused::<Datagram>(&rt, b"\0\x35\xC0\x01\0\x07\x12\x34hi");
 }
 
 /// The wire type of a field of Protocol Buffers: the lowest three bits.

@@ -1,15 +1,15 @@
 //! Packets of scapy 2.5.0, as tshark 4.0.17 reads them: IPv4, IPv6 and TCP, with options. Packets of RTP by RFC 3550.
 use crate::tests::{is_refused, is_same, rewritten};
 use octseq::{AsOctets, Parser, Turns};
-use octseq_format::{Family, Format, OneOf3};
+use octseq_format::{Family, Format, OneOf3, Window};
 use octseq_formats::{ipv4, ipv6, rtp, tcp};
 use std::alloc::AllocGlobal;
 use std::process::Abort;
 
 /// Whether octets are options of IPv4 or TCP, which end with them or at the option 0.
-fn are_options<R: AsOctets + Copy>(options: Parser<R>) -> bool {
-    let mut parser = options;
-    for _ in 0..options.remaining() {
+fn are_options<R: AsOctets + Copy>(options: Window<R>) -> bool {
+    let mut parser = options.parser();
+    for _ in 0..options.len() {
         if parser.remaining() == 0 {
             break;
         }
@@ -103,9 +103,9 @@ fn tcp_segments(rt: HostRuntime) {
 }
 
 /// Whether octets are options of IPv6.
-fn are_ipv6_options<R: AsOctets + Copy>(options: Parser<R>) -> bool {
-    let mut parser = options;
-    for _ in 0..options.remaining() {
+fn are_ipv6_options<R: AsOctets + Copy>(options: Window<R>) -> bool {
+    let mut parser = options.parser();
+    for _ in 0..options.len() {
         if parser.remaining() == 0 {
             break;
         }
@@ -137,10 +137,10 @@ fn after<R: AsOctets + Copy>(parser: &mut Parser<R>, number: usize) -> Result<Op
 }
 
 /// Whether octets begin with a chain of extension headers, the first of which has this number.
-fn are_headers<R: AsOctets + Copy>(headers: Parser<R>, first: u8) -> bool {
-    let mut parser = headers;
+fn are_headers<R: AsOctets + Copy>(headers: Window<R>, first: u8) -> bool {
+    let mut parser = headers.parser();
     let mut number = usize::from(first);
-    for _ in 0..headers.remaining() {
+    for _ in 0..headers.len() {
         if !<ipv6::Extension as Family<R>>::has_format(number) {
             break;
         }
@@ -159,7 +159,7 @@ fn ipv6_again<R: AsOctets + Copy>(rt: &(impl AllocGlobal + Abort), octets: R) ->
         return None;
     };
     let ((_, len, number, _), (_, _, headers)) = value;
-    if usize::from(len) != headers.remaining() || !are_headers(headers, number) {
+    if usize::from(len) != headers.len() || !are_headers(headers, number) {
         return None;
     }
     rewritten::<ipv6::Packet, R>(rt, octets)
@@ -246,5 +246,30 @@ fn rtp_packets(rt: HostRuntime) {
     ];
     for octets in malformed {
         is_refused(&rt, rtp_again(&rt, octets));
+    }
+}
+
+/// Reads and writes options again.
+fn options_again<R: AsOctets + Copy>(
+    rt: &(impl AllocGlobal + Abort),
+    octets: R,
+) -> Option<Vec<u8>> {
+    rewritten::<ipv4::Options, R>(rt, octets)
+}
+
+#[test]
+fn options_end_with_their_octets_or_with_zero(rt: HostRuntime) {
+    let lists: [&[u8]; 5] = [
+        b"",
+        b"\x94\x04\0\0",
+        b"\x01\x07\x0B\x04\x0A\0\0\x01\x0A\0\0\x02\0",
+        b"\x83\x07\x04\x0A\0\0\x09\x01",
+        b"\x01\0\x02\x03",
+    ];
+    for octets in lists {
+        is_same(&rt, options_again(&rt, octets), octets);
+    }
+    for octets in [b"\x07".as_slice(), b"\x07\x01", b"\x07\x0B\x04\0"] {
+        is_refused(&rt, options_again(&rt, octets));
     }
 }

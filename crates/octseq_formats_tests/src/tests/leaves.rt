@@ -1,14 +1,14 @@
 //! Each format once: octets, and what they say.
-use crate::tests::{compose, is_said, refusal, unwrap};
-use octseq::compose::ComposeError;
-use octseq::{Array, AsOctets, Malformed, Parser, Turns};
+use crate::tests::{compose, is_said, read, refusal, unwrap};
+use octseq::{Array, AsOctets, Malformed, Parser, Turns, WriteError};
 use octseq_asserts::assert_equal;
 use octseq_format::{
-    Bits, Case, Counted, Exactly, Flag, Format, I8, I16Be, I16Le, I32Be, I32Le, I64Be, I64Le,
-    I128Be, I128Le, Low, Octets, OneOf2, Optional, Others, Repeated, Tagged, Test, Text, U8, U16Be,
-    U16Le, U24Be, U24Le, U32Be, U32Le, U48Be, U48Le, U64Be, U64Le, U128Be, U128Le, Where,
-    ZeroEnded, append_all, parse_many,
+    At, Bits, Case, Counted, Exactly, Flag, Format, I8, I16Be, I16Le, I32Be, I32Le, I64Be, I64Le,
+    I128Be, I128Le, Low, ManyBy, Nested, Octets, OneOf2, Optional, Others, Repeated, Rest, Sized,
+    Tagged, Test, Text, U8, U16Be, U16Le, U24Be, U24Le, U32Be, U32Le, U48Be, U48Le, U64Be, U64Le,
+    U128Be, U128Le, Where, Window, ZeroEnded, append_all, parse_all_composed, parse_many,
 };
+use std::alloc::Global;
 
 #[test]
 fn integers_are_big_endian(rt: HostRuntime) {
@@ -110,7 +110,52 @@ fn a_number_may_be_bits(rt: HostRuntime) {
         rt.alloc(),
         &(4, 0),
     );
-    assert_equal!(&rt, written, Err(ComposeError::TooLong));
+    assert_equal!(&rt, written, Err(WriteError::Malformed));
+}
+
+#[test]
+fn a_window_has_the_octets_of_its_part_alone(rt: HostRuntime) {
+    let octets = b"a\x02bcbc".as_slice();
+    let parts = <(U8, Counted<U8, Rest, 0>, Rest) as Format<&[u8]>>::parse_whole(octets);
+    let (_, first, second) = unwrap(&rt, parts);
+    assert_equal!(&rt, (first.as_slice(), first.len()), (b"bc".as_slice(), 2));
+    assert_equal!(&rt, (first.pos(), second.pos()), (2, 4));
+    assert_equal!(&rt, (first == second, first.is_empty()), (true, false));
+    let other = Window::from_ref(b"bd".as_slice());
+    assert_equal!(&rt, (first == other, other.pos()), (false, 0));
+    let mut parser = first.parser();
+    assert_equal!(&rt, parser.parse_u8().ok(), Some(b'b'));
+    assert_equal!(&rt, Window::from_parser(parser).as_slice(), b"c".as_slice());
+    assert_equal!(&rt, Window::from_ref(b"".as_slice()).is_empty(), true);
+}
+
+#[test]
+fn what_is_nested_is_read_further(rt: HostRuntime) {
+    let parts = <(U8, Nested) as Format<&[u8]>>::parse_whole(b"abc".as_slice());
+    let (_, mut inside) = unwrap(&rt, parts);
+    assert_equal!(&rt, (inside.pos(), inside.remaining()), (1, 2));
+    assert_equal!(&rt, inside.parse_u8().ok(), Some(b'b'));
+    let refused = refusal::<Counted<U8, Nested, 0>, &[u8]>(b"\x03ab");
+    assert_equal!(&rt, refused, Some(Malformed));
+}
+
+#[test]
+fn a_number_of_octets_or_items_may_be_fixed(rt: HostRuntime) {
+    let octets = read::<At<3, Sized<Rest, 0>>, &[u8]>(&rt, b"abc");
+    assert_equal!(&rt, octets.as_slice(), b"abc".as_slice());
+    for octets in [b"ab".as_slice(), b"abcd"] {
+        let refused = refusal::<At<3, Sized<Rest, 0>>, &[u8]>(octets);
+        assert_equal!(&rt, refused, Some(Malformed));
+        let value = Window::from_ref(octets);
+        let written: Result<Vec<u8>, _> = compose::<At<3, Sized<Rest, 0>>, &[u8], _>(
+            rt.alloc(),
+            &value,
+        );
+        assert_equal!(&rt, written, Err(WriteError::Malformed));
+    }
+    let octets = b"\0\x01\0\x02".as_slice();
+    let many = <At<2, ManyBy<U16Be>> as Format<&[u8]>>::parse_whole(octets).map(|walk| walk.len());
+    assert_equal!(&rt, many, Ok(2));
 }
 
 /// Returns the sum of the first `count` numbers, and how many octets are left.
@@ -147,10 +192,26 @@ fn values_may_be_in_a_slice(rt: HostRuntime) {
     );
     assert_equal!(&rt, octets.as_slice(), b"\0\x01\x02\x03");
     let short = append_all::<&[u8], U16Be, _>(&mut octets, &[4]);
-    assert_equal!(&rt, short, Err(ComposeError::Short));
+    assert_equal!(&rt, short, Err(WriteError::Short));
     let long = append_all::<&[u8], U24Be, _>(&mut octets, &[0x100_0000]);
-    assert_equal!(&rt, long, Err(ComposeError::TooLong));
+    assert_equal!(&rt, long, Err(WriteError::Malformed));
     assert_equal!(&rt, octets.as_slice(), b"\0\x01\x02\x03");
+}
+
+/// Writes a list of numbers that wasn't read, after its length.
+fn listed(alloc: Global, numbers: &[u16]) -> Result<Vec<u8>, WriteError> {
+    let mut octets = Vec::new(alloc);
+    append_all::<&[u8], U16Be, _>(&mut octets, numbers)?;
+    let list = parse_all_composed::<&[u8], U16Be>(octets.as_slice(), numbers);
+    Counted::<U8, Repeated<U16Be>, 0>::compose_whole(alloc, &list)
+}
+
+#[test]
+fn a_list_that_wasnt_read_is_written(rt: HostRuntime) {
+    let written = unwrap(&rt, listed(rt.alloc(), &[1, 0x0203]));
+    assert_equal!(&rt, written.as_slice(), b"\x04\0\x01\x02\x03");
+    let written = unwrap(&rt, listed(rt.alloc(), &[]));
+    assert_equal!(&rt, written.as_slice(), b"\0");
 }
 
 /// Returns the lengths of the first zero-terminated texts in all the octets, and how many texts are left.
@@ -158,14 +219,14 @@ fn lens_of<R: AsOctets + Copy>(
     octets: R,
 ) -> Result<(Option<usize>, Option<usize>, usize), Malformed> {
     let mut walk = Repeated::<ZeroEnded>::parse_whole(octets)?;
-    let first = walk.next().map(|item| item.remaining());
-    let second = walk.next().map(|item| item.remaining());
+    let first = walk.next().map(|item| item.len());
+    let second = walk.next().map(|item| item.len());
     Ok((first, second, walk.len()))
 }
 
 /// Returns the number of octets of a text.
 fn len_of_text<R: AsOctets + Copy>(octets: R) -> Result<usize, Malformed> {
-    Ok(Text::parse_whole(octets)?.remaining())
+    Ok(Text::parse_whole(octets)?.len())
 }
 
 #[test]

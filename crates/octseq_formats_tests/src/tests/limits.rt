@@ -1,9 +1,8 @@
 //! What exceeds a limit or a length, and what has no octets.
 use crate::tests::{append, compose, unwrap};
-use octseq::compose::ComposeError;
-use octseq::{Array, AsOctets, Malformed, OctetsBuilder, Parser};
+use octseq::{Array, AsOctets, Malformed, OctetsBuilder, WriteError};
 use octseq_asserts::assert_equal;
-use octseq_format::{Counted, Format, Of, Rest, Times, U8, U16Be};
+use octseq_format::{Counted, Format, Of, Rest, Times, U8, U16Be, Window};
 use octseq_formats::ntp::Ntp;
 use octseq_formats::tftp::Packet;
 
@@ -26,7 +25,7 @@ fn a_header_that_passes_the_limit_is_short(rt: HostRuntime) {
     let mut short = Array::<50>::new();
     unwrap(&rt, short.append_slice(b"abc"));
     let appended = append::<Of<Ntp>, &[u8], _>(&mut short, &NTP);
-    assert_equal!(&rt, appended, Err(ComposeError::Short));
+    assert_equal!(&rt, appended, Err(WriteError::Short));
     assert_equal!(&rt, short.as_slice(), b"abc".as_slice());
     let mut room = Array::<51>::new();
     unwrap(&rt, room.append_slice(b"abc"));
@@ -37,32 +36,32 @@ fn a_header_that_passes_the_limit_is_short(rt: HostRuntime) {
 
 #[test]
 fn a_header_is_made_whole_or_not_at_all(rt: HostRuntime) {
-    let made: Result<Array<47>, ComposeError> = compose::<Of<Ntp>, &[u8], _>(rt.alloc(), &NTP);
-    assert_equal!(&rt, made.err(), Some(ComposeError::Short));
-    let made: Result<Array<48>, ComposeError> = compose::<Of<Ntp>, &[u8], _>(rt.alloc(), &NTP);
+    let made: Result<Array<47>, WriteError> = compose::<Of<Ntp>, &[u8], _>(rt.alloc(), &NTP);
+    assert_equal!(&rt, made.err(), Some(WriteError::Short));
+    let made: Result<Array<48>, WriteError> = compose::<Of<Ntp>, &[u8], _>(rt.alloc(), &NTP);
     assert_equal!(&rt, made.is_ok(), true);
 }
 
 #[test]
-fn octets_that_their_length_cant_count_are_too_long(rt: HostRuntime) {
+fn octets_that_their_length_cant_count_are_malformed(rt: HostRuntime) {
     let octets = [7; 256];
     let mut content = Array::<4>::new();
-    let long = Parser::from_ref(octets.as_slice());
+    let long = Window::from_ref(octets.as_slice());
     let appended = append::<Counted<U8, Rest, 0>, &[u8], _>(&mut content, &long);
-    assert_equal!(&rt, appended, Err(ComposeError::TooLong));
-    let most = Parser::from_ref(&octets[1..]);
+    assert_equal!(&rt, appended, Err(WriteError::Malformed));
+    let most = Window::from_ref(&octets[1..]);
     let appended = append::<Counted<U8, Rest, 0>, &[u8], _>(&mut content, &most);
-    assert_equal!(&rt, appended, Err(ComposeError::Short));
+    assert_equal!(&rt, appended, Err(WriteError::Short));
     let counted_too = append::<Counted<U8, Rest, 1>, &[u8], _>(&mut content, &most);
-    assert_equal!(&rt, counted_too, Err(ComposeError::TooLong));
+    assert_equal!(&rt, counted_too, Err(WriteError::Malformed));
 }
 
 #[test]
 fn a_length_may_count_octets_before_it(rt: HostRuntime) {
     let octets = b"\x05ab".as_slice();
     let value = <Counted<U8, Rest, 3> as Format<&[u8]>>::parse_whole(octets);
-    let pos = value.map(|rest| (rest.pos(), rest.len()));
-    assert_equal!(&rt, pos, Ok((1, 3)));
+    let place = value.map(|rest| (rest.pos(), rest.len()));
+    assert_equal!(&rt, place, Ok((1, 2)));
     for octets in [b"\x02".as_slice(), b"\x04ab", b"\x06ab"] {
         let refused = <Counted<U8, Rest, 3> as Format<&[u8]>>::parse_whole(octets);
         assert_equal!(&rt, refused.err(), Some(Malformed));
@@ -85,8 +84,8 @@ fn append_request<R: AsOctets + Copy>(
     content: &mut Array<9>,
     name: R,
     mode: R,
-) -> Result<(), ComposeError> {
-    let packet = Packet::Read(Parser::from_ref(name), Parser::from_ref(mode));
+) -> Result<(), WriteError> {
+    let packet = Packet::Read(Window::from_ref(name), Window::from_ref(mode));
     append::<Of<Packet<R>>, R, _>(content, &packet)
 }
 
@@ -94,10 +93,10 @@ fn append_request<R: AsOctets + Copy>(
 fn a_text_with_a_zero_has_no_octets(rt: HostRuntime) {
     let mut content = Array::<9>::new();
     let appended = append_request(&mut content, b"name".as_slice(), b"a\0b".as_slice());
-    assert_equal!(&rt, appended, Err(ComposeError::TooLong));
+    assert_equal!(&rt, appended, Err(WriteError::Malformed));
     assert_equal!(&rt, content.as_slice(), b"".as_slice());
     let appended = append_request(&mut content, b"name".as_slice(), b"ab".as_slice());
-    assert_equal!(&rt, appended, Err(ComposeError::Short));
+    assert_equal!(&rt, appended, Err(WriteError::Short));
     let appended = append_request(&mut content, b"nam".as_slice(), b"ab".as_slice());
     assert_equal!(&rt, appended, Ok(()));
     assert_equal!(&rt, content.as_slice(), b"\0\x01nam\0ab\0".as_slice());

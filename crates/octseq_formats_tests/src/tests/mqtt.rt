@@ -1,7 +1,7 @@
 //! Packets of mosquitto 2.0.11 and its clients, as tshark 4.0.17 reads them.
 use crate::tests::{is_refused, is_same, is_shorter, rewritten};
 use octseq::AsOctets;
-use octseq_formats::mqtt;
+use octseq_formats::{mqtt, mqtt5};
 use std::alloc::AllocGlobal;
 use std::process::Abort;
 
@@ -15,7 +15,7 @@ fn packet5_again<R: AsOctets + Copy>(
     rt: &(impl AllocGlobal + Abort),
     octets: R,
 ) -> Option<Vec<u8>> {
-    rewritten::<mqtt::Packet5, R>(rt, octets)
+    rewritten::<mqtt5::Packet, R>(rt, octets)
 }
 
 #[test]

@@ -1,8 +1,7 @@
 //! Numbers of varying width, and lengths, counts and tags in them and in little-endian integers: octets by hand, from
 //! the standards.
 use crate::tests::{compose, is_said, read, refusal, unwrap};
-use octseq::Malformed;
-use octseq::compose::ComposeError;
+use octseq::{Malformed, WriteError};
 use octseq_asserts::assert_equal;
 use octseq_format::{
     Case, CompactSize, Counted, DerLength, Format, Itself, Key, Leb128, Minimal, Number, Octets,
@@ -41,13 +40,13 @@ fn is_no_number<N: Number>(rt: &impl Abort, octets: &[u8]) {
 /// Checks that a number isn't written.
 fn is_too_great<N: Number>(rt: &(impl AllocGlobal + Abort), number: usize) {
     let written: Result<Vec<u8>, _> = compose::<Key<N, Itself>, &[u8], _>(rt.alloc(), &number);
-    assert_equal!(rt, written, Err(ComposeError::TooLong));
+    assert_equal!(rt, written, Err(WriteError::Malformed));
 }
 
 /// Checks the octets after a length, and that both are written back.
 fn counts<N: Number>(rt: &(impl AllocGlobal + Abort), octets: &[u8], wanted: &[u8]) {
     let inside = read::<Counted<N, Rest, 0>, &[u8]>(rt, octets);
-    assert_equal!(rt, inside.peek_all(), wanted);
+    assert_equal!(rt, inside.as_slice(), wanted);
 }
 
 /// Checks that octets aren't a length followed by as many octets.

@@ -3,10 +3,9 @@
 //! `.ci/refused` runs these tests with their n-th request refused, for each n up to the last of them. A refusal ends a
 //! test with its error, once the test has checked what is there.
 use crate::tests::unwrap;
-use octseq::compose::ComposeError;
-use octseq::{AsOctets, Parser};
+use octseq::{AsOctets, WriteError};
 use octseq_asserts::assert_equal;
-use octseq_format::{Format, Of};
+use octseq_format::{Format, Of, Window};
 use octseq_formats::tftp::Packet;
 use std::alloc::AllocGlobal;
 use std::process::Abort;
@@ -21,7 +20,7 @@ fn append_forty<F: Format<R>, R: AsOctets + Copy>(
     match appended {
         Ok(()) => assert_equal!(rt, content.len(), 40),
         Err(refusal) => {
-            assert_equal!(rt, refusal, ComposeError::Memory);
+            assert_equal!(rt, refusal, WriteError::Memory);
             assert_equal!(rt, content.len(), 0);
         }
     }
@@ -30,7 +29,7 @@ fn append_forty<F: Format<R>, R: AsOctets + Copy>(
 
 /// Appends a write request to a vector.
 fn append_request<H: AllocGlobal + Abort, R: AsOctets + Copy>(rt: &H, name: R, mode: R) {
-    let packet = Packet::Write(Parser::from_ref(name), Parser::from_ref(mode));
+    let packet = Packet::Write(Window::from_ref(name), Window::from_ref(mode));
     append_forty::<Of<Packet<R>>, R>(rt, &packet);
 }
 

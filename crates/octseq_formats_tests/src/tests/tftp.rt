@@ -21,7 +21,7 @@ fn is_request<R: AsOctets + Copy>(
 ) {
     match packet(rt, octets) {
         Packet::Read(name, mode) => {
-            assert_equal!(rt, (name.peek_all(), mode.peek_all()), wanted);
+            assert_equal!(rt, (name.as_slice(), mode.as_slice()), wanted);
             assert_equal!(rt, (name.pos(), mode.pos()), places);
         }
         _ => assert_equal!(rt, "another packet", "a request"),
@@ -40,7 +40,7 @@ fn block<R: AsOctets + Copy>(
     octets: R,
 ) -> Option<(u16, Option<usize>)> {
     match packet(rt, octets) {
-        Packet::Data(block, octets) => Some((block, Some(octets.remaining()))),
+        Packet::Data(block, octets) => Some((block, Some(octets.len()))),
         Packet::Acknowledgment(block) => Some((block, None)),
         _ => None,
     }

@@ -19,7 +19,7 @@ fn record<R: AsOctets + Copy>(
 fn hello_of<R: AsOctets + Copy>(rt: &(impl AllocGlobal + Abort), octets: R) -> Hello<R> {
     let (_handshake, version, (_client_hello, hello)) = record(rt, octets);
     assert_equal!(rt, (version, hello.version), (0x0301, 0x0303));
-    assert_equal!(rt, hello.compression.peek_all(), [0].as_slice());
+    assert_equal!(rt, hello.compression.as_slice(), [0].as_slice());
     hello
 }
 
@@ -57,7 +57,7 @@ fn is_hello<H: AllocGlobal + Abort, R: AsOctets + Copy>(
     let hello = hello_of(rt, octets);
     assert_equal!(
         rt,
-        (hello.random.as_slice(), hello.session.peek_all()),
+        (hello.random.as_slice(), hello.session.as_slice()),
         texts
     );
     has_suites(rt, hello.suites, suites);

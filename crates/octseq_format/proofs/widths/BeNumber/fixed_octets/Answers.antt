@@ -1,0 +1,6 @@
+use Rattle.std.proofs.Common.{◌∙◌, sym}
+use Rattle.octseq_format.specs.Integers.{are_be}
+use Rattle.octseq_format.proofs.widths.BeNumber.fixed_octets.Goals as goal
+
+pub returns : goal.returns
+returns g c = λ said fits. (are_be g.T.Width.width).many said fits ∙ sym c.octets.ensures
