@@ -14,7 +14,9 @@ use crate::open::is_long;
 use crate::session::SessionConfig;
 use crate::whole::parse_all;
 use octseq::{AsOctets, Parser};
-use octseq_format::{Be, Counted, Format, Nested, U16Be, Width};
+use octseq_format::integers::Be;
+use octseq_format::widths::Width;
+use octseq_format::{Counted, Format, Nested, U16Be};
 
 /// Reading stops at one place.
 ///

@@ -3,11 +3,11 @@ use Rattle.std.proofs.Common.{◌≡◌, ℕ, zero, suc, ◌+◌, ◌-◌, ◌*�
 use Rattle.std.proofs.Common.{length, reverse, take, drop, refl, sym, ap, ◌∙◌, arith, append_assoc, append-nil}
 use Rattle.std.proofs.Common.{length-append, length-drop, length-take}
 use Rattle.std.proofs.Math.ListN.{replicate}
-use Rattle.std.proofs.Math.Nat.{pow-suc, lt-div-mul-add, one-le-pow, mul-le-mul_right, div-mul-le_self}
+use Rattle.std.proofs.Math.Nat.{pow-suc, pow-le-pow_right, lt-div-mul-add, one-le-pow, mul-le-mul_right, div-mul-le_self}
 use Rattle.std.proofs.Math.Seq.{take-append_seam}
 use Rattle.std.proofs.lemmas.List.{reverse-append, length-reverse, take-append-drop, take_all, drop_all}
-use Rattle.std.specs.Prelude.{slice_range}
-use Rattle.std.proofs.lemmas.Nat.{pow-add}
+use Rattle.std.specs.Prelude.{◌%◌, slice_range}
+use Rattle.std.proofs.lemmas.Nat.{pow-add, pow_below, mod-mul-add}
 use Rattle.std.specs.Int.{w64, to_be_bytes, to_le_bytes, from_be_bytes, from_le_bytes}
 use Rattle.octseq.specs.Integer.{be, le, octets_be, octets_le}
 use Rattle.octseq.proofs.Written.{be_cons, le_snoc, length_be, made_be_8, made_le_8}
@@ -118,3 +118,19 @@ pub fits_eight : (n k : ℕ) → n < 2 ^ 64 → k ≡ 8 → n < 256 ^ k
 fits_eight n k small eight = let same = ap (λ k. 256 ^ k) eight in omega (arith, small, same)
 
 pub ruleset fitting = (none_above, some_above, fits_eight)
+
+-- what the lowest octets of a number say
+pub lowest_octets : (n w k : ℕ) → w ≡ k → w < 8 → n % (1 * 2 ^ (8 * w) % 18446744073709551616) ≡ n % 256 ^ k
+lowest_octets n w k same few =
+    let size = 2 ^ (8 * w) in
+    let small : size < 2 ^ 64 = pow_below (8 * w) 64 (omega (arith, few)) in
+    let all : 1 * size ≡ 0 * 18446744073709551616 + size = omega arith in
+    let bits : 1 * size % 18446744073709551616 ≡ 256 ^ k = ap (λ m. m % 18446744073709551616) all
+    ∙ mod-mul-add 0 18446744073709551616 size (omega (arith, small)) ∙ bits_of w ∙ ap (λ k. 256 ^ k) same in
+    ap (λ m. n % m) bits
+
+pub all_octets : (n k : ℕ) → n < 2 ^ 64 → 8 ≤ k → n % 256 ^ k ≡ n
+all_octets n k small wide =
+    let more : 256 ^ 8 ≤ 256 ^ k = pow-le-pow_right (omega arith) wide in
+    let same : n ≡ 0 * 256 ^ k + n = omega arith in
+    ap (λ m. m % 256 ^ k) same ∙ mod-mul-add 0 (256 ^ k) n (omega (arith, small, more))

@@ -43,6 +43,10 @@ module _ {S T : Type 0} (first : S → List ℕ) (second : T → List ℕ) (A : 
   not_second both none has = let long = longs both in let few = has.few in
       none (record { fits = has.fits.second; few = omega (arith, long, few) })
 
+  pub first_has : (both : S × T) → HasOctets (first before second) (A also B) both → HasOctets first A both.0
+  first_has both has = let long = longs both in let few = has.few in
+      record { fits = has.fits.first; few = omega (arith, long, few) }
+
   pub second_has : (both : S × T) → HasOctets (first before second) (A also B) both → HasOctets second B both.1
   second_has both has = let long = longs both in let few = has.few in
       record { fits = has.fits.second; few = omega (arith, long, few) }

@@ -9,5 +9,6 @@ pub mod Nones
 pub mod Parts
 pub mod Quics
 pub mod RowSteps
+pub mod Splits
 pub mod UntilSteps
 pub mod Wholes

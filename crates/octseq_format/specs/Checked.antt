@@ -1,10 +1,10 @@
 -- A value and a checksum of its octets.
-use Rattle.std.specs.Prelude.{◌≡◌, Bool, ◌&&◌, IsTrue, ℕ, ◌+◌, ◌-◌, List, ◌++◌, length, refl}
+use Rattle.std.specs.Prelude.{◌≡◌, Bool, ◌&&◌, IsTrue, ℕ, ◌+◌, ◌-◌, ◌%◌, ◌^◌, List, ◌++◌, length, refl}
 use Rattle.std.proofs.Common.{sym, ap, ◌∙◌, subst, arith, length-append, append_assoc}
 use Rattle.octseq.specs.Window.{Window, next, rest, past}
 use Rattle.octseq.proofs.WindowsAfter.{front_comes_next}
 use Rattle.octseq_format.specs.Canonical.{IsCanonical, both_ways}
-use Rattle.octseq_format.specs.Laws.{Relation, NoneAt, IsOne, IsOnward, IsReadBack, IsDelimited, back_of}
+use Rattle.octseq_format.specs.Laws.{Relation, NoneAt, AllHave, IsOne, IsOnward, IsReadBack, IsDelimited, back_of}
 use Rattle.octseq_format.specs.Pair.{past_both}
 use Rattle.octseq_format.specs.Whole.{octets_taken}
 
@@ -24,6 +24,17 @@ checked_octets sum octets number said = octets said ++ number (sum (octets said)
 pub record AreSums (sum : List ℕ → ℕ) (number : ℕ → List ℕ) (Fits : ℕ → Type 0) (width : ℕ) : Type 0 where
   pub fit : (octets : List ℕ) → Fits (sum octets)
   pub long : (octets : List ℕ) → length (number (sum octets)) ≡ width
+
+-- what a checksum is encoded as: its lowest octets, as many as `width`
+abbrev pub cut_sum : (List ℕ → ℕ) → ℕ → List ℕ → ℕ
+cut_sum sum width octets = sum octets % 256 ^ width
+
+pub sums_cut : (sum : List ℕ → ℕ) {number : ℕ → List ℕ} {Fits : ℕ → Type 0} {width : ℕ}
+    → ((n : ℕ) → Fits (n % 256 ^ width)) → AllHave number Fits width → AreSums (cut_sum sum width) number Fits width
+sums_cut sum {width = width} each long = record {
+  fit = λ octets. each (sum octets);
+  long = λ octets. long (sum octets % 256 ^ width) (each (sum octets));
+}
 
 module _ {A : Type 0} (sum : List ℕ → ℕ) {Is : Relation A} {Number : Relation ℕ} where
   pub one_checked : IsOne Is → IsOne Number → IsOne (IsChecked sum Is Number)

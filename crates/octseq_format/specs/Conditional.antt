@@ -18,6 +18,11 @@ abbrev pub IfFits : {S : Type 0} → (ℕ → Bool) → (S → Type 0) → ℕ �
 IfFits on Fits key None = IsFalse (on key)
 IfFits on Fits key (Some said) = IsTrue (on key) × Fits said
 
+-- 1 for a value, 0 for none
+abbrev pub told_if : {S : Type 0} → Option S → ℕ
+told_if None = 0
+told_if (Some said) = 1
+
 module _ {A : Type 0} (on : ℕ → Bool) (Is : Relation A) where
   same_if : IsOne Is → (key : ℕ) (w : Window) (a b : Option A) (u v : Window) → IsIf on Is key w a u
       → IsIf on Is key w b v → (a ≡ b) × (u ≡ v)

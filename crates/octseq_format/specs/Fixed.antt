@@ -1,7 +1,8 @@
 -- Values of a fixed number of octets, whatever they are.
-use Rattle.std.specs.Prelude.{◌≡◌, ℕ, ◌<◌, ◌≤◌, ◌^◌, List, ◌++◌, length, refl}
+use Rattle.std.specs.Prelude.{◌≡◌, ℕ, ◌%◌, ◌<◌, ◌≤◌, ◌^◌, List, ◌++◌, length, refl}
 use Rattle.std.proofs.Common.{sym, ap, ◌∙◌, subst, arith}
-use Rattle.std.proofs.Math.Nat.{pow-le-pow_right}
+use Rattle.std.proofs.Math.Nat.{pow-le-pow_right, one-le-pow}
+use Rattle.std.proofs.lemmas.Nat.{mod_below}
 use Rattle.octseq.specs.Window.{Window, left, next, rest, past}
 use Rattle.octseq.proofs.WindowsAfter.{front_comes_next}
 use Rattle.octseq.proofs.Windows.{next_and_rest}
@@ -25,6 +26,10 @@ pub most_fixed : (k : ℕ) → k ≤ 8 → (n : ℕ) → n < 256 ^ k → n < 2 ^
 most_fixed k few n fits =
     let most : 256 ^ k ≤ 256 ^ 8 = pow-le-pow_right (omega arith) few in
     omega (arith, most, fits)
+
+-- what is left of a number over a power is below it
+pub below_power : (k n : ℕ) → n % 256 ^ k < 256 ^ k
+below_power k n = mod_below n (256 ^ k) (one-le-pow k 256 (omega arith))
 
 module _ {A : Type 0} (k : ℕ) (reading : List ℕ → A) where
   pub one_fixed : IsOne (IsFixed k reading)

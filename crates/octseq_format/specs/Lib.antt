@@ -28,6 +28,8 @@ pub mod Place
 pub mod Quic
 pub mod Rest
 pub mod Row
+pub mod Scaled
+pub mod Split
 pub mod Stop
 pub mod Tagged
 pub mod Text

@@ -63,7 +63,7 @@ pub trait BitFields {
 }
 
 /// Splits off the lowest bits, those of `B`. Returns the upper bits and the lowest ones.
-fn parted<B: BitFields>(number: usize) -> (usize, usize)
+pub(crate) fn parted<B: BitFields>(number: usize) -> (usize, usize)
     ensures high { result.0 ≡ number / 2 ^ B.bits }
     ensures low { result.1 ≡ number % 2 ^ B.bits }
 {
@@ -74,7 +74,7 @@ fn parted<B: BitFields>(number: usize) -> (usize, usize)
 }
 
 /// Joins upper bits and the lowest ones, those of `B`.
-fn joined<B: BitFields>(high: usize, low: usize) -> Option<usize>
+pub(crate) fn joined<B: BitFields>(high: usize, low: usize) -> Option<usize>
     ensures some { IfSome result (λ number. number ≡ high * 2 ^ B.bits + low) }
     ensures none { IsNone result → 2 ^ 64 ≤ high * 2 ^ B.bits + low }
 {

@@ -1,27 +1,42 @@
 //! A value that is there only if the key says so.
-ghost use Rattle.std.specs.Prelude.{Option, IsTrue, false};
+ghost use Rattle.std.specs.Prelude.{◌≡◌, Option, IsTrue, false, nat_eq};
 ghost use Rattle.std.specs.Coded.{coded_option};
 ghost use Rattle.octseq_format.specs.Answer.{not_so};
 ghost use Rattle.octseq_format.specs.Canonical.{not_one_way};
 ghost use Rattle.octseq_format.specs.Conditional.{IsIf, IfFits, one_if, onward_if, if_read_back};
-ghost use Rattle.octseq_format.specs.Conditional.{delimited_if};
+ghost use Rattle.octseq_format.specs.Conditional.{delimited_if, told_if};
 ghost use Rattle.octseq_format.specs.Optional.{optional_says, optional_octets, optional_turns};
 ghost use Rattle.octseq_format.specs.Stop.{StopsBy, stops_here};
 
 use crate::families::Switch;
-use crate::family::Family;
+use crate::family::{Family, TellsKey};
 use crate::format::Format;
 use octseq::{AsOctets, Malformed, OctetsBuilder, Parser, Truncate, Turns};
 use std::alloc::AllocError;
 use std::marker::PhantomData;
 
-/// `F` if the key answers `S` with yes, otherwise nothing. A value where the answer is no, or none
-/// where it is yes, has no octets.
+/// `F` if the key answers `S` with yes, otherwise nothing. A value where the answer is no, or none where it is yes, has
+/// no octets. `If<IsSet, F>` tells its key, one bit.
 #[derive(Debug)]
 pub struct If<S, F> {
     switch: PhantomData<S>,
     inside: PhantomData<F>,
 }
+
+/// Whether a number is 1: of one bit, whether it is set.
+#[derive(Debug)]
+pub struct IsSet;
+
+impl Switch for IsSet {
+    ghost on = { λ number. nat_eq number 1 };
+
+    #[inline(always)]
+    fn is_on(number: usize) -> bool {
+        number == 1
+    }
+}
+
+impl<F> TellsKey for If<IsSet, F> {}
 
 impl<R: AsOctets + Copy, S: Switch, F: Format<R>> Family<R> for If<S, F> {
     type Value = Option<F::Value>;
@@ -40,7 +55,7 @@ impl<R: AsOctets + Copy, S: Switch, F: Format<R>> Family<R> for If<S, F> {
 
     ghost says = { optional_says F.says };
 
-    ghost tag = { λ _. 0 };
+    ghost tag = { told_if };
 
     ghost octets = { λ _. optional_octets F.octets };
 
@@ -95,8 +110,11 @@ impl<R: AsOctets + Copy, S: Switch, F: Format<R>> Family<R> for If<S, F> {
     }
 
     #[inline(always)]
-    fn tag_of(_value: &Self::Value) -> Option<usize> {
-        Some(0)
+    fn tag_of(value: &Self::Value) -> Option<usize> {
+        match value {
+            None => Some(0),
+            Some(_) => Some(1),
+        }
     }
 
     #[inline(always)]

@@ -122,7 +122,10 @@ impl<R: AsOctets + Copy, K: Reckoning, F: Family<R>> Family<R> for Through<K, F>
 
 /// Returns the position past a value of a family, or where reading it stops.
 #[tactic(auto, using(crate::specs::Stop::at_first, crate::specs::Stop::at_second))]
-fn end_or_fault_by<R: AsOctets + Copy, F: Family<R>>(key: usize, parser: &Parser<R>) -> usize
+pub(crate) fn end_or_fault_by<R: AsOctets + Copy, F: Family<R>>(
+    key: usize,
+    parser: &Parser<R>,
+) -> usize
     ensures { StopsThen (F.is_at key) (F.stops key) (λ _. stops_here) (window parser.now) result }
 {
     let mut ahead = *parser;

@@ -33,7 +33,9 @@ pub mod padding;
 pub mod quic;
 pub mod rest;
 pub mod rows;
+pub mod scaled;
 pub mod sized;
+pub mod split;
 pub mod tagged;
 pub mod text;
 pub mod tuples;
@@ -54,7 +56,7 @@ pub use checked::{Checked, Checksum};
 pub use choice::{OneOf2, OneOf3, OneOf4, OneOf5};
 pub use choice_of_eight::OneOf8;
 pub use compact_size::CompactSize;
-pub use conditional::If;
+pub use conditional::{If, IsSet};
 pub use der::DerLength;
 pub use either::{Either, UntilOrEnd};
 pub use ended::ZeroEnded;
@@ -65,8 +67,8 @@ pub use fields::{Fields, Of};
 pub use filter::{Test, Where};
 pub use format::Format;
 pub use integers::{
-    Be, I8, I16Be, I16Le, I32Be, I32Le, I64Be, I64Le, I128Be, I128Le, Integer, Le, U8, U16Be,
-    U16Le, U24, U24Be, U24Le, U32Be, U32Le, U48, U48Be, U48Le, U64Be, U64Le, U128Be, U128Le,
+    I8, I16Be, I16Le, I32Be, I32Le, I64Be, I64Le, I128Be, I128Le, Integer, U8, U16Be, U16Le, U24Be,
+    U24Le, U32Be, U32Le, U48Be, U48Le, U64Be, U64Le, U128Be, U128Le,
 };
 pub use keyed::{Itself, Key, Keyed, Reckoning};
 pub use laws::{are_octets, parse_all_composed, parse_composed};
@@ -81,7 +83,9 @@ pub use padding::{Padded, Zeros};
 pub use quic::QuicInteger;
 pub use rest::Rest;
 pub use rows::{Repeated, parse_many};
+pub use scaled::Scaled;
 pub use sized::{Counted, ManyBy, Sized, Times};
+pub use split::{HighFirst, LowFirst, Split};
 pub use tagged::Tagged;
 pub use text::Text;
 pub use until::Until;
@@ -89,5 +93,4 @@ pub use values::append_all;
 pub use walk::Walk;
 pub use whole::Whole;
 pub use wide_choice::{OneOf6, OneOf7};
-pub use widths::Width;
 pub use window::Window;

@@ -5,6 +5,7 @@ ghost use Rattle.std.specs.Prelude.{
   ◌<◌,
   ◌^◌,
   ◌+◌,
+  ◌%◌,
   ◌++◌,
   ℕ,
   Bool,
@@ -104,6 +105,32 @@ pub trait Number {
     ghost delimited: { IsDelimited is_at (λ number. number) octets fits };
 
     ghost canonical: { IsTrue one_way → IsCanonical is_at (λ number. number) octets fits };
+}
+
+/// Numbers of a fixed number of octets, which hold any number that isn't too great for them.
+pub trait FixedWidth: Number {
+    ghost width: { ℕ };
+
+    /// Returns the number of octets of each number.
+    fn width() -> usize
+        ensures { result ≡ width };
+
+    ghost each: { (number : ℕ) → Self.fits (number % 256 ^ width) };
+
+    ghost as_long: { AllHave Self.octets Self.fits width };
+}
+
+/// Returns the number that the lowest octets of a number say, as many as `N` has.
+#[inline(always)]
+#[tactic(auto, using(crate::proofs::EightOctets::lowest_octets, crate::proofs::EightOctets::all_octets))]
+pub(crate) fn lowest<N: FixedWidth>(number: usize) -> usize
+    ensures { result ≡ number % 256 ^ N.width }
+{
+    let width = N::width();
+    if width >= 8 {
+        return number;
+    }
+    number % (1 << (8 * width))
 }
 
 /// Appends octets. The caller has checked that they fit.

@@ -2,12 +2,12 @@
 ghost use Rattle.std.specs.Prelude.{◌≡◌, ◌≤◌, ◌<◌, ◌^◌, ℕ, length, true, IsNone, IfSome};
 ghost use Rattle.std.proofs.Common.{rules};
 ghost use Rattle.octseq.specs.Integer.{be, le, octets_be, octets_le};
-ghost use Rattle.octseq_format.specs.Fixed.{IsFixed, one_fixed, onward_fixed, most_fixed};
+ghost use Rattle.octseq_format.specs.Fixed.{IsFixed, one_fixed, onward_fixed, most_fixed, below_power};
 ghost use Rattle.octseq_format.specs.Fixed.{delimited_fixed, canonical_fixed};
 ghost use Rattle.octseq_format.specs.Integers.{are_be, are_le};
 
 use crate::integers::{Be, Le, U24, U48};
-use crate::number::Number;
+use crate::number::{FixedWidth, Number};
 use octseq::{AsOctets, Malformed, OctetsBuilder, Parser};
 use std::alloc::AllocError;
 
@@ -202,6 +202,19 @@ impl<T: Width> Number for Be<T> {
     ghost small = { most_fixed T.width T.few };
 }
 
+impl<T: Width> FixedWidth for Be<T> {
+    ghost width = { T.width };
+
+    #[inline(always)]
+    fn width() -> usize {
+        T::octets()
+    }
+
+    ghost each = { below_power T.width };
+
+    ghost as_long = { (are_be T.width).many };
+}
+
 impl<T: Width> Number for Le<T> {
     ghost is_at = { IsFixed T.width le };
 
@@ -261,4 +274,17 @@ impl<T: Width> Number for Le<T> {
     ghost canonical = { λ _. canonical_fixed (are_le T.width) };
 
     ghost small = { most_fixed T.width T.few };
+}
+
+impl<T: Width> FixedWidth for Le<T> {
+    ghost width = { T.width };
+
+    #[inline(always)]
+    fn width() -> usize {
+        T::octets()
+    }
+
+    ghost each = { below_power T.width };
+
+    ghost as_long = { (are_le T.width).many };
 }

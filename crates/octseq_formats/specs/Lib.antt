@@ -1,2 +1,3 @@
 pub mod Dhcp
+pub mod Png
 pub mod Tftp

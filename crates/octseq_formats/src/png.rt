@@ -1,9 +1,10 @@
 //! Chunks of PNG: its third edition, 5. A file is a signature and chunks up to `IEND`.
-ghost use Rattle.std.specs.Prelude.{◌≡◌, ◌<◌, ◌+◌, min};
+ghost use Rattle.std.specs.Prelude.{◌≡◌, ◌<◌};
+ghost use Rattle.octseq_formats.specs.Png.{shifted, stepped, crc};
 
 use octseq_format::{
-    Any, Exactly, Itself, Key, Keyed, Octets, Reckoning, Repeated, Rest, Sized, Test, Then,
-    Through, U8, U32Be, U64Be, When,
+    After, Checked, Checksum, Exactly, Octets, Repeated, Rest, Sized, Tagged, Test, U8, U32Be,
+    U64Be, When,
 };
 
 /// The eight octets with which a file begins.
@@ -21,26 +22,47 @@ impl Test for IsLength {
     }
 }
 
-/// How many octets a CRC covers, by the length before them: the type, and what the length counts.
-#[derive(Debug)]
-pub struct CoveredLen;
-
-impl Reckoning for CoveredLen {
-    ghost of = { λ len. min (len + 4) 18446744073709551615 };
-
-    fn of(len: usize) -> usize {
-        len.saturating_add(4)
+/// Divides a remainder by one bit more.
+#[tactic(auto, unfolding(crate::specs::Png::shifted))]
+fn shifted(remainder: u32) -> u32
+    ensures { result ≡ shifted remainder }
+{
+    if remainder % 2 == 1 {
+        remainder >> 1 ^ 0xEDB8_8320
+    } else {
+        remainder >> 1
     }
 }
 
-/// A chunk: the length of its data, its type and data, and a CRC of these two, which is for the caller to compare.
-pub type Chunk = Keyed<
-    Key<U32Be, Itself>,
-    When<IsLength, Then<Through<CoveredLen, Sized<Covered, 0>>, Any<U32Be>>>,
->;
+/// Divides a remainder by the eight bits of an octet more.
+#[tactic(auto, unfolding(crate::specs::Png::stepped))]
+fn stepped(remainder: u32, octet: u8) -> u32
+    ensures { result ≡ stepped remainder octet }
+{
+    let four = shifted(shifted(shifted(shifted(remainder ^ u32::from(octet)))));
+    shifted(shifted(shifted(shifted(four))))
+}
 
-/// The type of a chunk, and its data.
-pub type Covered = (Octets<4>, Rest);
+/// The CRC of a chunk (5.5): that of ISO 3309, of 32 bits.
+#[derive(Debug)]
+pub struct Crc;
+
+impl Checksum for Crc {
+    type Sum = U32Be;
+
+    ghost of = { crc };
+
+    #[tactic(auto, unfolding(crate::specs::Png::crc))]
+    fn of(octets: &[u8]) -> usize {
+        let remainder = octets
+            .iter()
+            .fold(u32::MAX, |remainder, octet| stepped(remainder, *octet));
+        (remainder ^ u32::MAX) as usize
+    }
+}
+
+/// A chunk: the length of its data; its type and its data; and the CRC of these two. The value is type and data.
+pub type Chunk = Tagged<U32Be, When<IsLength, Checked<After<Octets<4>, Sized<Rest, 0>>, Crc>>>;
 
 /// The data of `IHDR`: width and height; bit depth, colour type, and the methods of compression, filtering and
 /// interlacing.

@@ -1,43 +1,19 @@
-//! A segment of TCP: RFC 9293, 3.1. Its options are as those of IPv4 ([`HeaderOption`](crate::ipv4::HeaderOption)).
-ghost use Rattle.std.specs.Prelude.{◌≡◌, ◌≤◌, ◌-◌, ◌*◌, ◌/◌};
+//! A segment of TCP: RFC 9293, 3.1. Its options are as those of IPv4 ([`Options`](crate::ipv4::Options)).
 
 use octseq_format::{
-    Any, Itself, Key, Keyed, Reckoning, Rest, Sized, Test, Then, Through, U16Be, U32Be, When,
+    After, HighFirst, Nothing, Others, Rest, Scaled, Sized, Split, Tagged, U16Be, U32Be,
 };
 
-/// The data offset and flags of a header of five words of four octets or more.
-#[derive(Debug)]
-pub struct IsHeader;
+/// The fields of a header before its data offset: the ports of source and destination, a sequence number and one that
+/// is acknowledged.
+pub type First = (U16Be, U16Be, U32Be, U32Be);
 
-impl Test for IsHeader {
-    ghost holds = { λ bits. 5 ≤ bits / 4096 };
-
-    fn test(bits: usize) -> bool {
-        5 <= bits / 4096
-    }
-}
-
-/// How many octets of options a header has, by its data offset.
-#[derive(Debug)]
-pub struct OptionsLen;
-
-impl Reckoning for OptionsLen {
-    ghost of = { λ bits. (bits / 4096 - 5) * 4 };
-
-    fn of(bits: usize) -> usize {
-        (bits / 4096).saturating_sub(5).saturating_mul(4)
-    }
-}
-
-/// The fields of a header before its options: the ports of source and destination, a sequence number and one that is
-/// acknowledged; the data offset with the flags, a window, a checksum and an urgent pointer.
-pub type Header = (
-    (U16Be, U16Be, U32Be, U32Be),
-    (Key<U16Be, Itself>, U16Be, U16Be, U16Be),
-);
-
-/// A segment: its header, the octets of its options, and its payload.
-pub type Segment = Keyed<
-    Header,
-    When<IsHeader, Then<Through<OptionsLen, Sized<Rest, 0>>, Any<Rest>>>,
+/// The rest of a header: in two octets, the data offset, which is five words of four octets and those of the options,
+/// and the flags; a window, a checksum and an urgent pointer; and the octets of its options, which tell the data offset.
+pub type Second = Tagged<
+    U16Be,
+    After<(U16Be, U16Be, U16Be), Split<HighFirst<12>, Scaled<4, Sized<Rest, 20>>, Others<Nothing>>>,
 >;
+
+/// A segment: its header, and its payload.
+pub type Segment = (First, Second, Rest);

@@ -48,6 +48,17 @@ fn refusal<F: Format<R>, R: AsOctets + Copy>(octets: R) -> Option<Malformed> {
     F::parse_whole(octets).err()
 }
 
+/// Checks that a value isn't written.
+fn is_unwritten<'a, F: Format<&'a [u8]>>(rt: &(impl AllocGlobal + Abort), value: F::Value) {
+    let written: Result<Vec<u8>, _> = compose::<F, &'a [u8], _>(rt.alloc(), &value);
+    assert_equal!(rt, written, Err(WriteError::Malformed));
+}
+
+/// Checks that octets aren't a value.
+fn isnt_said<'a, F: Format<&'a [u8]>>(rt: &impl Abort, octets: &'a [u8]) {
+    assert_equal!(rt, refusal::<F, &[u8]>(octets), Some(Malformed));
+}
+
 /// Appends the octets of a value.
 fn append<F: Format<R>, R: AsOctets + Copy, B: OctetsBuilder + Truncate>(
     builder: &mut B,
@@ -123,6 +134,7 @@ mod limits;
 mod mqtt;
 mod ntp;
 mod numbers;
+mod parts;
 mod refused;
 mod tftp;
 mod tls;

@@ -76,22 +76,6 @@ pub fn wasm<R: AsOctets + Copy>(fields: &mut Fields, octets: R) -> Result<(), Un
     fields.end()
 }
 
-/// A CRC of 32 bits, as PNG has it.
-fn crc(octets: &[u8]) -> u32 {
-    let mut crc = 0xFFFF_FFFF_u32;
-    for octet in octets {
-        crc ^= u32::from(*octet);
-        for _ in 0..8 {
-            crc = if crc & 1 == 1 {
-                crc >> 1 ^ 0xEDB8_8320
-            } else {
-                crc >> 1
-            };
-        }
-    }
-    crc ^ 0xFFFF_FFFF
-}
-
 /// The fields of an `IHDR`.
 fn image_header<R: AsOctets + Copy>(fields: &mut Fields, octets: R) -> Result<(), Unshown> {
     let ((width, height), (depth, colour, compression), (filter, interlace)) = value::<
@@ -107,16 +91,11 @@ fn image_header<R: AsOctets + Copy>(fields: &mut Fields, octets: R) -> Result<()
     fields.number("interlace", u64::from(interlace))
 }
 
-/// The type and the length of a chunk, whose octets without their length and CRC are these.
+/// The type and the length of a chunk.
 fn chunk<R: AsOctets + Copy>(
     fields: &mut Fields,
     (kind, data): ([u8; 4], Window<R>),
-    sum: u32,
-    covered: &[u8],
 ) -> Result<[u8; 4], Unshown> {
-    if crc(covered) != sum {
-        return Err(Unshown::Malformed);
-    }
     fields.item()?;
     match str::from_utf8(kind.as_slice()) {
         Ok(text) => fields.push(text)?,
@@ -140,14 +119,8 @@ pub fn png<R: AsOctets + Copy>(fields: &mut Fields, octets: R) -> Result<(), Uns
         if parser.remaining() == 0 {
             break;
         }
-        let before = parser;
-        let (len, (covered, sum)) = next::<png::Chunk, R>(&mut parser)?;
-        let kind = chunk(
-            fields,
-            covered,
-            sum,
-            covered_octets(between(&before, &parser), len)?,
-        )?;
+        let read = next::<png::Chunk, R>(&mut parser)?;
+        let kind = chunk(fields, read)?;
         // IHDR comes first, and nothing after IEND.
         if (kind == *b"IHDR") != (taken == 0) || last == *b"IEND" {
             return Err(Unshown::Malformed);
@@ -158,13 +131,6 @@ pub fn png<R: AsOctets + Copy>(fields: &mut Fields, octets: R) -> Result<(), Uns
         return Err(Unshown::Malformed);
     }
     fields.end()
-}
-
-/// The octets of a chunk that its CRC covers.
-fn covered_octets(chunk: &[u8], len: usize) -> Result<&[u8], Unshown> {
-    chunk
-        .get(4..len.saturating_add(8))
-        .ok_or(Unshown::Malformed)
 }
 
 /// A head of CBOR: its major type, and its argument.

@@ -25,12 +25,12 @@ fn options<R: AsOctets + Copy>(fields: &mut Fields, options: Window<R>) -> Resul
 
 /// A datagram of IPv4.
 pub fn ipv4<R: AsOctets + Copy>(fields: &mut Fields, octets: R) -> Result<(), Unshown> {
-    let (header, (inside, payload)) = value::<ipv4::Datagram, R>(octets)?;
-    let ((first, _, total, id), (bits, ttl, protocol, _), (source, destination)) = header;
+    let ((first, (_, inside)), payload) = value::<ipv4::Datagram, R>(octets)?;
+    let ((_, total, id), (bits, ttl, protocol, _), (source, destination)) = first;
     if usize::from(total) != octets.as_ref().len() {
         return Err(Unshown::Malformed);
     }
-    fields.number("ihl", first as u64 % 16)?;
+    fields.number("ihl", 5 + inside.len() as u64 / 4)?;
     fields.number("total_length", u64::from(total))?;
     fields.number("id", u64::from(id))?;
     fields.number("flags", u64::from(bits / 8192))?;
@@ -45,14 +45,15 @@ pub fn ipv4<R: AsOctets + Copy>(fields: &mut Fields, octets: R) -> Result<(), Un
 
 /// A segment of TCP.
 pub fn tcp<R: AsOctets + Copy>(fields: &mut Fields, octets: R) -> Result<(), Unshown> {
-    let (header, (inside, payload)) = value::<tcp::Segment, R>(octets)?;
-    let ((source, destination, sequence, acknowledged), (bits, window, _, urgent)) = header;
+    let (first, second, payload) = value::<tcp::Segment, R>(octets)?;
+    let (source, destination, sequence, acknowledged) = first;
+    let ((window, _, urgent), (inside, (flags, _))) = second;
     fields.number("src_port", u64::from(source))?;
     fields.number("dst_port", u64::from(destination))?;
     fields.number("seq", u64::from(sequence))?;
     fields.number("ack", u64::from(acknowledged))?;
-    fields.number("data_offset", bits as u64 / 4096)?;
-    fields.number("flags", bits as u64 % 4096)?;
+    fields.number("data_offset", 5 + inside.len() as u64 / 4)?;
+    fields.number("flags", flags as u64)?;
     fields.number("window", u64::from(window))?;
     fields.number("urgent", u64::from(urgent))?;
     options(fields, inside)?;

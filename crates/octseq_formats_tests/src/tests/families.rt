@@ -1,27 +1,12 @@
 //! What a head decides: octets by hand, from the standards.
 ghost use Rattle.std.specs.Prelude.{◌≡◌, ◌/◌, ◌%◌, nat_eq};
 
-use crate::tests::{compose, is_said, refusal};
-use octseq::{Malformed, WriteError};
-use octseq_asserts::assert_equal;
+use crate::tests::{is_said, is_unwritten, isnt_said};
 use octseq_format::{
     After, Any, Case, Counted, Flag, Format, Itself, Key, KeyBits, Keyed, Leb128, Low, Octets,
     OneOf2, OneOf3, OneOf4, Reckoning, Sized, Switch, Tagged, Test, Then, Through, U8, U16Be,
     U24Be, U32Be, U32Le, U64Le, When, Within, WithinBy,
 };
-use std::alloc::AllocGlobal;
-use std::process::Abort;
-
-/// Checks that octets aren't a value.
-fn is_refused<'a, F: Format<&'a [u8]>>(rt: &impl Abort, octets: &'a [u8]) {
-    assert_equal!(rt, refusal::<F, &[u8]>(octets), Some(Malformed));
-}
-
-/// Checks that a value isn't written.
-fn is_unwritten<'a, F: Format<&'a [u8]>>(rt: &(impl AllocGlobal + Abort), value: F::Value) {
-    let written: Result<Vec<u8>, _> = compose::<F, &'a [u8], _>(rt.alloc(), &value);
-    assert_equal!(rt, written, Err(WriteError::Malformed));
-}
 
 /// A frame of HTTP/2 with a payload of eight octets: length, type, flags and stream, and the payload (RFC 9113, 4.1).
 type Frame = Keyed<(Key<U24Be, Itself>, U8, U8, U32Be), Sized<Octets<8>, 0>>;
@@ -33,8 +18,8 @@ fn a_head_may_have_the_length(rt: HostRuntime) {
         b"\0\0\x08\x06\x01\0\0\0\012345678",
         ((8, 6, 1, 0), *b"12345678"),
     );
-    is_refused::<Frame>(&rt, b"\0\0\x08\x06\x01\0\0\0\01234567");
-    is_refused::<Frame>(&rt, b"\0\0\x07\x06\x01\0\0\0\01234567");
+    isnt_said::<Frame>(&rt, b"\0\0\x08\x06\x01\0\0\0\01234567");
+    isnt_said::<Frame>(&rt, b"\0\0\x07\x06\x01\0\0\0\01234567");
     is_unwritten::<Frame>(&rt, ((7, 6, 1, 0), *b"12345678"));
 }
 
@@ -55,14 +40,14 @@ fn a_length_before_other_fields_is_computed(rt: HostRuntime) {
         b"\0\0\x08\x06\x01\0\0\0\012345678",
         ((6, 1, 0), *b"12345678"),
     );
-    is_refused::<Measured>(&rt, b"\0\0\x07\x06\x01\0\0\0\01234567");
+    isnt_said::<Measured>(&rt, b"\0\0\x07\x06\x01\0\0\0\01234567");
     is_said::<Datagram>(
         &rt,
         b"\0\x35\xC0\x01\0\x0A\x12\x34hi",
         (53, 49153, (0x1234, *b"hi")),
     );
-    is_refused::<Datagram>(&rt, b"\0\x35\xC0\x01\0\x0B\x12\x34hi");
-    is_refused::<Datagram>(&rt, b"\0\x35\xC0\x01\0\x07\x12\x34hi");
+    isnt_said::<Datagram>(&rt, b"\0\x35\xC0\x01\0\x0B\x12\x34hi");
+    isnt_said::<Datagram>(&rt, b"\0\x35\xC0\x01\0\x07\x12\x34hi");
 }
 
 /// The wire type of a field of Protocol Buffers: the lowest three bits.
@@ -97,8 +82,8 @@ fn bits_of_a_head_may_tell_what_comes(rt: HostRuntime) {
         ((2, 2), OneOf4::Third(*b"testing")),
     );
     is_said::<Field>(&rt, b"\x1D\x02\x01\0\0", ((3, 5), OneOf4::Fourth(258)));
-    is_refused::<Field>(&rt, b"\x08\x96");
-    is_refused::<Field>(&rt, b"\x0B\x01");
+    isnt_said::<Field>(&rt, b"\x08\x96");
+    isnt_said::<Field>(&rt, b"\x0B\x01");
     is_unwritten::<Field>(&rt, ((1, 5), OneOf4::First(150)));
 }
 
@@ -150,8 +135,8 @@ fn a_part_may_be_there_by_a_bit(rt: HostRuntime) {
             OneOf2::First((*b"\x37\xFA\x21\x3D", *b"\x7F\x9F\x4D\x51\x58")),
         ),
     );
-    is_refused::<Message>(&rt, b"\x81\x05Hell");
-    is_refused::<Message>(&rt, b"\x81\x85\x37\xFA\x21\x3D\x7F\x9F\x4D\x51");
+    isnt_said::<Message>(&rt, b"\x81\x05Hell");
+    isnt_said::<Message>(&rt, b"\x81\x85\x37\xFA\x21\x3D\x7F\x9F\x4D\x51");
     is_unwritten::<Message>(&rt, ((true, 0, 1, (true, 5)), OneOf2::Second(*b"Hello")));
     is_unwritten::<Message>(&rt, ((true, 0, 1, (false, 4)), OneOf2::Second(*b"Hello")));
 }
@@ -165,8 +150,8 @@ fn a_length_may_come_between(rt: HostRuntime) {
     is_said::<DhcpOption>(&rt, b"\x35\x01\x05", (53, OneOf3::First(5)));
     is_said::<DhcpOption>(&rt, b"\x33\x04\0\x01\x51\x80", (51, OneOf3::Second(86_400)));
     is_said::<DhcpOption>(&rt, b"\x39\x02\x05\xDC", (57, OneOf3::Third(1_500)));
-    is_refused::<DhcpOption>(&rt, b"\x33\x04\0\x01\x51");
-    is_refused::<DhcpOption>(&rt, b"\x33\x05\0\x01\x51\x80\0");
+    isnt_said::<DhcpOption>(&rt, b"\x33\x04\0\x01\x51");
+    isnt_said::<DhcpOption>(&rt, b"\x33\x05\0\x01\x51\x80\0");
     is_unwritten::<DhcpOption>(&rt, (53, OneOf3::Third(1_500)));
 }
 
@@ -189,7 +174,7 @@ type Attribute = Keyed<(Key<U8, Itself>, U8), WithinBy<Extended, U16Be, U8, Any<
 fn a_length_may_be_of_two_forms(rt: HostRuntime) {
     is_said::<Attribute>(&rt, b"\x40\x05\x04\0\0\0\x64", ((0x40, 5), 100));
     is_said::<Attribute>(&rt, b"\x50\x05\0\x04\0\0\0\x64", ((0x50, 5), 100));
-    is_refused::<Attribute>(&rt, b"\x50\x05\x04\0\0\0\x64");
-    is_refused::<Attribute>(&rt, b"\x40\x05\x04\0\0\0");
-    is_refused::<Attribute>(&rt, b"\x40\x05\x05\0\0\0\x64\0");
+    isnt_said::<Attribute>(&rt, b"\x50\x05\x04\0\0\0\x64");
+    isnt_said::<Attribute>(&rt, b"\x40\x05\x04\0\0\0");
+    isnt_said::<Attribute>(&rt, b"\x40\x05\x05\0\0\0\x64\0");
 }

@@ -27,7 +27,7 @@ fn ipv4_again<R: AsOctets + Copy>(rt: &(impl AllocGlobal + Abort), octets: R) ->
     let Ok(value) = <ipv4::Datagram as Format<R>>::parse_whole(octets) else {
         return None;
     };
-    let (((_, _, total, _), _, _), (options, _)) = value;
+    let ((((_, total, _), _, _), (_, options)), _) = value;
     if usize::from(total) != octets.as_ref().len() || !are_options(options) {
         return None;
     }
@@ -68,7 +68,7 @@ fn tcp_again<R: AsOctets + Copy>(rt: &(impl AllocGlobal + Abort), octets: R) -> 
     let Ok(value) = <tcp::Segment as Format<R>>::parse_whole(octets) else {
         return None;
     };
-    let (_, (options, _)) = value;
+    let (_, (_, (options, _)), _) = value;
     if !are_options(options) {
         return None;
     }
