@@ -54,7 +54,6 @@ fn section<R: AsOctets + Copy>(fields: &mut Fields, octets: R) -> Result<u8, Uns
 
 /// The sections of a module of WebAssembly.
 pub fn wasm<R: AsOctets + Copy>(fields: &mut Fields, octets: R) -> Result<(), Unshown> {
-    value::<wasm::Module, R>(octets)?;
     let mut parser = Parser::from_ref(octets);
     next::<wasm::Header, R>(&mut parser)?;
     let mut last = 0;
@@ -108,7 +107,6 @@ fn chunk<R: AsOctets + Copy>(
 
 /// The chunks of a file of PNG.
 pub fn png<R: AsOctets + Copy>(fields: &mut Fields, octets: R) -> Result<(), Unshown> {
-    value::<png::File, R>(octets)?;
     let all = octets.as_ref();
     image_header(fields, all.get(16..29).ok_or(Unshown::Malformed)?)?;
     let mut parser = Parser::from_ref(octets);

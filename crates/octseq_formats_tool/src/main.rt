@@ -19,7 +19,7 @@ mod sessions;
 
 /// What the program says where the argument names no format.
 const USAGE: &str = "\
-usage: octseq_formats_tool FORMAT < PACKETS
+usage: ./formats FORMAT < PACKETS
 
 It reads a packet in hexadecimal a line, and writes a line with its fields as JSON has them, or malformed. With named in
 place of a format, each line names its format, before a space and the packet. The formats:

@@ -78,9 +78,6 @@ fn frame(
     bits: u64,
     len: usize,
 ) -> Result<(), Unshown> {
-    if len > 0x7FFF_FFFF_FFFF_FFFF {
-        return Err(Unshown::Malformed);
-    }
     fields.number("fin", first as u64 / 128)?;
     fields.number("rsv", first as u64 / 16 % 8)?;
     fields.number("opcode", first as u64 % 16)?;
