@@ -5,7 +5,7 @@ use Rattle.std.specs.Prelude.{IsErr, OnOk}
 use Rattle.octseq.specs.Limit.{IsPast}
 use Rattle.octseq.specs.Refusal.{IsMemory, IsShort, append_error}
 use Rattle.octseq.specs.declared.AppendError.{AppendError}
-use Rattle.octseq_dns.proofs.Anew.{all_longer}
+use Rattle.octseq_c.proofs.Anew.{all_longer}
 use Rattle.octseq_dns.proofs.HeaderRead.{header_length}
 use Rattle.octseq_dns.proofs.Pushed.{header_set, twelve_first}
 use Rattle.octseq_dns.proofs.Stages.{asked, of_sections}

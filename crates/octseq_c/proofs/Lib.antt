@@ -1,3 +1,4 @@
+pub mod Anew
 pub mod AnswerBegun
 pub mod Appended
 pub mod OneAnswer

@@ -1,9 +1,8 @@
 -- A message is composed anew in one way.
-use Rattle.std.proofs.Common.{◌≡◌, ℕ, List, [], ◌∷◌, ◌⊎◌, inl, inr, ap, sym, ◌∙◌, subst}
-use Rattle.std.specs.List.{AllByRecursion}
+use Rattle.std.proofs.Common.{◌≡◌, ℕ, List, [], ◌∷◌, ◌++◌, ◌⊎◌, inl, inr, ap, sym, ◌∙◌, subst}
 use Rattle.octseq_dns.specs.Contents as contents
 use Rattle.octseq_dns.specs.Contents.{octets_of}
-use Rattle.octseq_dns.specs.Moved.{CanMove, CanMoveRecord}
+use Rattle.octseq_dns.specs.Moved.{CanMove}
 use Rattle.octseq.specs.Refusal.{Is, Refusal}
 use Rattle.octseq_dns.specs.Rewritten.{IsMessageOf, rewrite_error}
 use Rattle.octseq_dns.specs.declared.rewriting.RewriteError.{RewriteError}
@@ -19,8 +18,9 @@ pub moved_contents : {h k : Header} {q r : List Question} {a x b y d z : List Re
 moved_contents m h q a b d is = subst (λ i. i) (λ i. IsMessageOf (h i) (q i) (a i) (b i) (d i) m) is
 
 -- so is whether its data can be moved
-pub moved_can : {a x b y d z : List Record} → x ≡ a → y ≡ b → z ≡ d → CanMove x y z → CanMove a b d
-moved_can a b d is = subst (λ i. i) (λ i. CanMove (a i) (b i) (d i)) is
+pub moved_can : {a x b y d z : List Record} → x ≡ a → y ≡ b → z ≡ d → CanMove (x ++ (y ++ z))
+    → CanMove (a ++ (b ++ d))
+moved_can a b d is = subst (λ i. i) (λ i. CanMove (a i ++ (b i ++ d i))) is
 
 pub one_rewriting : (octets made other : List ℕ) → IsRewritten octets made → IsRewritten octets other → made ≡ other
 one_rewriting octets made other a b =
@@ -37,18 +37,10 @@ not_both octets made a b =
 
 -- ---- data that isn't immovable can be moved
 
-stable_all : (records : List Record) → ¬ ¬ AllByRecursion CanMoveRecord records → AllByRecursion CanMoveRecord records
-stable_all [] nn = tt
-stable_all (r ∷ records) nn =
-    ((λ unknown some names. nn (λ all. all.0 unknown some names)), stable_all records (λ n. nn (λ all. n all.1)))
-
-pub stable : (answers authorities additionals : List Record) → ¬ ¬ CanMove answers authorities additionals
-    → CanMove answers authorities additionals
-stable answers authorities additionals nn = (
-  stable_all answers (λ n. nn (λ all. n all.0)),
-  stable_all authorities (λ n. nn (λ all. n all.1)),
-  stable_all additionals (λ n. nn (λ all. n all.2)),
-)
+pub stable : (records : List Record) → ¬ ¬ CanMove records → CanMove records
+stable [] nn = tt
+stable (r ∷ records) nn =
+    ((λ unknown some names. nn (λ all. all.0 unknown some names)), stable records (λ n. nn (λ all. n all.1)))
 
 -- ---- a refusal is never for memory
 

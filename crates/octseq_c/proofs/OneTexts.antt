@@ -10,7 +10,7 @@ use Rattle.octseq_dns_message.specs.Entry.{Question, Record}
 use Rattle.octseq_dns_message.specs.Message.{IsMessage}
 use Rattle.octseq_dns_message.specs.MessageText.{IsMessageText}
 use Rattle.octseq_dns_message.specs.declared.header.Header.{Header}
-use Rattle.octseq_dns_name.proofs.Spellings.{name_once}
+use Rattle.octseq_dns_name.proofs.Readings.{name_once}
 use Rattle.octseq_dns_name.specs.OneName.{one_name}
 use Rattle.octseq_dns_name.specs.Text.{name_text}
 use Rattle.octseq_dns_name.specs.Wire.{wire}

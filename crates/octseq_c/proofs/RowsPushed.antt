@@ -7,7 +7,7 @@ use Rattle.std.specs.Prelude.{nat_eq}
 use Rattle.octseq_dns.specs.Contents.{Message, Record, octets_of, record_entry}
 use Rattle.octseq_dns.specs.State.{State, with_entry}
 use Rattle.octseq_dns.specs.Writes.{TakesRecords, Writes, all_more}
-use Rattle.octseq_dns.proofs.Anew.{Ahead, ahead_next, ahead_none, ahead_past, all_longer}
+use Rattle.octseq_c.proofs.Anew.{Ahead, ahead_next, ahead_none, ahead_past, all_longer}
 use Rattle.octseq_dns_message.specs.declared.header.Header.{Header}
 use Rattle.octseq_dns_message.specs.declared.header.HeaderCounts.{HeaderCounts}
 use Rattle.octseq_c.specs.Made.{IsRecordAt, in_section, places_kept}

@@ -31,7 +31,7 @@ pub record IsRewritten (octets made : List ℕ) : Type 0 where
   pub authorities : List Record
   pub additionals : List Record
   pub message : IsMessage octets header questions answers authorities additionals
-  pub moved : CanMove answers authorities additionals
+  pub moved : CanMove (answers ++ (authorities ++ additionals))
   pub contents : contents.Message
   pub same : IsMessageOf header questions answers authorities additionals contents
   pub made_is : made ≡ octets_of places_kept contents
@@ -44,7 +44,7 @@ pub record IsImmovable (octets : List ℕ) : Type 0 where
   pub authorities : List Record
   pub additionals : List Record
   pub message : IsMessage octets header questions answers authorities additionals
-  pub stays : ¬ CanMove answers authorities additionals
+  pub stays : ¬ CanMove (answers ++ (authorities ++ additionals))
 
 -- ---- a query
 

@@ -6,7 +6,7 @@ ghost use Rattle.octseq_dns.specs.Contents.{octets_of};
 ghost use Rattle.octseq_dns.specs.Contents as contents;
 ghost use Rattle.octseq_dns.specs.Moved.{CanMove};
 ghost use Rattle.octseq_dns.specs.Owned.{owned_labels};
-ghost use Rattle.octseq_dns.specs.Parsed.{answers_of, authorities_of, additionals_of};
+ghost use Rattle.octseq_dns.specs.Parsed.{records_of};
 ghost use Rattle.octseq_dns.specs.Rewritten.{IsContentsOf, rewrite_error};
 ghost use Rattle.octseq_dns.specs.Wire.{wire};
 ghost use Rattle.octseq_c.specs.Made.{IsImmovable, IsQuery, IsRewritten, places_kept, query_header};
@@ -71,8 +71,7 @@ fn rewritten<'a>(
 ) -> Result<&'a mut MessageOctets, RewriteError>
     ensures made { IfOk result (λ made. (m : contents.Message) × IsContentsOf message.now m
         × (made.now.content ≡ octets_of places_kept m)) }
-    ensures immovable { IsMalformed rewrite_error result
-        ↔ ¬ CanMove (answers_of message.now) (authorities_of message.now) (additionals_of message.now) }
+    ensures immovable { IsMalformed rewrite_error result ↔ ¬ CanMove (records_of message.now) }
     ensures short { IsShort rewrite_error result → (m : contents.Message) → IsContentsOf message.now m
         → 65535 < length (octets_of places_kept m) }
     ensures only { IsOk result ⊎ IsMalformed rewrite_error result ⊎ IsShort rewrite_error result }

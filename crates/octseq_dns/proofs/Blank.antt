@@ -1,58 +1,31 @@
 -- A message to which nothing was pushed.
-use Rattle.std.proofs.Common.{◌≡◌, ℕ, ◌<◌, List, [], ◌∷◌, length, refl, sym, ap, ◌∙◌, subst, arith}
+use Rattle.std.proofs.Common.{◌≡◌, ℕ, List, [], ◌++◌, map, sym, ◌∙◌, subst}
 use Rattle.std.proofs.Math.Logic.{∥∥₁_elim}
-use Rattle.std.specs.Coded.{Coded-set, le_prop}
-use Rattle.octseq_dns_compress.specs.State.{State, state_code}
+use Rattle.std.proofs.lemmas.List.{nil_from_length}
+use Rattle.std.specs.Coded.{Coded-set}
+use Rattle.octseq_dns_compress.specs.State.{State, state_code, with_entries, with_header}
 use Rattle.octseq_dns_message.specs.declared.header.Header.{Header}
 use Rattle.octseq_dns_message.specs.declared.header.HeaderCounts.{HeaderCounts}
-use Rattle.octseq_dns.specs.Contents.{Message, composed}
-use Rattle.octseq_dns.specs.Writes.{IsBuilt, NothingYet, Writes}
-use Rattle.octseq_dns.proofs.Stages.{of_sections}
+use Rattle.octseq_dns.specs.Contents.{Message, counts_of, entries_of, headed, header_octets, question_entry, record_entry}
+use Rattle.octseq_dns.specs.Writes.{IsBuilt, NothingYet}
+use Rattle.octseq_dns.proofs.Pushed.{headed_anew}
 
--- a list of length 0 is empty
-as_none : {A : Type 0} (row : List A) → length row ≡ 0 → [] ≡ row
-as_none [] none = refl
-as_none (x ∷ row) none = absurd (omega (arith, none))
+no_entries : (m : Message) → NothingYet (counts_of m) → entries_of m ≡ []
+no_entries m none = λ i. map question_entry (nil_from_length m.questions none.0 i)
+    ++ map record_entry (nil_from_length m.answers none.1 i ++ (nil_from_length m.authorities none.2 i
+    ++ nil_from_length m.additionals none.3 i))
 
-module _ (most : ℕ) (state : State) (header : Header) (counts : HeaderCounts)
-    (built : IsBuilt most state header counts NothingYet) where
-  -- it has only its header
-  only : (m : Message) → Writes most m state header counts → m ≡ of_sections header [] [] [] []
-  only m is =
-      let none = built.1 in
-      let questions = as_none m.questions (sym (ap (λ c. c.qdcount) is.counts_are) ∙ none.0) in
-      let answers = as_none m.answers (sym (ap (λ c. c.ancount) is.counts_are) ∙ none.1) in
-      let authorities = as_none m.authorities (sym (ap (λ c. c.nscount) is.counts_are) ∙ none.2) in
-      let additionals = as_none m.additionals (sym (ap (λ c. c.arcount) is.counts_are) ∙ none.3) in
-      sym (λ i. of_sections (is.header_is i) (questions i) (answers i) (authorities i) (additionals i))
+-- it is its header
+pub blank_is : {most : ℕ} {state : State} {header : Header} {counts : HeaderCounts}
+    → IsBuilt most state header counts NothingYet → state ≡ headed header counts
+blank_is {most = most} {state = state} {header = header} {counts = counts} built =
+    ∥∥₁_elim built.0 (Coded-set state_code state (headed header counts)) (λ w.
+    w.1.state_is ∙ (λ i. with_entries most (headed (sym w.1.header_is i) (sym w.1.counts_are i))
+    (no_entries w.0 (subst NothingYet w.1.counts_are built.1) i)))
 
-  pub blank_built : Writes most (of_sections header [] [] [] []) state header counts
-  blank_built = record {
-    state_is = ∥∥₁_elim built.0 (Coded-set state_code state (composed most (of_sections header [] [] [] [])))
-        (λ w. w.1.state_is ∙ ap (composed most) (only w.0 w.1));
-    header_is = refl;
-    counts_are = λ i. record {
-      qdcount = built.1.0 i;
-      ancount = built.1.1 i;
-      nscount = built.1.2 i;
-      arcount = built.1.3 i;
-    };
-    fits = record {
-      header = record {
-        id = ∥∥₁_elim built.0 le_prop
-            (λ w. subst (λ (h : Header). h.id < 65536) (sym w.1.header_is) w.1.fits.header.id);
-        opcode = ∥∥₁_elim built.0 le_prop
-            (λ w. subst (λ (h : Header). h.opcode < 16) (sym w.1.header_is) w.1.fits.header.opcode);
-        rcode = ∥∥₁_elim built.0 le_prop
-            (λ w. subst (λ (h : Header). h.rcode < 16) (sym w.1.header_is) w.1.fits.header.rcode);
-      };
-      questions = tt;
-      answers = tt;
-      authorities = tt;
-      additionals = tt;
-      qdcount = omega arith;
-      ancount = omega arith;
-      nscount = omega arith;
-      arcount = omega arith;
-    };
-  }
+-- so it can be begun with another header
+pub begun_anew : {most : ℕ} {state new : State} {header : Header} {counts : HeaderCounts} {put : List ℕ}
+    (other : Header) (now : HeaderCounts) → IsBuilt most state header counts NothingYet → put ≡ header_octets other now → new ≡ with_header state put
+    → new ≡ headed other now
+begun_anew {header = header} {counts = counts} other now built put_is new_is =
+    new_is ∙ (λ i. with_header (blank_is built i) (put_is i)) ∙ sym (headed_anew header other counts now)

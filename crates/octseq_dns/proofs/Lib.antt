@@ -1,9 +1,9 @@
-pub mod Anew
 pub mod Blank
 pub mod EntriesRead
 pub mod FieldParts
 pub mod Framing
 pub mod HeaderRead
+pub mod LeastLimit
 pub mod Moving
 pub mod Onward
 pub mod OptRead
@@ -14,3 +14,4 @@ pub mod Spelled
 pub mod Stages
 pub mod OnlyRecord
 pub mod WrittenWhole
+pub mod Zips

@@ -13,7 +13,7 @@ use Rattle.octseq_dns_data.specs.Data.{ParsedRdata, HasRdata, HasOctets, HasStri
 use Rattle.octseq_dns_message.specs.RecordData.{IsDataOf}
 use Rattle.octseq_dns_data.specs.Data.{naptr_form}
 use Rattle.octseq_dns_data.specs.Data.{rtype_of as parsed_rtype}
-use Rattle.octseq_dns_data.specs.Local.{LocalType, IsOfClass, form, local_number}
+use Rattle.octseq_dns_data.specs.Local.{IsOfClass, form}
 use Rattle.octseq_dns_data.proofs.Rdata.{in_message, naptr_from}
 use Rattle.octseq_dns_message.specs.Entry.{Record}
 use Rattle.octseq_dns_data.specs.Format.{IsNumber}
@@ -138,8 +138,8 @@ octets_whole r octets has =
     )
 
 -- data that fills its window is read by itself
-local_read : (r : Record) (k : LocalType) (octets : List ℕ) → HasFields r (Field.octets octets ∷ [])
-    → FitsRdata (Rdata.local k octets) → r.rtype ≡ local_number k → IsOfClass k r.class
+local_read : (r : Record) (k : ℕ) (octets : List ℕ) → HasFields r (Field.octets octets ∷ [])
+    → FitsRdata (Rdata.local k octets) → r.rtype ≡ k → IsOfClass k r.class
     → IsReadAs r (Rdata.local k octets)
 local_read r k octets has fits rtype class =
     let whole = octets_whole r octets has in

@@ -1,65 +1,64 @@
 -- A message whose header came first, followed by all its entries.
-use Rattle.std.proofs.Common.{◌≡◌, ℕ, suc, ◌≤◌, List, [], ◌∷◌, length, refl, sym, ap, ◌∙◌, subst, arith}
-use Rattle.std.proofs.lemmas.List.{length-map}
-use Rattle.std.specs.List.{AllZip}
+use Rattle.std.proofs.Common.{◌≡◌, ℕ, ◌≤◌, ◌++◌, Option, List, length, map, refl, sym, ap, ◌∙◌, subst, arith}
+use Rattle.std.specs.List.{AllByRecursion}
+use Rattle.octseq.specs.Limit.{IsPast}
+use Rattle.octseq.proofs.Limits.{past_more}
 use Rattle.octseq_dns_compress.specs.State.{State, with_entries}
-use Rattle.octseq_dns_message.specs.Entry as entry
+use Rattle.octseq_dns_compress.proofs.Fields.{entries_grow, entries_more}
+use Rattle.octseq_dns_compress.proofs.Steps.{grown_length}
 use Rattle.octseq_dns_message.specs.declared.header.Header.{Header}
 use Rattle.octseq_dns_message.specs.declared.header.HeaderCounts.{HeaderCounts}
-use Rattle.octseq_dns.specs.Contents.{FitsHeader, Message, Record, composed, counts_of, entries_of, headed}
-use Rattle.octseq_dns.specs.Rewritten.{IsMessageOf, IsRecordOf}
-use Rattle.octseq_dns.specs.Whole.{FitEntries}
+use Rattle.octseq_dns.specs.Contents.{FitsHeader, FitsQuestion, FitsRecord, Message, composed, counts_of, headed}
+use Rattle.octseq_dns.specs.Contents.{octets_of, question_entry, record_entry, records_in}
 use Rattle.octseq_dns.specs.Writes.{Writes}
-use Rattle.octseq_dns.specs.ReadBack.{bare}
+use Rattle.octseq_dns.proofs.Zips.{all_cut}
 
--- as many are written as were read
-same_count : (records : List entry.Record) (written : List Record) → AllZip IsRecordOf records written
-    → length written ≡ length records
-same_count [] [] are = refl
-same_count [] (one ∷ written) are = absurd are
-same_count (r ∷ records) [] are = absurd are
-same_count (r ∷ records) (one ∷ written) are = ap suc (same_count records written are.1)
+module _ (most : ℕ) {first : State} {header : Header} {counts : HeaderCounts} (m : Message) (header_is : header ≡ m.header)
+    (counts_are : counts ≡ counts_of m) (begun : first ≡ headed header counts) where
+  -- the questions are appended, then the records
+  pub whole_is : {second : State} → second ≡ with_entries most first (map question_entry m.questions)
+      → with_entries most second (map record_entry (records_in m)) ≡ composed most m
+  whole_is asked = ap (λ s. with_entries most s (map record_entry (records_in m))) asked
+      ∙ sym (entries_more most first (map question_entry m.questions) (map record_entry (records_in m)))
+      ∙ ap (λ s. with_entries most s (map question_entry m.questions ++ map record_entry (records_in m)))
+      (begun ∙ (λ i. headed (header_is i) (counts_are i)))
 
-module _ (most : ℕ) (header : Header) (questions : List entry.Question)
-    (answers authorities additionals : List entry.Record) (counts : HeaderCounts) (m : Message)
-    (is : IsMessageOf header questions answers authorities additionals m)
-    (qdcount : counts.qdcount ≡ length questions) (ancount : counts.ancount ≡ length answers)
-    (nscount : counts.nscount ≡ length authorities) (arcount : counts.arcount ≡ length additionals) where
-  counts_are : counts ≡ counts_of m
-  counts_are =
-      let asked = ap length is.questions_are ∙ length-map questions bare in
-      let one = qdcount ∙ sym asked in
-      let two = ancount ∙ sym (same_count answers m.answers is.answers_are) in
-      let three = nscount ∙ sym (same_count authorities m.authorities is.authorities_are) in
-      let four = arcount ∙ sym (same_count additionals m.additionals is.additionals_are) in
-      λ i. record { qdcount = one i; ancount = two i; nscount = three i; arcount = four i }
+  -- it exceeds a limit if its questions do
+  pub asked_past : (limit : Option ℕ)
+      → IsPast limit (length (with_entries most first (map question_entry m.questions)).octets)
+      → IsPast limit (length (octets_of most m))
+  asked_past limit past =
+      let second = with_entries most first (map question_entry m.questions) in
+      let longer = grown_length second.octets (with_entries most second (map record_entry (records_in m))).octets
+      (entries_grow most second (map record_entry (records_in m))) in
+      let same = ap (λ s. length s.octets) (whole_is refl) in
+      past_more limit (length second.octets) (length (octets_of most m)) (omega (arith, longer, same)) past
 
-  -- it begins with its header
-  headed_is : headed header counts ≡ headed m.header (counts_of m)
-  headed_is = λ i. headed (sym is.header_is i) (counts_are i)
+  pub whole_past : {second : State} (limit : Option ℕ) → second ≡ with_entries most first (map question_entry m.questions)
+      → IsPast limit (length (with_entries most second (map record_entry (records_in m))).octets)
+      → IsPast limit (length (octets_of most m))
+  whole_past limit asked past = subst (λ s. IsPast limit (length s.octets)) (whole_is asked) past
 
-  pub whole_is : (first state : State) → first ≡ headed header counts → state ≡ with_entries most first (entries_of m)
-      → state ≡ composed most m
-  whole_is first state begun added =
-      added ∙ ap (λ s. with_entries most s (entries_of m)) (begun ∙ headed_is)
-
-  pub whole_written : (first state : State) → first ≡ headed header counts
-      → state ≡ with_entries most first (entries_of m) → FitsHeader header → FitEntries m
-      → counts.qdcount ≤ 65535 → counts.ancount ≤ 65535 → counts.nscount ≤ 65535 → counts.arcount ≤ 65535
-      → Writes most m state header counts
-  whole_written first state begun added fits_header fit q a n d = record {
-    state_is = whole_is first state begun added;
-    header_is = sym is.header_is;
-    counts_are = counts_are;
-    fits = record {
-      header = subst FitsHeader (sym is.header_is) fits_header;
-      questions = fit.questions;
-      answers = fit.answers;
-      authorities = fit.authorities;
-      additionals = fit.additionals;
-      qdcount = (let same = ap (λ c. c.qdcount) counts_are in omega (arith, same, q));
-      ancount = (let same = ap (λ c. c.ancount) counts_are in omega (arith, same, a));
-      nscount = (let same = ap (λ c. c.nscount) counts_are in omega (arith, same, n));
-      arcount = (let same = ap (λ c. c.arcount) counts_are in omega (arith, same, d));
-    };
-  }
+  pub whole_written : {second third : State} → second ≡ with_entries most first (map question_entry m.questions)
+      → third ≡ with_entries most second (map record_entry (records_in m)) → FitsHeader header
+      → AllByRecursion FitsQuestion m.questions → AllByRecursion FitsRecord (records_in m) → counts.qdcount ≤ 65535
+      → counts.ancount ≤ 65535 → counts.nscount ≤ 65535 → counts.arcount ≤ 65535 → Writes most m third header counts
+  whole_written asked listed fits questions records q a n d =
+      let first = all_cut FitsRecord m.answers (m.authorities ++ m.additionals) records in
+      let more = all_cut FitsRecord m.authorities m.additionals first.1 in
+      record {
+        state_is = listed ∙ whole_is asked;
+        header_is = header_is;
+        counts_are = counts_are;
+        fits = record {
+          header = subst FitsHeader header_is fits;
+          questions = questions;
+          answers = first.0;
+          authorities = more.0;
+          additionals = more.1;
+          qdcount = subst (λ c. c.qdcount ≤ 65535) counts_are q;
+          ancount = subst (λ c. c.ancount ≤ 65535) counts_are a;
+          nscount = subst (λ c. c.nscount ≤ 65535) counts_are n;
+          arcount = subst (λ c. c.arcount ≤ 65535) counts_are d;
+        };
+      }

@@ -62,10 +62,13 @@ record_entry r = record {
   data_fields = Some r.fields;
 }
 
+-- the records of all three sections
+abbrev pub records_in : Message → List Record
+records_in m = m.answers ++ (m.authorities ++ m.additionals)
+
 -- all entries, section by section
 abbrev pub entries_of : Message → List Entry
-entries_of m =
-    map question_entry m.questions ++ map record_entry (m.answers ++ (m.authorities ++ m.additionals))
+entries_of m = map question_entry m.questions ++ map record_entry (records_in m)
 
 -- a header, with no names that pointers may lead to
 abbrev pub headed : Header → HeaderCounts → State

@@ -2,7 +2,7 @@
 use Rattle.std.specs.Prelude.{ℕ, ◌+◌, length}
 use Rattle.std.specs.List.{sum_by}
 use Rattle.octseq_dns_compress.specs.State.{label_count}
-use Rattle.octseq_dns.specs.Contents.{Question, Record, Message}
+use Rattle.octseq_dns.specs.Contents.{Question, Record, Message, records_in}
 
 abbrev pub question_labels : Question → ℕ
 question_labels q = length q.labels
@@ -12,5 +12,4 @@ abbrev pub record_labels : Record → ℕ
 record_labels r = length r.labels + label_count r.fields
 
 abbrev pub labels_in : Message → ℕ
-labels_in m = sum_by question_labels m.questions + (sum_by record_labels m.answers
-    + (sum_by record_labels m.authorities + sum_by record_labels m.additionals))
+labels_in m = sum_by question_labels m.questions + sum_by record_labels (records_in m)

@@ -1,4 +1,5 @@
 pub mod Answering
+pub mod Appended
 pub mod Blank
 pub mod Contents
 pub mod FrameReader
@@ -15,14 +16,14 @@ pub mod RewriteShown
 pub mod Rewritten
 pub mod Sections
 pub mod TxtWritten
-pub mod Whole
 pub mod Writes
 pub use Rattle.octseq_dns_compress.specs.Composed
 pub use Rattle.octseq_dns_compress.specs.Fields
 pub use Rattle.octseq_dns_compress.specs.Fits
 pub use Rattle.octseq_dns_compress.specs.Names
 pub use Rattle.octseq_dns_compress.specs.State
-pub use Rattle.octseq_dns_data.specs.BaseText
+pub use Rattle.octseq_dns_data.specs.Base32hex
+pub use Rattle.octseq_dns_data.specs.Base64
 pub use Rattle.octseq_dns_data.specs.Data
 pub use Rattle.octseq_dns_data.specs.DataText
 pub use Rattle.octseq_dns_data.specs.Form
@@ -53,6 +54,7 @@ pub use Rattle.octseq_dns_message.specs.Flag
 pub use Rattle.octseq_dns_message.specs.Header
 pub use Rattle.octseq_dns_message.specs.HeaderText
 pub use Rattle.octseq_dns_message.specs.Limited
+pub use Rattle.octseq_dns_message.specs.Listed
 pub use Rattle.octseq_dns_message.specs.Message
 pub use Rattle.octseq_dns_message.specs.MessageOpt
 pub use Rattle.octseq_dns_message.specs.MessageText
@@ -64,6 +66,7 @@ pub use Rattle.octseq_dns_message.specs.OptionData
 pub use Rattle.octseq_dns_message.specs.Parsed
 pub use Rattle.octseq_dns_message.specs.RecordData
 pub use Rattle.octseq_dns_message.specs.Said
+pub use Rattle.octseq_dns_message.specs.Section
 pub use Rattle.octseq_dns_message.specs.TypedOption
 pub use Rattle.octseq_dns_message.specs.Walk
 pub use Rattle.octseq_dns_name.specs.Name

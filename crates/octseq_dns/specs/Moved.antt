@@ -28,7 +28,6 @@ IsUnknown r = (rdata : ParsedRdata) → ¬ IsTyped r rdata
 abbrev pub CanMoveRecord : Record → Type 0
 CanMoveRecord r = IsUnknown r → 0 < left r.rdata → ¬ IsTrue (may_have_names r.rtype r.class)
 
--- all records of a message can be moved
-abbrev pub CanMove : List Record → List Record → List Record → Type 0
-CanMove answers authorities additionals = AllByRecursion CanMoveRecord answers
-    × AllByRecursion CanMoveRecord authorities × AllByRecursion CanMoveRecord additionals
+-- all of these records can be moved
+abbrev pub CanMove : List Record → Type 0
+CanMove records = AllByRecursion CanMoveRecord records

@@ -7,7 +7,7 @@ use Rattle.octseq.specs.Window.{rest}
 use Rattle.octseq_dns_compress.specs.Fits.{NameFits}
 use Rattle.octseq_dns_compress.specs.State.{Field}
 use Rattle.octseq_dns_data.specs.Data.{ParsedRdata, naptr_form, naptr_parts}
-use Rattle.octseq_dns_data.specs.Local.{LocalType, form, local_number}
+use Rattle.octseq_dns_data.specs.Local.{form}
 use Rattle.octseq_dns_data.specs.Local.{IsOfClass as IsLocalClass}
 use Rattle.octseq_dns_message.specs.RecordData.{IsTyped}
 use Rattle.octseq_dns_message.specs.Entry.{Record}
@@ -15,8 +15,8 @@ use Rattle.octseq_dns_name.specs.Wire.{wire}
 use Rattle.octseq_dns_data.specs.Rtype as types
 
 -- The preference and the labels of MX data, the labels of both names and the five numbers of SOA data, the three
--- numbers and the labels of SRV data, and the parts of NAPTR data; the octets of data that is read by itself; the
--- number of an unknown type, and the octets.
+-- numbers and the labels of SRV data, and the parts of NAPTR data; the number of a type that is read by itself, and the
+-- octets of its data; the number of an unknown type, and the octets.
 pub data Rdata : Type 0 where
   a : List ℕ → Rdata
   aaaa : List ℕ → Rdata
@@ -28,7 +28,7 @@ pub data Rdata : Type 0 where
   txt : List (List ℕ) → Rdata
   srv : ℕ → ℕ → ℕ → List (List ℕ) → Rdata
   naptr : naptr_form.Said → Rdata
-  local : LocalType → List ℕ → Rdata
+  local : ℕ → List ℕ → Rdata
   unknown : ℕ → List ℕ → Rdata
 
 -- the values of data that was read
@@ -59,7 +59,7 @@ rtype_of (Rdata.soa _ _ _ _ _ _ _) = types.soa
 rtype_of (Rdata.txt _) = types.txt
 rtype_of (Rdata.srv _ _ _ _) = types.srv
 rtype_of (Rdata.naptr _) = types.naptr
-rtype_of (Rdata.local k _) = local_number k
+rtype_of (Rdata.local rtype _) = rtype
 rtype_of (Rdata.unknown rtype _) = rtype
 
 -- Its fields. Only names in the types of RFC 1035 are compressed: RFC 3597, 4.

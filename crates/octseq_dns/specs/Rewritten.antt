@@ -1,19 +1,22 @@
 -- A message that was read, as one that is written.
-use Rattle.std.specs.Prelude.{◌≡◌, Bool, ◌||◌, List, map, nat_eq}
+use Rattle.std.specs.Prelude.{◌≡◌, ℕ, Bool, Option, None, List, length, map, nat_eq}
 use Rattle.std.specs.List.{AllZip, list_any}
 use Rattle.octseq_dns_data.specs.Data.{ParsedRdata}
 use Rattle.octseq_dns_data.specs.Rtype as types
 use Rattle.octseq_dns_message.specs.RecordData.{IsDataOf}
 use Rattle.octseq_dns_message.specs.Entry as entry
 use Rattle.octseq_dns_message.specs.Parsed.{header_of, questions_of, answers_of, authorities_of, additionals_of}
+use Rattle.octseq_dns_message.specs.Parsed.{records_of}
 use Rattle.octseq_dns_message.specs.declared.message.Message.{Message as Parsed}
 use Rattle.octseq_dns_message.specs.declared.header.Header.{Header}
+use Rattle.octseq.specs.Limit.{IsWithin}
 use Rattle.octseq.specs.Refusal.{Refusal}
 use Rattle.octseq.specs.declared.AsOctets.{Ghosts}
 use Rattle.octseq_dns.specs.declared.rewriting.RewriteError.{RewriteError}
 use Rattle.octseq_dns.specs.Contents.{Question, Record, Message}
 use Rattle.octseq_dns.specs.Rdata.{bare_rdata, rdata_fields}
 use Rattle.octseq_dns.specs.ReadBack.{bare}
+use Rattle.octseq_dns.specs.Writes.{Building, Writes}
 
 -- the record that is written for one that was read with this data
 abbrev pub record_of_parsed : entry.Record → ParsedRdata → Record
@@ -53,9 +56,14 @@ IsContentsOf parsed m = IsMessageOf (header_of parsed) (questions_of parsed) (an
 abbrev pub any_opt : List entry.Record → Bool
 any_opt records = list_any (λ (r : entry.Record). nat_eq r.rtype types.opt) records
 
--- whether a record of any section is
-abbrev pub any_opt_in : List entry.Record → List entry.Record → List entry.Record → Bool
-any_opt_in answers authorities additionals = any_opt answers || (any_opt authorities || any_opt additionals)
+-- A message that was read was rewritten into a builder, within a limit. No push limit is set.
+pub record IsRewritten {R B T : Type 0} {g : Ghosts R} (most : ℕ) (limit : Option ℕ) (source : Parsed R g)
+    (b : Building B T) : Type 0 where
+  pub written : (m : Message) → IsContentsOf source m → Writes most m b.state b.header b.counts
+  pub contents : (m : Message) × IsContentsOf source m
+  pub fits : IsWithin limit (length b.state.octets)
+  pub push_limit : b.push_limit ≡ None
+  pub has_opt : b.has_opt ≡ any_opt (records_of source)
 
 -- why a message wasn't rewritten
 abbrev pub rewrite_error : RewriteError → Refusal

@@ -157,13 +157,6 @@ impl<B: OctetsBuilder + Truncate + AsOctetsMut, T: Compressor, S: Section> Secti
         self.message.as_slice()
     }
 
-    /// The message has nothing after its section. The call does nothing.
-    fn is_built(&self)
-        ensures { IsBuilt T.most self.now.state self.now.header self.now.counts S.reaches }
-    {
-        let _header = self.header;
-    }
-
     /// Continues with a later section.
     fn next_section<N: Section>(self) -> SectionBuilder<B, T, N>
         requires { S.reaches self.counts → N.reaches self.counts }

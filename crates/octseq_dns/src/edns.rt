@@ -200,9 +200,7 @@ fn append_options<B: OctetsBuilder + Truncate + AsOctetsMut, T: Compressor>(
     ensures borrows { B.borrows message.new.octets ≡ B.borrows message.old.octets }
 {
     for option in options {
-        if let Err(error) = append_option(message, option) {
-            return Err(error);
-        }
+        append_option(message, option)?;
     }
     message.append_slice(&[])
 }
@@ -220,9 +218,7 @@ fn append_option<B: OctetsBuilder + Truncate + AsOctetsMut, T: Compressor>(
     let Ok(len) = u16::try_from(option.octets.len()) else {
         return Err(AppendError::Short(ShortBuf));
     };
-    if let Err(error) = message.append_slice(&option_head(option.code, len)) {
-        return Err(error);
-    }
+    message.append_slice(&option_head(option.code, len))?;
     message.append_slice(option.octets)
 }
 

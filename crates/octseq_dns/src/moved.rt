@@ -1,16 +1,14 @@
 //! Whether a message can be rewritten.
-ghost use Rattle.std.specs.List.{AllByRecursion};
 ghost use Rattle.std.specs.Prelude.{◌≡◌, ◌↔◌, IsTrue};
 ghost use Rattle.octseq_dns.specs.Moved.{may_have_names, CanMoveRecord, CanMove};
-ghost use Rattle.octseq_dns_message.specs.Parsed.{answers_of, authorities_of, additionals_of};
+ghost use Rattle.octseq_dns_message.specs.Parsed.{records_of};
 ghost use Rattle.octseq_dns_data.specs.Typed.{rdata_of};
 ghost use Rattle.octseq_dns_message.specs.RecordData.{IsDataOf};
 ghost use Rattle.octseq_dns_message.specs.Said.{record_of};
-ghost use Rattle.octseq_dns_message.specs.Walk.{records_left};
 
 use octseq::AsOctets;
 use octseq_dns_data::{Class, Data, Rtype};
-use octseq_dns_message::message::{Message, Record, Records};
+use octseq_dns_message::message::{Message, Record};
 
 /// The numbers of the types whose data has names in any class: RFC 1035, 3.3, RFC 1183, RFC 2163, RFC 2535, RFC 3403,
 /// RFC 4034 and RFC 6672.
@@ -50,24 +48,14 @@ pub(crate) fn is_movable<R: AsOctets + Copy>(entry: &Record<R>, found: &Data<R>)
     }
 }
 
-/// Whether all records that are left can be moved.
-fn can_move_all<R: AsOctets + Copy>(records: Records<R>) -> bool
-    ensures { IsTrue result ↔ AllByRecursion CanMoveRecord (records_left records) }
+/// Whether a message can be rewritten: whether all its records can be moved.
+pub fn can_move<R: AsOctets + Copy>(message: &Message<R>) -> bool
+    ensures { IsTrue result ↔ CanMove (records_of message.now) }
 {
-    for entry in records {
-        if !can_move_record(&entry) {
+    for listed in message.records() {
+        if !can_move_record(&listed.0) {
             return false;
         }
     }
     true
-}
-
-/// Whether a message can be rewritten: whether all its records can be moved.
-pub fn can_move<R: AsOctets + Copy>(message: &Message<R>) -> bool
-    ensures { IsTrue result
-        ↔ CanMove (answers_of message.now) (authorities_of message.now) (additionals_of message.now) }
-{
-    can_move_all(message.answers())
-        && can_move_all(message.authorities())
-        && can_move_all(message.additionals())
 }

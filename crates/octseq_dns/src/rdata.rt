@@ -7,15 +7,15 @@ ghost use Rattle.octseq_dns_compress.specs.Fits.{FitsField};
 ghost use Rattle.octseq_dns_compress.specs.State.{Field, label_count, with_fields};
 ghost use Rattle.octseq_dns.specs.Rdata.{bare_rdata, rdata_fields, rtype_of};
 ghost use Rattle.octseq_dns_data.specs.Data.{ParsedRdata, FitsForm};
-ghost use Rattle.octseq_dns_data.specs.Local.{LocalType};
+ghost use Rattle.octseq_dns_data.specs.Rtype.{rrsig};
 ghost use Rattle.octseq_dns_data.specs.Typed.{rdata_of, mx_of, rrsig_of, soa_of, srv_of};
 
 use octseq::builder::{AsOctetsMut, infallible};
 use octseq::{AppendError, Array, AsOctets, OctetsBuilder, Truncate, Turns};
 use octseq_dns_compress::{Composer, Compressor};
 use octseq_dns_data::data::{
-    Caa, Dnskey, Ds, Hinfo, Mx, Naptr, Nsec, Nsec3, Nsec3param, PlainName, Rrsig, Soa, Srv, Sshfp,
-    Svcb, Tlsa, Uri,
+    Caa, Csync, Dnskey, Ds, Hinfo, Mx, Naptr, Nsec, Nsec3, Nsec3param, Openpgpkey, PlainName,
+    Rrsig, Soa, Srv, Sshfp, Svcb, Tlsa, Uri,
 };
 use octseq_dns_data::{Data, Rtype};
 use octseq_dns_name::DomainName;
@@ -132,6 +132,8 @@ impl<R: AsOctets + Copy> ComposeRecordData for Data<R> {
             Data::Smimea(tlsa) => message.append_value::<R, Of<Tlsa<R>>>(tlsa),
             Data::Cds(ds) => message.append_value::<R, Of<Ds<R>>>(ds),
             Data::Cdnskey(key) => message.append_value::<R, Of<Dnskey<R>>>(key),
+            Data::Openpgpkey(key) => message.append_value::<R, Of<Openpgpkey<R>>>(key),
+            Data::Csync(csync) => message.append_value::<R, Of<Csync<R>>>(csync),
             Data::Caa(caa) => message.append_value::<R, Of<Caa<R>>>(caa),
             Data::Svcb(svcb) => message.append_value::<R, Of<Svcb<R>>>(svcb),
             Data::Https(svcb) => message.append_value::<R, Of<Svcb<R>>>(svcb),
@@ -200,12 +202,8 @@ fn compose_soa<B: OctetsBuilder + Truncate + AsOctetsMut, T: Compressor, R: AsOc
     ensures least { OnOk result (turns.old + label_count (rdata_fields (bare_rdata (ParsedRdata.soa (soa_of soa.now))))
         + length message.old.state.octets ≤ turns.new + length message.new.state.octets) }
 {
-    if let Err(error) = message.append_name(&soa.mname, turns) {
-        return Err(error);
-    }
-    if let Err(error) = message.append_name(&soa.rname, turns) {
-        return Err(error);
-    }
+    message.append_name(&soa.mname, turns)?;
+    message.append_name(&soa.rname, turns)?;
     message.append_slice(&soa_numbers(soa))
 }
 
@@ -214,10 +212,10 @@ fn compose_rrsig<B: OctetsBuilder + Truncate + AsOctetsMut, T: Compressor, R: As
     message: &mut Composer<B, T>,
     sig: &Rrsig<R>,
 ) -> Result<(), AppendError>
-    requires { FitsForm (ParsedRdata.local LocalType.rrsig (rrsig_of sig.now)) }
+    requires { FitsForm (ParsedRdata.local rrsig (rrsig_of sig.now)) }
     ensures composed { Composes (message_limit B.limit) ((B.asks ≡ true) ⊎ (T.asks ≡ true)) result
         (with_fields T.most message.old.state
-        (rdata_fields (bare_rdata (ParsedRdata.local LocalType.rrsig (rrsig_of sig.now))))) message.old message.new }
+        (rdata_fields (bare_rdata (ParsedRdata.local rrsig (rrsig_of sig.now))))) message.old message.new }
     ensures borrows { B.borrows message.new.octets ≡ B.borrows message.old.octets }
 {
     message.append_value::<R, Of<Rrsig<R>>>(sig)
@@ -251,9 +249,7 @@ fn compose_srv<B: OctetsBuilder + Truncate + AsOctetsMut, T: Compressor, R: AsOc
         message.old message.new }
     ensures borrows { B.borrows message.new.octets ≡ B.borrows message.old.octets }
 {
-    if let Err(error) = message.append_slice(&srv_numbers(srv)) {
-        return Err(error);
-    }
+    message.append_slice(&srv_numbers(srv))?;
     a_name_has_labels(&srv.target);
     let _len = srv.target.len();
     let mut target = Array::<255>::new();

@@ -1,20 +1,19 @@
 //! Rewriting messages: RFC 1035, 4.1.
 ghost use Rattle.std.specs.Prelude.{◌≡◌, ◌≤◌, ◌+◌, ◌*◌, ◌⊎◌, ◌↔◌, length, true, Some, IfOk};
-ghost use Rattle.octseq.specs.Limit.{IsPast, IsWithin};
+ghost use Rattle.octseq.specs.Limit.{IsPast};
 ghost use Rattle.octseq.specs.Refusal.{IsShort, IsMemory, IsMalformed};
 ghost use Rattle.octseq_dns_compress.specs.Composed.{message_limit};
-ghost use Rattle.octseq_dns_message.specs.Parsed.{answers_of, authorities_of, additionals_of};
+ghost use Rattle.octseq_dns_message.specs.Parsed.{records_of};
 ghost use Rattle.octseq_dns.specs.Contents.{Message as Contents, octets_of};
 ghost use Rattle.octseq_dns.specs.Labels.{labels_in};
 ghost use Rattle.octseq_dns.specs.Moved.{CanMove};
-ghost use Rattle.octseq_dns.specs.Rewritten.{IsContentsOf, any_opt_in, rewrite_error};
-ghost use Rattle.octseq_dns.specs.Writes.{Writes};
+ghost use Rattle.octseq_dns.specs.Rewritten.{IsContentsOf, IsRewritten, rewrite_error};
 
 use crate::builder::AdditionalBuilder;
 use crate::builder::anew::compose_anew;
 use crate::moved::can_move;
 use octseq::builder::AsOctetsMut;
-use octseq::{AsOctets, OctetsBuilder, ShortBuf, Truncate, Turns};
+use octseq::{AppendError, AsOctets, OctetsBuilder, ShortBuf, Truncate, Turns};
 use octseq_dns_compress::Compressor;
 use octseq_dns_message::Message;
 use std::error::Error;
@@ -43,6 +42,19 @@ impl fmt::Display for RewriteError {
             RewriteError::Immovable => f.write_str("data that can't be moved"),
             RewriteError::Short(_) => f.write_str("buffer size exceeded"),
             RewriteError::Memory => f.write_str("out of memory"),
+        }
+    }
+}
+
+impl From<AppendError> for RewriteError {
+    ghost use Rattle.octseq.specs.Refusal.{append_error};
+
+    ghost from_gives = { λ error made. rewrite_error made ≡ append_error error };
+
+    fn from(error: AppendError) -> Self {
+        match error {
+            AppendError::Short(error) => RewriteError::Short(error),
+            AppendError::Memory => RewriteError::Memory,
         }
     }
 }
@@ -81,18 +93,11 @@ pub fn rewrite<B: OctetsBuilder + Truncate + AsOctetsMut, T: Compressor, R: AsOc
     octets: B,
     table: T,
 ) -> Result<AdditionalBuilder<B, T>, RewriteError>
-    ensures written { IfOk result (λ b. (m : Contents) → IsContentsOf message.now m
-        → Writes T.most m b.state b.header b.counts) }
-    ensures contents { IfOk result (λ _. (m : Contents) × IsContentsOf message.now m) }
-    ensures fits { IfOk result (λ b. IsWithin (message_limit B.limit) (length b.state.octets)) }
-    ensures immovable { IsMalformed rewrite_error result
-        ↔ ¬ CanMove (answers_of message.now) (authorities_of message.now) (additionals_of message.now) }
+    ensures rewritten { IfOk result (λ b. IsRewritten T.most (message_limit B.limit) message.now b) }
+    ensures immovable { IsMalformed rewrite_error result ↔ ¬ CanMove (records_of message.now) }
     ensures short { IsShort rewrite_error result → (m : Contents) → IsContentsOf message.now m
         → IsPast (message_limit B.limit) (length (octets_of T.most m)) }
     ensures memory { IsMemory rewrite_error result → (B.asks ≡ true) ⊎ (T.asks ≡ true) }
-    ensures push_limit { IfOk result (λ b. b.push_limit ≡ None) }
-    ensures has_opt { IfOk result (λ b. b.has_opt
-        ≡ any_opt_in (answers_of message.now) (authorities_of message.now) (additionals_of message.now)) }
     ensures borrows { IfOk result (λ b. B.borrows b.octets ≡ B.borrows octets) }
 {
     rewrite_counted(message, octets, table, &mut Turns::new())
@@ -115,18 +120,11 @@ pub fn rewrite_counted<
     table: T,
     turns: &mut Turns,
 ) -> Result<AdditionalBuilder<B, T>, RewriteError>
-    ensures written { IfOk result (λ b. (m : Contents) → IsContentsOf message.now m
-        → Writes T.most m b.state b.header b.counts) }
-    ensures contents { IfOk result (λ _. (m : Contents) × IsContentsOf message.now m) }
-    ensures fits { IfOk result (λ b. IsWithin (message_limit B.limit) (length b.state.octets)) }
-    ensures immovable { IsMalformed rewrite_error result
-        ↔ ¬ CanMove (answers_of message.now) (authorities_of message.now) (additionals_of message.now) }
+    ensures rewritten { IfOk result (λ b. IsRewritten T.most (message_limit B.limit) message.now b) }
+    ensures immovable { IsMalformed rewrite_error result ↔ ¬ CanMove (records_of message.now) }
     ensures short { IsShort rewrite_error result → (m : Contents) → IsContentsOf message.now m
         → IsPast (message_limit B.limit) (length (octets_of T.most m)) }
     ensures memory { IsMemory rewrite_error result → (B.asks ≡ true) ⊎ (T.asks ≡ true) }
-    ensures push_limit { IfOk result (λ b. b.push_limit ≡ None) }
-    ensures has_opt { IfOk result (λ b. b.has_opt
-        ≡ any_opt_in (answers_of message.now) (authorities_of message.now) (additionals_of message.now)) }
     ensures borrows { IfOk result (λ b. B.borrows b.octets ≡ B.borrows octets) }
     ensures on { turns.old ≤ turns.new }
     ensures turns { (m : Contents) → IsContentsOf message.now m → turns.new ≤ turns.old + 17 * labels_in m }

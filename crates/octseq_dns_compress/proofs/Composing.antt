@@ -1,87 +1,33 @@
 -- Appending a name to a message, whose targets are those of names.
-use Rattle.std.specs.Prelude.{slice_index_or, nat_lt, cond, if◌then◌else◌, ◌/◌, ◌%◌}
-use Rattle.std.proofs.Common.{◌≡◌, Bool, true, ℕ, suc, ◌+◌, ◌<◌, ◌≤◌, Option, Some, None, List, [], ◌∷◌, ◌++◌}
-use Rattle.std.proofs.Common.{length, take}
-use Rattle.std.proofs.Common.{Ok, Err, drop, refl, sym, ap, ◌∙◌, subst, arith, is_some}
+use Rattle.std.specs.Prelude.{slice_index_or, ◌↔◌}
+use Rattle.std.proofs.Common.{◌≡◌, Bool, ℕ, ◌+◌, ◌-◌, ◌<◌, ◌≤◌, Option, Some, List, [], ◌∷◌, ◌++◌, length, take}
+use Rattle.std.proofs.Common.{Ok, Err, refl, sym, ap, ◌∙◌, subst, arith, is_some, length-append}
 use Rattle.std.proofs.Math.Bool.{true≢false}
-use Rattle.std.proofs.lemmas.Bool.{ne_eqb, lt-leb}
 use Rattle.std.proofs.Math.Logic.{∥∥₁_map, ∥∥₁_elim}
 use Rattle.std.proofs.Math.Seq.{take-append_seam}
 use Rattle.std.specs.Cmp.Lexicographic.{slice_cmp}
-use Rattle.std.specs.Coded.{Coded-set, coded_list, coded_ℕ, coded_bool, le_prop}
-use Rattle.std.specs.FinMap.{get, empty, get-empty, len-empty}
-use Rattle.std.specs.List.{filter}
-use Rattle.std.specs.Ordering.{nat_cmp, is_lt}
-use Rattle.octseq_dns_compress.specs.Agrees.{Agrees, at_or_zero}
-use Rattle.octseq_dns_compress.specs.Ended.{ended}
+use Rattle.std.specs.Coded.{Coded-set, coded_list, coded_ℕ}
+use Rattle.std.specs.FinMap.{get}
+use Rattle.std.specs.Ordering.{nat_cmp}
+use Rattle.octseq.specs.Appends.{Appends}
+use Rattle.octseq.specs.Limit.{IsPast, IsWithin}
+use Rattle.octseq.specs.Refusal.{IsShort, append_error}
+use Rattle.octseq.specs.declared.AppendError.{AppendError}
+use Rattle.octseq_dns_compress.specs.Agrees.{Agrees}
+use Rattle.octseq_dns_compress.specs.Composed.{before}
 use Rattle.octseq_dns_compress.specs.Ending.{IsEnding}
-use Rattle.octseq_dns_compress.specs.Key.{key_of, IsWhole, key_cmp, AreTargets, IsPosition}
-use Rattle.octseq_dns_compress.specs.Known.{Known, known_once}
-use Rattle.octseq_dns_compress.specs.Names.{Names, Place, labels_cmp, unrooted, ending, name_octets, first_labels}
-use Rattle.octseq_dns_compress.specs.Names.{last_place, names_with}
+use Rattle.octseq_dns_compress.specs.Key.{IsWhole, key_cmp, AreTargets, IsPosition}
+use Rattle.octseq_dns_compress.specs.Named.{AppendsName}
+use Rattle.octseq_dns_compress.specs.Names.{Names, Place, at_or_zero, ended, unrooted, name_octets, first_labels, label_no}
+use Rattle.octseq_dns_compress.specs.Names.{names_with, prefixed}
+use Rattle.octseq_dns_compress.specs.Sound.{Message, state_of}
+use Rattle.octseq_dns_compress.specs.State.{with_name}
 use Rattle.octseq_dns_compress.specs.Written.{IsWritten}
 use Rattle.octseq_dns_compress.specs.declared.search.Ending.{Ending}
 use Rattle.octseq_dns_compress.specs.declared.table.Target.{Target}
-use Rattle.octseq.specs.Appends.{Appends}
-use Rattle.octseq.specs.Limit.{IsPast, IsWithin}
-use Rattle.octseq.specs.declared.AppendError.{AppendError}
-use Rattle.octseq_dns_compress.specs.Composed.{before}
-use Rattle.octseq_dns_compress.specs.Named.{AppendsName}
+use Rattle.octseq_dns_compress.proofs.Fields.{one_state}
 use Rattle.octseq_dns_compress.proofs.Grown.{agrees_grown, key_stays}
-use Rattle.octseq_dns_compress.proofs.Marked.{before_all, known_same, same_names}
-use Rattle.octseq_dns_compress.proofs.Keys.{less_reported}
-use Rattle.octseq_dns_compress.proofs.Steps.{Grows}
-
--- ---- targets of known names
-
-module _ (octets : List ℕ) (targets : List Target) (known : Known octets targets) where
-  pub known_targets : AreTargets octets targets
-  known_targets = record {
-    whole = λ i d within. ∥∥₁_elim known.1 le_prop (λ agrees. agrees.targets_are.whole i d within);
-    near = λ i d within. ∥∥₁_elim known.1 le_prop (λ agrees. agrees.targets_are.near i d within);
-    few = λ i d within. ∥∥₁_elim known.1 le_prop (λ agrees. agrees.targets_are.few i d within);
-    less = λ i j d before within.
-        let reported = key_cmp octets (slice_index_or targets i d) (key_of octets (slice_index_or targets j d)) in
-        less_reported reported (∥∥₁_elim known.1 (Coded-set coded_bool (is_lt reported) true)
-        (λ agrees. ap is_lt (agrees.targets_are.less i j d before within)));
-  }
-
--- ---- the octets of a name
-
--- an offset after the header isn't 0
-pointed : (n : ℕ) → 12 ≤ n → ended n ≡ (192 + n / 256) ∷ (n % 256) ∷ []
-pointed n late =
-    ap (λ b. if b then 0 ∷ [] else (192 + n / 256) ∷ (n % 256) ∷ []) (ne_eqb n 0 (λ same. omega (arith, same, late)))
-
--- the root or a pointer, by the offset of what follows
-ended_is : (octets : List ℕ) (targets : List Target) (names : Names) → Agrees octets targets names
-    → (labels : List (List ℕ)) (end : Ending) → IsEnding octets targets names labels end
-    → ended end.next ≡ ending (last_place names labels)
-ended_is octets targets names agrees labels end is =
-    by_place (get names (drop end.written labels)) refl where
-      by_place : (found : Option Place) → get names (drop end.written labels) ≡ found
-          → ended end.next ≡ ending (last_place names labels)
-      by_place None found =
-          ap ended (is.ends.next_is ∙ ap at_or_zero found) ∙ ap ending (sym found ∙ is.last)
-      by_place (Some place) found =
-          let next = is.ends.next_is ∙ ap at_or_zero found in
-          ap ended next ∙ pointed place.at (after (drop end.written labels) place found)
-          ∙ ap ending (sym found ∙ is.last) where
-            after : (labels : List (List ℕ)) (place : Place) → get names labels ≡ Some place → 12 ≤ place.at
-            after [] place found = absurd (true≢false (ap is_some (sym found ∙ agrees.root)))
-            after (label ∷ labels) place found = (agrees.all label labels place found).after_header
-
-module _ (octets : List ℕ) (targets : List Target) (known : Known octets targets) (labels : List (List ℕ))
-    (end : Ending)
-    (is : (names : Names) → Agrees octets targets names → IsEnding octets targets names labels end) where
-  pub octets_known : unrooted (take end.written labels) ++ ended end.next ≡ name_octets known.0 labels
-  octets_known =
-      ∥∥₁_elim known.1 (Coded-set (coded_list coded_ℕ) (unrooted (take end.written labels) ++ ended end.next)
-      (name_octets known.0 labels)) (λ agrees.
-      let ends = is known.0 agrees in
-      ap (λ first. unrooted first ++ ended end.next) ends.first
-      ∙ ap (λ o. unrooted (first_labels known.0 labels) ++ o)
-      (ended_is octets targets known.0 agrees labels end ends))
+use Rattle.octseq_dns_compress.proofs.Messages.{before_all, message_same}
 
 -- ---- the names after it is written
 
@@ -105,8 +51,9 @@ ending_stays octets more targets names agrees labels end is = record {
   first = is.first;
   last = is.last;
   ends = is.ends;
-  position = λ label rest some here. position_stays octets more targets agrees.targets_are
-      (end.next ∷ length label ∷ label) end.position (is.position label rest some here);
+  new = is.new;
+  position = λ some. position_stays octets more targets agrees.targets_are
+      (end.next ∷ prefixed (label_no labels (end.written - 1))) end.position (is.position some);
 }
 
 -- the names that were there are before what is written
@@ -141,113 +88,89 @@ ending_of octets content targets held labels end same alike is =
     subst (λ o. (names : Names) → Agrees o held names → IsEnding o held names labels end) same
     (subst (λ t. (names : Names) → Agrees octets t names → IsEnding octets t names labels end) alike is)
 
--- what was written and kept is removed
-module _ (octets : List ℕ) (targets : List Target) (are : AreTargets octets targets) (new : List ℕ)
-    (held kept : List Target) (start : ℕ) (undone : List ℕ) (begin : start ≡ length octets) (grows : Grows octets new)
-    (same : before start held ≡ before start targets) (kept_are : kept ≡ before start held)
-    (undone_is : undone ≡ take start new) where
-  pub octets_back : undone ≡ octets
-  octets_back =
-      undone_is ∙ ap (λ n. take n new) begin ∙ ap (take (length octets)) grows.1 ∙ take-append_seam octets grows.0
+module _ {most : ℕ} {octets : List ℕ} {held : List Target} (old : Message most octets held)
+    (labels : List (List ℕ)) (end : Ending)
+    (is : (names : Names) → Agrees octets held names → IsEnding octets held names labels end) where
+  -- the octets of the name
+  octets_known : unrooted (take end.written labels) ++ ended end.next ≡ name_octets old.known.0 labels
+  octets_known =
+      ∥∥₁_elim old.known.1 (Coded-set (coded_list coded_ℕ) (unrooted (take end.written labels) ++ ended end.next)
+      (name_octets old.known.0 labels)) (λ agrees.
+      let ends = is old.known.0 agrees in
+      ap (λ first. unrooted first ++ ended end.next) ends.first
+      ∙ ap (λ n. unrooted (first_labels old.known.0 labels) ++ ended n)
+      (ends.ends.next_is ∙ ap at_or_zero ends.last))
 
-  pub held_back : kept ≡ targets
-  held_back = kept_are ∙ same ∙ ap (λ n. before n targets) begin ∙ before_all octets targets are
+  size : length octets + length (unrooted (take end.written labels) ++ ended end.next)
+      ≡ length (with_name most (state_of old) labels).octets
+  size = ap (λ o. length octets + length o) octets_known ∙ sym (length-append octets (name_octets old.known.0 labels))
 
--- what was written is kept
-module _ (octets : List ℕ) (targets : List Target) (known : Known octets targets) (labels : List (List ℕ))
-    (end : Ending)
-    (is : (names : Names) → Agrees octets targets names → IsEnding octets targets names labels end)
-    (new : List ℕ) (held : List Target) (start most : ℕ)
-    (appended : new ≡ octets ++ (unrooted (take end.written labels) ++ ended end.next))
-    (begin : start ≡ length octets) (header : 12 ≤ length octets)
-    (kept : (octets : List ℕ) (names : Names) → Agrees octets targets names
-    → IsEnding octets targets names labels end → IsWritten octets names start labels end.written
-    → Agrees octets held (names_with most names start labels)) where
-  pub known_more : Known new held
-  known_more = (names_with most known.0 start labels, ∥∥₁_map known.1 to) where
-    to : Agrees octets targets known.0 → Agrees new held (names_with most known.0 start labels)
-    to agrees =
-        let more = unrooted (take end.written labels) ++ ended end.next in
-        subst (λ o. Agrees o held (names_with most known.0 start labels)) (sym appended)
-        (kept (octets ++ more) known.0 (agrees_grown octets more targets known.0 agrees)
-        (ending_stays octets more targets known.0 agrees labels end (is known.0 agrees))
-        (is_written octets targets known.0 agrees labels end.written start (ended end.next) begin header))
+  still_held : {start : ℕ} → start ≡ length octets → (kept : List Target) → before start kept ≡ before start held
+      → before (length octets) kept ≡ held
+  still_held begin kept same =
+      ap (λ n. before n kept) (sym begin) ∙ same ∙ ap (λ n. before n held) begin ∙ before_all old.known
 
-  pub names_more : (now : Known new held) → now.0 ≡ names_with most known.0 start labels
-  unfolding known_more
-  names_more now = ap (λ known. known.0) (known_once new held now known_more)
-
--- what appending a name does, by its result
-module _ (limit : Option ℕ) (asks : Bool) (most : ℕ) (labels : List (List ℕ)) (octets new name : List ℕ)
-    (targets : List Target) (known : Known octets targets) (name_is : name ≡ name_octets known.0 labels) where
-  fits : length octets + length name ≡ length octets + length (name_octets known.0 labels)
-  fits = ap (λ o. length octets + length o) name_is
-
-  pub name_refused : (e : AppendError) → Appends limit asks (Err e) name octets new
-      → AppendsName limit most (Err e) labels octets new targets targets known
-  name_refused e appends =
-      let now = known_same octets new targets targets appends.err refl known in
-      record {
-        now = now;
-        ok = tt;
-        err = (appends.err, same_names octets new targets targets appends.err refl known now);
-        within = tt;
-        short = λ short. subst (IsPast limit) fits (appends.short.0 short);
-        past = λ past. appends.short.1 (subst (IsPast limit) (sym fits) past);
-      }
-
-  pub name_appended : (held : List Target) (u : Unit {0}) → Appends limit asks (Ok u) name octets new
-      → IsWithin limit (length new) → (now : Known new held) → now.0 ≡ names_with most known.0 (length octets) labels
-      → AppendsName limit most (Ok u) labels octets new targets held known
-  name_appended held u appends within now names = record {
-    now = now;
-    ok = (appends.ok ∙ ap (λ o. octets ++ o) name_is, names);
-    err = tt;
-    within = within;
-    short = λ short. absurd short;
-    past = λ past. absurd (appends.short.1 (subst (IsPast limit) (sym fits) past));
+  -- it is refused
+  pub name_refused : {limit : Option ℕ} {asks : Bool} {new : List ℕ} (e : AppendError)
+      → Appends limit asks (Err e) (unrooted (take end.written labels) ++ ended end.next) octets new
+      → AppendsName limit (Err e) labels old new held
+  name_refused {limit = limit} e appends = record {
+    now = message_same old appends.err refl;
+    ok = tt;
+    err = one_state appends.err refl;
+    held_before = before_all old.known;
+    within = tt;
+    short = subst (λ n. IsShort {T = Unit {0}} append_error (Err e) ↔ IsPast limit n) size appends.short;
   }
 
-  pub name_taken_back : (u : Unit {0}) (undone : List ℕ) (kept : List Target) → Appends limit asks (Ok u) name octets
-      new
-      → undone ≡ octets → kept ≡ targets
-      → AppendsName limit most (Err AppendError.Memory) labels octets undone targets kept known
-  name_taken_back u undone kept appends back same =
-      let now = known_same octets undone targets kept back same known in
-      record {
-        now = now;
-        ok = tt;
-        err = (back, same_names octets undone targets kept back same known now);
-        within = tt;
-        short = λ short. absurd short;
-        past = λ past. absurd (appends.short.1 (subst (IsPast limit) (sym fits) past));
-      }
+  module _ {limit : Option ℕ} {asks : Bool} {new : List ℕ} (u : Unit {0})
+      (appends : Appends limit asks (Ok u) (unrooted (take end.written labels) ++ ended end.next) octets new)
+      (start : ℕ) (begin : start ≡ length octets) (kept : List Target)
+      (same : before start kept ≡ before start held) where
+    -- it is written, and its labels are kept
+    pub name_appended : ((octets : List ℕ) (names : Names) → Agrees octets held names
+        → IsEnding octets held names labels end → IsWritten octets names start labels end.written
+        → Agrees octets kept (names_with most names start labels))
+        → length kept ≤ most → length new ≤ 65535 → IsWithin limit (length new)
+        → AppendsName limit (Ok u) labels old new kept
+    name_appended keeps few short within = record {
+      now = record {
+        known = (names_with most old.known.0 start labels, ∥∥₁_map old.known.1 to);
+        few = few;
+        headed = let headed = old.headed in
+            let long = ap length appends.ok
+            ∙ length-append octets (unrooted (take end.written labels) ++ ended end.next) in
+            omega (arith, headed, long);
+        short = short;
+      };
+      ok = one_state (appends.ok ∙ ap (λ o. octets ++ o) octets_known)
+          (ap (λ n. names_with most old.known.0 n labels) begin);
+      err = tt;
+      held_before = still_held begin kept same;
+      within = within;
+      short = subst (λ n. IsShort {T = Unit {0}} append_error (Ok u) ↔ IsPast limit n) size appends.short;
+    } where
+      to : Agrees octets held old.known.0 → Agrees new kept (names_with most old.known.0 start labels)
+      to agrees =
+          let more = unrooted (take end.written labels) ++ ended end.next in
+          subst (λ o. Agrees o kept (names_with most old.known.0 start labels)) (sym appends.ok)
+          (keeps (octets ++ more) old.known.0 (agrees_grown octets more held old.known.0 agrees)
+          (ending_stays octets more held old.known.0 agrees labels end (is old.known.0 agrees))
+          (is_written octets held old.known.0 agrees labels end.written start (ended end.next) begin old.headed))
 
--- ---- nothing yet
-
-pub none_agree : (octets : List ℕ) (held : List Target) → held ≡ [] → Agrees octets held empty
-none_agree octets held none = subst (λ t. Agrees octets t empty) (sym none) (record {
-  targets_are = record {
-    whole = λ i d less. absurd (omega (arith, less));
-    near = λ i d less. absurd (omega (arith, less));
-    few = λ i d less. absurd (omega (arith, less));
-    less = λ i j d first less. absurd (omega (arith, less));
-  };
-  count = sym (len-empty labels_cmp Place);
-  root = get-empty labels_cmp [];
-  held = λ i d less. absurd (omega (arith, less));
-  all = λ label rest place found. absurd (true≢false (ap is_some (sym found ∙ get-empty labels_cmp (label ∷ rest))));
-  once = λ labels others place other found there same.
-      absurd (true≢false (ap is_some (sym found ∙ get-empty labels_cmp labels)));
-})
-
--- no target is before offset 0
-pub none_first : (targets : List Target) → filter (λ t. nat_lt t.at 0) targets ≡ []
-none_first [] = refl
-none_first (target ∷ targets) =
-    ap (λ b. cond b (target ∷ filter (λ t. nat_lt t.at 0) targets) (filter (λ t. nat_lt t.at 0) targets))
-    (lt-leb (suc target.at) 0 (omega arith)) ∙ none_first targets
-
--- so there are no names
-abbrev pub none_known : (octets : List ℕ) (held : List Target) → held ≡ [] → Known octets held
-none_known octets held none = (empty, ∣ none_agree octets held none ∣₁)
+    -- it is written, and is removed as memory is refused
+    pub name_taken_back : (undone : List ℕ) (left : List Target) → undone ≡ take start new → left ≡ before start kept
+        → AppendsName limit (Err AppendError.Memory) labels old undone left
+    name_taken_back undone left undone_is left_is =
+        let more = unrooted (take end.written labels) ++ ended end.next in
+        let back = undone_is ∙ ap (λ n. take n new) begin ∙ ap (take (length octets)) appends.ok
+        ∙ take-append_seam octets more in
+        let alike = left_is ∙ ap (λ n. before n kept) begin ∙ still_held begin kept same in
+        record {
+          now = message_same old back alike;
+          ok = tt;
+          err = one_state back refl;
+          held_before = ap (before (length octets)) alike ∙ before_all old.known;
+          within = tt;
+          short = subst (λ n. IsShort {T = Unit {0}} append_error (Ok u) ↔ IsPast limit n) size appends.short;
+        }

@@ -1,18 +1,17 @@
 -- Names stay at their places as fields and entries are appended. Data after its length is fields too: the length is one
 -- of them.
 use Rattle.std.proofs.Common.{◌≡◌, ℕ, ◌+◌, Option, Some, None, IfSome, List, [], ◌∷◌, ◌++◌, length, drop}
-use Rattle.std.proofs.Common.{sym, ap, ◌∙◌, subst, arith, append_assoc, append-nil, length-append}
+use Rattle.std.proofs.Common.{refl, sym, ap, ◌∙◌, subst, arith, append_assoc, length-append}
 use Rattle.std.proofs.lemmas.List.{drop_at}
 use Rattle.std.specs.List.{AllByRecursion}
 use Rattle.octseq.specs.Integer.{octets_be}
 use Rattle.octseq.specs.Part.{part_of}
 use Rattle.octseq.proofs.Written.{length_be}
 use Rattle.octseq_dns_compress.specs.Fits.{FitsField}
-use Rattle.octseq_dns_compress.specs.Names.{Names, name_octets, names_with}
 use Rattle.octseq_dns_compress.specs.LabelsThere.{AreNamed, IsWellNamed}
-use Rattle.octseq_dns_compress.specs.State.{State, Field, Entry, with_octets, with_name, with_field, with_fields}
+use Rattle.octseq_dns_compress.specs.State.{State, Field, Entry, with_octets, with_field, with_fields}
 use Rattle.octseq_dns_compress.specs.State.{with_counted, with_data, with_entry}
-use Rattle.octseq_dns_compress.proofs.Fields.{field_grows}
+use Rattle.octseq_dns_compress.proofs.Fields.{field_grows, fields_alike, one_state}
 use Rattle.octseq_dns_compress.proofs.Steps.{grown_length}
 use Rattle.octseq_dns_compress.proofs.LabelsThere.{named_grows, named_with}
 
@@ -36,48 +35,6 @@ fields_named most s [] sound fit = sound
 fields_named most s (field ∷ fields) sound fit =
     fields_named most (with_field most s field) fields (field_named most s field sound fit.0) fit.1
 
--- ---- what fields add to a message depends on its names and its length
-
-abbrev added_octets : ℕ → Names → ℕ → List Field → List ℕ
-added_octets most names start [] = []
-added_octets most names start (Field.name labels ∷ fields) =
-    name_octets names labels
-    ++ added_octets most (names_with most names start labels) (start + length (name_octets names labels)) fields
-added_octets most names start (Field.octets more ∷ fields) =
-    more ++ added_octets most names (start + length more) fields
-
-abbrev added_names : ℕ → Names → ℕ → List Field → Names
-added_names most names start [] = names
-added_names most names start (Field.name labels ∷ fields) =
-    added_names most (names_with most names start labels) (start + length (name_octets names labels)) fields
-added_names most names start (Field.octets more ∷ fields) = added_names most names (start + length more) fields
-
-abbrev state_of : List ℕ → Names → State
-state_of octets names = record { octets = octets; names = names }
-
--- what follows more octets, counted from before them
-regrouped : (octets more : List ℕ) (added : ℕ → List ℕ) (names : ℕ → Names)
-    → state_of ((octets ++ more) ++ added (length (octets ++ more))) (names (length (octets ++ more)))
-    ≡ state_of (octets ++ (more ++ added (length octets + length more))) (names (length octets + length more))
-regrouped octets more added names =
-    let n = length octets + length more in
-    ap (λ n. state_of ((octets ++ more) ++ added n) (names n)) (length-append octets more)
-    ∙ ap (λ all. state_of all (names n)) (append_assoc octets more (added n))
-
-fields_add : (most : ℕ) (s : State) (fields : List Field)
-    → with_fields most s fields
-    ≡ state_of (s.octets ++ added_octets most s.names (length s.octets) fields)
-    (added_names most s.names (length s.octets) fields)
-fields_add most s [] = ap (λ octets. state_of octets s.names) (sym (append-nil s.octets))
-fields_add most s (Field.name labels ∷ fields) =
-    let names = names_with most s.names (length s.octets) labels in
-    fields_add most (with_name most s labels) fields
-    ∙ regrouped s.octets (name_octets s.names labels) (λ n. added_octets most names n fields)
-    (λ n. added_names most names n fields)
-fields_add most s (Field.octets more ∷ fields) =
-    fields_add most (with_octets s more) fields
-    ∙ regrouped s.octets more (λ n. added_octets most s.names n fields) (λ n. added_names most s.names n fields)
-
 -- ---- data after its length
 
 -- the octets of data
@@ -90,22 +47,16 @@ pub counted_is : (most : ℕ) (s : State) (fields : List Field)
     → with_counted most s fields
     ≡ with_fields most (with_octets s (octets_be 2 (length (data_octets most s fields)))) fields
 counted_is most s fields =
-    let zeros = s.octets ++ 0 ∷ 0 ∷ [] in
-    let n = length (data_octets most s fields) in
-    let count = octets_be 2 n in
-    let added = λ (m : ℕ). added_octets most s.names m fields in
-    let from = fields_add most (with_octets s (0 ∷ 0 ∷ [])) fields in
+    let from = with_octets s (0 ∷ 0 ∷ []) in
+    let count = octets_be 2 (length (data_octets most s fields)) in
     let one = length-append s.octets (0 ∷ 0 ∷ []) in
     let two = length-append s.octets count in
-    let wide = length_be 2 n in
-    let same : length zeros ≡ length (s.octets ++ count) = omega (arith, one, two, wide) in
-    let data_is : data_octets most s fields ≡ added (length (s.octets ++ count)) =
-    ap (λ (t : State). drop (length s.octets + 2) t.octets) from
-    ∙ drop_at zeros (added (length zeros)) (length s.octets + 2) one ∙ ap added same in
-    let octets = ap (λ d. s.octets ++ (count ++ d)) data_is
-    ∙ sym (append_assoc s.octets count (added (length (s.octets ++ count)))) in
-    let names = ap (λ (t : State). t.names) from ∙ ap (λ m. added_names most s.names m fields) same in
-    (λ i. state_of (octets i) (names i)) ∙ sym (fields_add most (with_octets s count) fields)
+    let wide = length_be 2 (length (data_octets most s fields)) in
+    let alike = fields_alike most from (with_octets s count) fields refl (omega (arith, one, two, wide)) in
+    let data_is = ap (drop (length s.octets + 2)) alike.one ∙ drop_at from.octets alike.more (length s.octets + 2) one in
+    one_state
+    (ap (λ d. s.octets ++ (count ++ d)) data_is ∙ sym (append_assoc s.octets count alike.more) ∙ sym alike.other)
+    alike.names
 
 -- its number of octets
 pub counted_size : (most : ℕ) (s : State) (fields : List Field)
@@ -124,7 +75,7 @@ pub record FitsEntry (entry : Entry) : Type 0 where
   pub head : AllByRecursion FitsField entry.head
   pub data_fit : IfSome entry.data_fields (AllByRecursion FitsField)
 
-pub data_named : (most : ℕ) (s : State) (fields : Option (List Field)) → IsWellNamed s
+data_named : (most : ℕ) (s : State) (fields : Option (List Field)) → IsWellNamed s
     → IfSome fields (AllByRecursion FitsField) → IsWellNamed (with_data most s fields)
 data_named most s None sound fit = sound
 data_named most s (Some fields) sound fit =

@@ -39,7 +39,7 @@ counted_grows most s fields =
     let after = with_fields most (with_octets s (0 ∷ 0 ∷ [])) fields in
     (part_of 2 (drop (length s.octets + 2) after.octets), refl)
 
-pub data_grows : (most : ℕ) (s : State) (fields : Option (List Field)) → Grows s.octets (with_data most s fields).octets
+data_grows : (most : ℕ) (s : State) (fields : Option (List Field)) → Grows s.octets (with_data most s fields).octets
 data_grows most s None = grows_none s.octets
 data_grows most s (Some fields) = counted_grows most s fields
 
@@ -78,6 +78,42 @@ pub one_state : {octets others : List ℕ} {names more : Names} → octets ≡ o
     → ◌≡◌ {A = State} (record { octets = octets; names = names }) (record { octets = others; names = more })
 one_state octets names = λ i. record { octets = octets i; names = names i }
 
+-- ---- what fields add depends on the names and the length alone
+
+-- Two messages become others, with the same more octets and the same names.
+pub record AddAlike (s t new then : State) : Type 0 where
+  pub more : List ℕ
+  pub one : new.octets ≡ s.octets ++ more
+  pub other : then.octets ≡ t.octets ++ more
+  pub names : new.names ≡ then.names
+
+field_alike : (most : ℕ) (s t : State) (field : Field) → s.names ≡ t.names → length s.octets ≡ length t.octets
+    → AddAlike s t (with_field most s field) (with_field most t field)
+field_alike most s t (Field.name labels) names long = record {
+  more = name_octets s.names labels;
+  one = refl;
+  other = ap (λ n. t.octets ++ name_octets n labels) (sym names);
+  names = λ i. names_with most (names i) (long i) labels;
+}
+field_alike most s t (Field.octets more) names long = record { more = more; one = refl; other = refl; names = names }
+
+pub fields_alike : (most : ℕ) (s t : State) (fields : List Field) → s.names ≡ t.names
+    → length s.octets ≡ length t.octets → AddAlike s t (with_fields most s fields) (with_fields most t fields)
+fields_alike most s t [] names long =
+    record { more = []; one = sym (append-nil s.octets); other = sym (append-nil t.octets); names = names }
+fields_alike most s t (field ∷ fields) names long =
+    let first = field_alike most s t field names long in
+    let one = ap length first.one ∙ length-append s.octets first.more in
+    let other = ap length first.other ∙ length-append t.octets first.more in
+    let then = fields_alike most (with_field most s field) (with_field most t field) fields first.names
+    (omega (arith, one, other, long)) in
+    record {
+      more = first.more ++ then.more;
+      one = then.one ∙ ap (λ o. o ++ then.more) first.one ∙ append_assoc s.octets first.more then.more;
+      other = then.other ∙ ap (λ o. o ++ then.more) first.other ∙ append_assoc t.octets first.more then.more;
+      names = then.names;
+    }
+
 -- ---- another header
 
 module _ (header : List ℕ) (twelve : length header ≡ 12) where
@@ -96,22 +132,11 @@ module _ (header : List ℕ) (twelve : length header ≡ 12) where
       append_assoc header (drop 12 s.octets) more
       ∙ ap (λ o. header ++ o) (sym (drop-append-le 12 s.octets more late))
 
-  pub headed_field : (most : ℕ) (s : State) (field : Field) → 12 ≤ length s.octets
-      → with_field most (with_header s header) field ≡ with_header (with_field most s field) header
-  headed_field most s (Field.name labels) late =
-      let octets = headed_more s (name_octets s.names labels) late in
-      let names = ap (λ n. names_with most s.names n labels) (headed_length s late) in
-      one_state octets names
-  headed_field most s (Field.octets more) late = one_state (headed_more s more late) refl
-
   pub headed_fields : (most : ℕ) (s : State) (fields : List Field) → 12 ≤ length s.octets
       → with_fields most (with_header s header) fields ≡ with_header (with_fields most s fields) header
-  headed_fields most s [] late = refl
-  headed_fields most s (field ∷ fields) late =
-      let then = with_field most s field in
-      let longer = grown_length s.octets then.octets (field_grows most s field) in
-      ap (λ s. with_fields most s fields) (headed_field most s field late)
-      ∙ headed_fields most then fields (omega (arith, late, longer))
+  headed_fields most s fields late =
+      let alike = fields_alike most (with_header s header) s fields refl (headed_length s late) in
+      one_state (alike.one ∙ headed_more s alike.more late ∙ ap (λ o. header ++ drop 12 o) (sym alike.other)) alike.names
 
   headed_count : (s after : State) → 12 ≤ length s.octets
       → count_put (with_header s header) (with_header after header) ≡ with_header (count_put s after) header
@@ -123,14 +148,11 @@ module _ (header : List ℕ) (twelve : length header ≡ 12) where
       ∙ headed_more s (part_of 2 (drop n after.octets)) late in
       one_state octets refl
 
-  pub headed_counted : (most : ℕ) (s : State) (fields : List Field) → 12 ≤ length s.octets
+  headed_counted : (most : ℕ) (s : State) (fields : List Field) → 12 ≤ length s.octets
       → with_counted most (with_header s header) fields ≡ with_header (with_counted most s fields) header
   headed_counted most s fields late =
-      let from = with_octets s (0 ∷ 0 ∷ []) in
-      let longer = length-append s.octets (0 ∷ 0 ∷ []) in
-      let same = ap (λ s. with_fields most s fields) (headed_field most s (Field.octets (0 ∷ 0 ∷ [])) late)
-      ∙ headed_fields most from fields (omega (arith, late, longer)) in
-      ap (count_put (with_header s header)) same ∙ headed_count s (with_fields most from fields) late
+      ap (count_put (with_header s header)) (headed_fields most s (Field.octets (0 ∷ 0 ∷ []) ∷ fields) late)
+      ∙ headed_count s (with_fields most (with_octets s (0 ∷ 0 ∷ [])) fields) late
 
   headed_data : (most : ℕ) (s : State) (fields : Option (List Field)) → 12 ≤ length s.octets
       → with_data most (with_header s header) fields ≡ with_header (with_data most s fields) header

@@ -1,17 +1,21 @@
 -- Targets in a message that changes elsewhere: their labels stay.
 use Rattle.std.specs.Prelude.{slice_index_or}
-use Rattle.std.proofs.Common.{◌≡◌, ℕ, ◌+◌, ◌<◌, ◌≤◌, List, ◌∷◌, ◌++◌, length, take, drop, ap, ◌∙◌, subst, arith}
-use Rattle.std.proofs.Common.{length-append, length-drop}
+use Rattle.std.proofs.Common.{◌≡◌, true, ℕ, ◌+◌, ◌<◌, ◌≤◌, List, [], ◌∷◌, ◌++◌, length, take, drop, sym, ap, ◌∙◌, subst}
+use Rattle.std.proofs.Common.{arith, is_some, length-append, length-drop}
+use Rattle.std.proofs.Math.Bool.{true≢false}
 use Rattle.std.proofs.Math.ListN.{get_or-append}
-use Rattle.std.proofs.Math.Logic.{∥∥₁_map}
+use Rattle.std.proofs.Math.Logic.{∥∥₁_map, ∥∥₁_elim}
 use Rattle.std.proofs.lemmas.List.{drop-append-le, take-append-le}
 use Rattle.std.specs.Cmp.Lexicographic.{slice_cmp}
-use Rattle.std.specs.Ordering.{nat_cmp}
+use Rattle.std.specs.Coded.{Coded-set, coded_bool, le_prop}
+use Rattle.std.specs.FinMap.{empty, get-empty, len-empty}
+use Rattle.std.specs.Ordering.{nat_cmp, is_lt}
 use Rattle.octseq_dns_compress.specs.Agrees.{Agrees}
-use Rattle.octseq_dns_compress.specs.Key.{label_at, key_of, IsWhole, AreTargets}
-use Rattle.octseq_dns_compress.specs.Known.{Known, known_once}
-use Rattle.octseq_dns_compress.specs.Names.{Names}
+use Rattle.octseq_dns_compress.specs.Key.{label_at, key_of, key_cmp, IsWhole, AreTargets}
+use Rattle.octseq_dns_compress.specs.Known.{Known}
+use Rattle.octseq_dns_compress.specs.Names.{Names, Place, labels_cmp}
 use Rattle.octseq_dns_compress.specs.declared.table.Target.{Target}
+use Rattle.octseq_dns_compress.proofs.Keys.{less_reported}
 
 -- two messages have the same label at an offset
 abbrev pub IsAlike : List ℕ → List ℕ → ℕ → Type 0
@@ -39,20 +43,12 @@ module _ (old new : List ℕ) (targets : List Target) (long : length old ≤ len
   }
 
   -- the targets are those of the same names
-  agrees_alike : (names : Names) → Agrees old targets names → Agrees new targets names
+  pub agrees_alike : (names : Names) → Agrees old targets names → Agrees new targets names
   agrees_alike names agrees = record {
     targets_are = targets_alike agrees.targets_are;
     count = agrees.count;
     root = agrees.root;
-    held = λ index d within.
-        let held = agrees.held index d within in
-        record {
-          label = held.label;
-          rest = held.rest;
-          place = held.place;
-          there = held.there;
-          target_is = held.target_is;
-        };
+    held = agrees.held;
     all = λ label rest place is.
         let has = agrees.all label rest place is in
         let d : Target = record { at = 0; next = 0; pointers = 0 } in
@@ -70,12 +66,8 @@ module _ (old new : List ℕ) (targets : List Target) (long : length old ≤ len
     once = agrees.once;
   }
 
-  pub known_alike : Known old targets → Known new targets
+  abbrev pub known_alike : Known old targets → Known new targets
   known_alike known = (known.0, ∥∥₁_map known.1 (agrees_alike known.0))
-
-  pub alike_names : (before : Known old targets) (after : Known new targets) → after.0 ≡ before.0
-  unfolding known_alike
-  alike_names before after = ap (λ known. known.0) (known_once new targets after (known_alike before))
 
 -- ---- octets come after others
 
@@ -95,7 +87,7 @@ module _ (octets more : List ℕ) where
   pub key_stays : (target : Target) → IsWhole octets target.at → key_of (octets ++ more) target ≡ key_of octets target
   key_stays target whole = ap (λ label. target.next ∷ label) (label_stays target.at whole)
 
-  alike_stays : (at : ℕ) → IsWhole octets at → IsAlike octets (octets ++ more) at
+  pub alike_stays : (at : ℕ) → IsWhole octets at → IsAlike octets (octets ++ more) at
   alike_stays at whole = (octet_stays at (omega (arith, whole)), label_stays at whole)
 
   pub agrees_grown : (targets : List Target) (names : Names) → Agrees octets targets names
@@ -104,3 +96,39 @@ module _ (octets more : List ℕ) where
       let long = length-append octets more in
       agrees_alike octets (octets ++ more) targets (omega (arith, long))
       (λ i d within. alike_stays (slice_index_or targets i d).at (agrees.targets_are.whole i d within)) names agrees
+
+-- ---- targets of known names
+
+module _ (octets : List ℕ) (targets : List Target) (known : Known octets targets) where
+  pub known_targets : AreTargets octets targets
+  known_targets = record {
+    whole = λ i d within. ∥∥₁_elim known.1 le_prop (λ agrees. agrees.targets_are.whole i d within);
+    near = λ i d within. ∥∥₁_elim known.1 le_prop (λ agrees. agrees.targets_are.near i d within);
+    few = λ i d within. ∥∥₁_elim known.1 le_prop (λ agrees. agrees.targets_are.few i d within);
+    less = λ i j d before within.
+        let reported = key_cmp octets (slice_index_or targets i d) (key_of octets (slice_index_or targets j d)) in
+        less_reported reported (∥∥₁_elim known.1 (Coded-set coded_bool (is_lt reported) true)
+        (λ agrees. ap is_lt (agrees.targets_are.less i j d before within)));
+  }
+
+-- ---- no names
+
+pub none_agree : (octets : List ℕ) (held : List Target) → held ≡ [] → Agrees octets held empty
+none_agree octets held none = subst (λ t. Agrees octets t empty) (sym none) (record {
+  targets_are = record {
+    whole = λ i d less. absurd (omega (arith, less));
+    near = λ i d less. absurd (omega (arith, less));
+    few = λ i d less. absurd (omega (arith, less));
+    less = λ i j d first less. absurd (omega (arith, less));
+  };
+  count = sym (len-empty labels_cmp Place);
+  root = get-empty labels_cmp [];
+  held = λ i d less. absurd (omega (arith, less));
+  all = λ label rest place found. absurd (true≢false (ap is_some (sym found ∙ get-empty labels_cmp (label ∷ rest))));
+  once = λ labels others place other found there same.
+      absurd (true≢false (ap is_some (sym found ∙ get-empty labels_cmp labels)));
+})
+
+-- so there are no names
+abbrev pub none_known : (octets : List ℕ) (held : List Target) → held ≡ [] → Known octets held
+none_known octets held none = (empty, ∣ none_agree octets held none ∣₁)

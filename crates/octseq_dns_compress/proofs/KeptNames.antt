@@ -1,9 +1,9 @@
 -- The names after labels are written, of which the last ones are kept first.
-use Rattle.std.specs.Prelude.{IsTrue, if◌then◌else◌, nat_le, nat_lt, ◌&&◌}
+use Rattle.std.specs.Prelude.{IsTrue, if◌then◌else◌, nat_le, nat_lt}
 use Rattle.std.proofs.Common.{◌≡◌, Bool, true, false, ℕ, zero, suc, ◌+◌, ◌<◌, ◌≤◌, None, List, []}
 use Rattle.std.proofs.Common.{◌∷◌, length, length-append, length-drop, take, drop, refl, sym, ap, ◌∙◌, arith, is_some}
-use Rattle.std.proofs.Math.Bool.{and-false}
-use Rattle.std.proofs.lemmas.Bool.{le-leb, lt-leb, lt-ltb}
+use Rattle.std.proofs.Math.Bool.{true≢false}
+use Rattle.std.proofs.lemmas.Bool.{and_from, and_parts, false_from_ne_true, le-leb, leb-true, lt-ltb, ltb-true}
 use Rattle.std.specs.FinMap.{get, len, insert, contains_key}
 use Rattle.octseq_dns_compress.specs.FoundNames.{get_other}
 use Rattle.octseq_dns_compress.specs.Names.{Names, Place, is_there, is_kept, with_labels, unrooted}
@@ -14,30 +14,32 @@ absent : (names : Names) (labels : List (List ℕ)) → 0 < length labels → ge
 absent names [] some none = absurd (omega (arith, some))
 absent names (label ∷ labels) some none = ap is_some none
 
--- ---- labels that aren't kept
+-- ---- whether labels are kept
 
 module _ (most : ℕ) (names : Names) (rest : List (List ℕ)) (place : Place) where
-  -- a pointer can't express their offset
-  pub unkept_far : 16383 < place.at → is_kept most names rest place ≡ false
-  unkept_far far =
-      ap (λ b. b && (nat_le place.pointers 126 && (nat_lt (len names) most && is_there names rest)))
-      (lt-leb place.at 16383 far)
+  pub kept_parts : IsTrue (is_kept most names rest place)
+      → (place.at ≤ 16383) × (place.pointers ≤ 126) × (len names < most) × IsTrue (is_there names rest)
+  kept_parts kept =
+      let one = and_parts (nat_le place.at 16383) _ kept in
+      let two = and_parts (nat_le place.pointers 126) _ one.1 in
+      let three = and_parts (nat_lt (len names) most) _ two.1 in (
+        leb-true place.at 16383 one.0,
+        leb-true place.pointers 126 two.0,
+        ltb-true (len names) most three.0,
+        three.1,
+      )
 
-  -- there is no room
-  pub unkept_full : most ≤ len names → is_kept most names rest place ≡ false
-  unkept_full full =
-      ap (λ b. nat_le place.at 16383 && (nat_le place.pointers 126 && (b && is_there names rest)))
-      (lt-leb (suc (len names)) most (omega (arith, full)))
-      ∙ ap (λ b. nat_le place.at 16383 && b) (and-false (nat_le place.pointers 126))
-      ∙ and-false (nat_le place.at 16383)
+  pub kept_from : place.at ≤ 16383 → place.pointers ≤ 126 → len names < most → IsTrue (is_there names rest)
+      → IsTrue (is_kept most names rest place)
+  kept_from near few room there =
+      and_from _ _ (le-leb place.at 16383 near)
+      (and_from _ _ (le-leb place.pointers 126 few) (and_from _ _ (lt-ltb (len names) most room) there))
 
-  -- what follows isn't there
-  unkept_alone : is_there names rest ≡ false → is_kept most names rest place ≡ false
-  unkept_alone alone =
-      ap (λ b. nat_le place.at 16383 && (nat_le place.pointers 126 && (nat_lt (len names) most && b))) alone
-      ∙ ap (λ b. nat_le place.at 16383 && (nat_le place.pointers 126 && b)) (and-false (nat_lt (len names) most))
-      ∙ ap (λ b. nat_le place.at 16383 && b) (and-false (nat_le place.pointers 126))
-      ∙ and-false (nat_le place.at 16383)
+  pub unkept : (place.at ≤ 16383 → place.pointers ≤ 126 → len names < most → ¬ IsTrue (is_there names rest))
+      → is_kept most names rest place ≡ false
+  unkept never =
+      false_from_ne_true (is_kept most names rest place) (λ kept.
+      let parts = kept_parts kept in never parts.0 parts.1 parts.2 parts.3)
 
 -- the lookup of longer labels, whatever the tests are
 longer : (more names : Names) (labels others : List (List ℕ)) (place : Place) (known kept : Bool)
@@ -70,61 +72,40 @@ module _ (most pointers : ℕ) (names : Names) where
       let place : Place = record { at = start; pointers = pointers } in
       if is_kept most more labels place then insert more (label ∷ labels) place else more)) there
 
-  -- another label that isn't kept
-  pub with_unkept : (start : ℕ) (label : List ℕ) (labels : List (List ℕ)) (more : Names)
+  -- another label is kept, or isn't
+  pub with_one : (start : ℕ) (label : List ℕ) (labels : List (List ℕ)) (more : Names) (kept : Bool)
       → with_labels most pointers names (start + (1 + length label)) labels ≡ more
       → get names (label ∷ labels) ≡ None
-      → is_kept most more labels (record { at = start; pointers = pointers }) ≡ false
-      → with_labels most pointers names start (label ∷ labels) ≡ more
-  with_unkept start label labels more is none unkept =
-      let place : Place = record { at = start; pointers = pointers } in
-      let mine = with_labels most pointers names (start + (1 + length label)) labels in
-      ap (λ known. if known then names
-      else (if is_kept most mine labels place then insert mine (label ∷ labels) place else mine)) (ap is_some none)
-      ∙ ap (λ m. if is_kept most m labels place then insert m (label ∷ labels) place else m) is
-      ∙ ap (λ kept. if kept then insert more (label ∷ labels) place else more) unkept
-
-  -- and one that is
-  pub with_kept : (start : ℕ) (label : List ℕ) (labels : List (List ℕ)) (more : Names)
-      → with_labels most pointers names (start + (1 + length label)) labels ≡ more
-      → get names (label ∷ labels) ≡ None → start ≤ 16383 → pointers ≤ 126 → len more < most
-      → IsTrue (is_there more labels)
+      → is_kept most more labels (record { at = start; pointers = pointers }) ≡ kept
       → with_labels most pointers names start (label ∷ labels)
-      ≡ insert more (label ∷ labels) (record { at = start; pointers = pointers })
-  with_kept start label labels more is none near few room there =
+      ≡ (if kept then insert more (label ∷ labels) (record { at = start; pointers = pointers }) else more)
+  with_one start label labels more kept is none kept_is =
       let place : Place = record { at = start; pointers = pointers } in
       let mine = with_labels most pointers names (start + (1 + length label)) labels in
       ap (λ known. if known then names
       else (if is_kept most mine labels place then insert mine (label ∷ labels) place else mine)) (ap is_some none)
       ∙ ap (λ m. if is_kept most m labels place then insert m (label ∷ labels) place else m) is
-      ∙ ap (λ b. if b && (nat_le pointers 126 && (nat_lt (len more) most && is_there more labels))
-      then insert more (label ∷ labels) place else more) (le-leb start 16383 near)
-      ∙ ap (λ b. if b && (nat_lt (len more) most && is_there more labels)
-      then insert more (label ∷ labels) place else more) (le-leb pointers 126 few)
-      ∙ ap (λ b. if b && is_there more labels
-      then insert more (label ∷ labels) place else more) (lt-ltb (len more) most room)
-      ∙ ap (λ b. if b then insert more (label ∷ labels) place else more) there
+      ∙ ap (λ kept. if kept then insert more (label ∷ labels) place else more) kept_is
 
   -- no label is kept if too many pointers are followed from it
   pub with_many : (start : ℕ) (labels : List (List ℕ)) → 126 < pointers
       → with_labels most pointers names start labels ≡ names
   with_many start [] many = refl
   with_many start (label ∷ labels) many =
-      let place : Place = record { at = start; pointers = pointers } in
-      let mine = with_labels most pointers names (start + (1 + length label)) labels in
-      unkept (contains_key names (label ∷ labels)) mine
-      (with_many (start + (1 + length label)) labels many) where
-        unkept : (known : Bool) (more : Names) → more ≡ names
+      by (contains_key names (label ∷ labels)) (with_many (start + (1 + length label)) labels many) where
+        place : Place
+        place = record { at = start; pointers = pointers }
+
+        mine : Names
+        mine = with_labels most pointers names (start + (1 + length label)) labels
+
+        by : (known : Bool) → mine ≡ names
             → (if known then names
-            else (if is_kept most more labels (record { at = start; pointers = pointers })
-            then insert more (label ∷ labels) (record { at = start; pointers = pointers }) else more)) ≡ names
-        unkept true more same = refl
-        unkept false more same =
-            ap (λ b. if nat_le start 16383 && (b && (nat_lt (len more) most && is_there more labels))
-            then insert more (label ∷ labels) (record { at = start; pointers = pointers }) else more)
-            (lt-leb pointers 126 many)
-            ∙ ap (λ b. if b then insert more (label ∷ labels) (record { at = start; pointers = pointers }) else more)
-            (and-false (nat_le start 16383))
+            else (if is_kept most mine labels place then insert mine (label ∷ labels) place else mine)) ≡ names
+        by true same = refl
+        by false same =
+            ap (λ kept. if kept then insert mine (label ∷ labels) place else mine)
+            (unkept most mine labels place (λ near few room there. omega (arith, few, many)))
             ∙ same
 
   -- if labels aren't kept, none before them is
@@ -147,9 +128,9 @@ module _ (most pointers : ℕ) (names : Names) where
       ap (λ n. with_labels most pointers names n (drop v labels)) same ∙ is in
       let up = with_stopped (start + (1 + length label)) labels v more inside here alone
       (λ k less. none (suc k) (omega (arith, less))) in
-      with_unkept start label labels more up (none zero (omega arith))
-      (unkept_alone most more labels (record { at = start; pointers = pointers })
-      (without v labels inside alone here (λ less. none (suc zero) (omega (arith, less))))) where
+      with_one start label labels more false up (none zero (omega arith))
+      (unkept most more labels (record { at = start; pointers = pointers }) (λ near few room there.
+      true≢false (sym there ∙ without v labels inside alone here (λ less. none (suc zero) (omega (arith, less)))))) where
         without : (v : ℕ) (labels : List (List ℕ)) → v ≤ length labels → is_there more (drop v labels) ≡ false
             → with_labels most pointers names (start + (1 + length label) + length (unrooted (take v labels)))
             (drop v labels) ≡ more → (0 < v → get names labels ≡ None) → is_there more labels ≡ false

@@ -1,7 +1,8 @@
 -- Binary search among targets in their order.
-use Rattle.std.proofs.Common.{◌≡◌, ◌⊎◌, inl, inr, true, false, ℕ, zero, suc, ◌+◌, ◌*◌, ◌/◌, ◌^◌, ◌<◌, ◌≤◌}
-use Rattle.std.proofs.Common.{List, [], ◌∷◌, length, refl, sym, ap, ◌∙◌, subst, arith}
+use Rattle.std.proofs.Common.{◌≡◌, ◌⊎◌, inl, inr, true, false, ℕ, ◌+◌, ◌*◌, ◌/◌, ◌^◌, ◌<◌, ◌≤◌}
+use Rattle.std.proofs.Common.{List, length, refl, sym, ap, ◌∙◌, subst, arith}
 use Rattle.std.proofs.lemmas.Cmp.{nat_list_cmp_total}
+use Rattle.std.proofs.lemmas.List.{get_or_default}
 use Rattle.std.proofs.lemmas.Map.Lookups.{exact_bytes}
 use Rattle.std.proofs.Math.Bool.{true≢false}
 use Rattle.std.proofs.Math.Decide.{dec_le}
@@ -13,13 +14,6 @@ use Rattle.std.specs.Prelude.{slice_index_or}
 use Rattle.std.specs.declared.cmp.Ordering.{Ordering}
 use Rattle.octseq_dns_compress.specs.Key.{key_of, key_cmp, AreTargets, HasKeyAt, HasNoKey}
 use Rattle.octseq_dns_compress.specs.declared.table.Target.{Target}
-
--- an element of a list doesn't depend on the default
-pub same_index : (xs : List Target) (i : ℕ) (d e : Target) → i < length xs
-    → slice_index_or xs i d ≡ slice_index_or xs i e
-same_index [] i d e inside = absurd (omega (arith, inside))
-same_index (x ∷ xs) zero d e inside = refl
-same_index (x ∷ xs) (suc i) d e inside = same_index xs i d e (omega (arith, inside))
 
 pub greater_reported : (reported : Ordering) → is_lt reported ≡ false → is_eq reported ≡ false → reported ≡ Ordering.Greater
 greater_reported Ordering.Less other differ = absurd (true≢false other)
@@ -46,9 +40,9 @@ module _ (octets : List ℕ) (targets : List Target) (key : List ℕ) (sorted : 
     at_most : (k ≡ mid) ⊎ (k < mid) → key_cmp octets (slice_index_or targets k e) key ≡ Ordering.Less
     at_most (inl same) =
         subst (λ t. key_cmp octets t key ≡ Ordering.Less)
-        (same_index targets mid d e inside ∙ ap (λ k. slice_index_or targets k e) (sym same)) less
+        (get_or_default targets mid d e inside ∙ ap (λ k. slice_index_or targets k e) (sym same)) less
     at_most (inr below) =
-        let there = subst (λ t. key_cmp octets t key ≡ Ordering.Less) (same_index targets mid d e inside) less in
+        let there = subst (λ t. key_cmp octets t key ≡ Ordering.Less) (get_or_default targets mid d e inside) less in
         nat_list_cmp_total.trans (key_of octets (slice_index_or targets k e))
         (key_of octets (slice_index_or targets mid e)) key (sorted.less k mid e below inside) there
 
@@ -59,7 +53,7 @@ module _ (octets : List ℕ) (targets : List Target) (key : List ℕ) (sorted : 
       → key_cmp octets (slice_index_or targets k e) key ≡ Ordering.Greater
   after_more mid d reported inside is other differ k e from within = at_least (eq-or-lt_of_le from) where
     greater : key_cmp octets (slice_index_or targets mid e) key ≡ Ordering.Greater
-    greater = subst (λ t. key_cmp octets t key ≡ Ordering.Greater) (same_index targets mid d e inside)
+    greater = subst (λ t. key_cmp octets t key ≡ Ordering.Greater) (get_or_default targets mid d e inside)
         (sym is ∙ greater_reported reported other differ)
 
     at_least : (mid ≡ k) ⊎ (mid < k) → key_cmp octets (slice_index_or targets k e) key ≡ Ordering.Greater
@@ -106,7 +100,7 @@ pub key_there : (octets : List ℕ) (targets : List Target) (key : List ℕ) (in
     → HasKeyAt octets targets key index
 key_there octets targets key index d within reported = record {
   within = within;
-  is = λ e. ap (key_of octets) (same_index targets index e d within)
+  is = λ e. ap (key_of octets) (get_or_default targets index e d within)
       ∙ exact_bytes (key_of octets (slice_index_or targets index d)) key reported;
 }
 

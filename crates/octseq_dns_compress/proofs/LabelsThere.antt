@@ -1,21 +1,20 @@
 -- A name that was written is read as such, and so are the names that pointers may lead to after it.
-use Rattle.std.specs.Prelude.{nat_le, nat_lt, ◌&&◌, if◌then◌else◌, IsTrue}
+use Rattle.std.specs.Prelude.{if◌then◌else◌}
 use Rattle.std.proofs.Common.{◌≡◌, ◌⊎◌, inl, inr, Bool, true, false, ℕ, ◌+◌, ◌-◌, ◌<◌, ◌≤◌, Option, Some, None, List}
 use Rattle.std.proofs.Common.{[], ◌∷◌, ◌++◌, length, drop, replicate, is_some, refl, sym, ap, ◌∙◌, subst, arith}
 use Rattle.std.proofs.Common.{append_assoc, length-append, length-drop}
-use Rattle.std.proofs.Math.Bool.{true≢false}
 use Rattle.std.proofs.Math.Seq.{drop-append_seam}
-use Rattle.std.proofs.lemmas.Bool.{leb-true}
 use Rattle.std.proofs.lemmas.List.{drop_at, drop-append-le, drop-drop, length-replicate, take_all}
 use Rattle.std.proofs.lemmas.Slice.{drop-append-drop}
-use Rattle.std.specs.FinMap.{get, len, empty, insert, get-empty}
+use Rattle.std.specs.FinMap.{get, empty, insert, get-empty}
 use Rattle.std.specs.Option.{option_or}
 use Rattle.octseq.specs.Window.{Window, rest, at, whole}
 use Rattle.octseq_dns_compress.specs.Fits.{NameFits}
 use Rattle.octseq_dns_compress.specs.FoundNames.{get_new, get_other, one_place, same_or_other, some_or_none}
 use Rattle.octseq_dns_compress.specs.Names.{Names, Place, labels_cmp, last_place, name_octets, pointers_from}
-use Rattle.octseq_dns_compress.specs.Names.{is_there, is_kept, with_labels, names_with}
+use Rattle.octseq_dns_compress.specs.Names.{is_kept, with_labels, names_with}
 use Rattle.octseq_dns_compress.specs.LabelsThere.{AreAt, AreNamed}
+use Rattle.octseq_dns_compress.proofs.KeptNames.{kept_parts}
 use Rattle.octseq_dns_compress.proofs.Pieces.{octets_by, octets_new, name_next}
 use Rattle.octseq_dns_compress.proofs.Steps.{Grows}
 use Rattle.octseq_dns_name.specs.Name.{HasLabels, IsName}
@@ -39,17 +38,6 @@ none_named octets = record {
   never labels place found = some_or_none (get empty labels) place found (get-empty labels_cmp labels)
 
 -- ---- as the message changes
-
--- names are at their places in another message if labels stay at theirs
-named_by : (octets new : List ℕ) (names : Names)
-    → ((place : ℕ) (labels : List (List ℕ)) (pointers : ℕ) → AreAt octets place labels pointers
-    → AreAt new place labels pointers)
-    → AreNamed octets names → AreNamed new names
-named_by octets new names stay named = record {
-  there = λ labels place found. stay place.at labels place.pointers (named.there labels place found);
-  near = named.near;
-  few = named.few;
-}
 
 -- a message that grows, followed by more
 all_grows : (header octets more after : List ℕ) → 12 ≤ length octets
@@ -75,9 +63,12 @@ at_grows octets more place labels pointers headed are = (
 -- so do names
 pub named_grows : (octets more : List ℕ) (names : Names) → 12 ≤ length octets → AreNamed octets names
     → AreNamed (octets ++ more) names
-named_grows octets more names headed =
-    named_by octets (octets ++ more) names
-    (λ place labels pointers. at_grows octets more place labels pointers headed)
+named_grows octets more names headed named = record {
+  there = λ labels place found.
+      at_grows octets more place.at labels place.pointers headed (named.there labels place found);
+  near = named.near;
+  few = named.few;
+}
 
 -- ---- a name that is read
 
@@ -125,6 +116,7 @@ labels_at : (octets : List ℕ) (names : Names) (place : ℕ) (labels : List (Li
 labels_at octets names place labels named written header more headed =
     name_next names place (at place (whole (all_of header octets more))) labels more
     (record {
+      late = λ others other found. (named.there others other found).0;
       before = written.before;
       there = λ others other found. (named.there others other found).1 header more headed;
     })
@@ -193,24 +185,13 @@ named_put octets names labels place named are near few = record {
         subst (λ p. P others p) one (subst (λ l. P l place) (sym same) new)
     by_name (inr apart) = old others other (sym (get_other names labels others place apart) ∙ found)
 
--- a name that is kept is at an offset that a pointer can express, from which few pointers are followed
-kept_near : (most : ℕ) (names : Names) (labels : List (List ℕ)) (place : Place)
-    → IsTrue (is_kept most names labels place) → (place.at ≤ 16383) × (place.pointers ≤ 126)
-kept_near most names labels place kept = by (nat_le place.at 16383) (nat_le place.pointers 126) refl refl kept where
-  by : (near few : Bool) → nat_le place.at 16383 ≡ near → nat_le place.pointers 126 ≡ few
-      → IsTrue (near && (few && (nat_lt (len names) most && is_there names labels)))
-      → (place.at ≤ 16383) × (place.pointers ≤ 126)
-  by true true near few reported = (leb-true place.at 16383 near, leb-true place.pointers 126 few)
-  by true false near few reported = absurd (true≢false (sym reported))
-  by false few near is reported = absurd (true≢false (sym reported))
-
 named_kept : (octets : List ℕ) (most : ℕ) (names : Names) (label : List ℕ) (labels : List (List ℕ)) (place : Place)
     (kept : Bool) → is_kept most names labels place ≡ kept → AreNamed octets names
     → AreAt octets place.at (label ∷ labels) place.pointers
     → AreNamed octets (if kept then insert names (label ∷ labels) place else names)
 named_kept octets most names label labels place true is named are =
-    let near = kept_near most names labels place is in
-    named_put octets names (label ∷ labels) place named are near.0 near.1
+    let parts = kept_parts most names labels place is in
+    named_put octets names (label ∷ labels) place named are parts.0 parts.1
 named_kept octets most names label labels place false is named are = named
 
 -- the labels after a new one are written after it

@@ -10,7 +10,7 @@ pub mod Keeping
 pub mod KeptNames
 pub mod KeptSoFar
 pub mod Keys
-pub mod Marked
+pub mod Messages
 pub mod Limits
 pub mod MoreNames
 pub mod Over

@@ -2,19 +2,17 @@
 use Rattle.std.specs.Prelude.{slice_index_or, IsTrue, cond}
 use Rattle.std.proofs.Common.{◌≡◌, ◌⊎◌, inl, inr, ℕ, ◌+◌, ◌<◌, ◌≤◌, Some, None, List, [], ◌∷◌, length, drop, refl, sym}
 use Rattle.std.proofs.Common.{ap, ◌∙◌, subst, arith, is_some}
-use Rattle.std.proofs.Math.Decide.{dec_le}
-use Rattle.std.proofs.Math.Nat.{lt_of_not-le}
-use Rattle.std.proofs.lemmas.List.Edits.{get_or-insert_at, get_or-insert_below, get_or-insert_above, length-insert}
+use Rattle.std.proofs.lemmas.List.Edits.{get_or-insert_at, length-insert}
 use Rattle.std.specs.FinMap.{get, len, insert as put, len-insert}
 use Rattle.std.specs.List.{insert}
-use Rattle.octseq_dns_compress.specs.Agrees.{Agrees, IsOfName, HasTarget, place_of, target_of, at_or_zero}
+use Rattle.octseq_dns_compress.specs.Agrees.{Agrees, IsOfName, HasTarget, place_of, target_of}
 use Rattle.octseq_dns_compress.specs.FoundNames.{labels_total, get_new, get_other, alike_there, some_or_none}
 use Rattle.octseq_dns_compress.specs.FoundNames.{place_there, same_or_other, one_place}
 use Rattle.octseq_dns_compress.specs.Key.{label_at, key_of, IsWhole, IsPosition, HasNoKey}
 use Rattle.octseq_dns_compress.specs.Known.{name_key, found}
-use Rattle.octseq_dns_compress.specs.Names.{Names, Place, is_there}
+use Rattle.octseq_dns_compress.specs.Names.{Names, Place, at_or_zero, is_there}
 use Rattle.octseq_dns_compress.specs.declared.table.Target.{Target}
-use Rattle.octseq_dns_compress.proofs.Added.{targets_added, each_of}
+use Rattle.octseq_dns_compress.proofs.Added.{all_insert, still_in, targets_added}
 
 -- A name that isn't there may be kept: its first label is at its place, which a pointer can express and no other name
 -- has, and what follows is there.
@@ -77,10 +75,10 @@ module _ (octets : List ℕ) (targets : List Target) (names : Names) (agrees : A
     none_there = subst (HasNoKey octets targets) (sym key_is) none
 
     held_added : (index : ℕ) (d : Target) → index < length all_targets
-        → IsOfName octets all_names (slice_index_or all_targets index d)
+        → IsOfName all_names (slice_index_or all_targets index d)
     unfolding all_targets all_names target
     held_added =
-        each_of octets targets target position is.within (IsOfName octets all_names)
+        all_insert (IsOfName all_names) position targets target
         (λ index d within.
         let held = agrees.held index d within in
         let mine = agrees.all held.label held.rest held.place held.there in
@@ -115,38 +113,17 @@ module _ (octets : List ℕ) (targets : List Target) (names : Names) (agrees : A
     old_has : (l : List ℕ) (r : List (List ℕ)) (p : Place) → HasTarget octets targets names l r p
         → HasTarget octets all_targets all_names l r p
     unfolding all_targets target
-    old_has l r p has = at (dec_le position has.index) where
-      within : position ≤ length targets
-      within = is.within
-
-      long : length (insert targets position target) ≡ length targets + 1
-      long = length-insert targets position target within
-
-      inside : has.index < length targets
-      inside = has.within
-
-      to : (index : ℕ) → index < length (insert targets position target)
-          → ((d : Target) → slice_index_or (insert targets position target) index d ≡ slice_index_or targets has.index
-          d)
-          → HasTarget octets (insert targets position target) all_names l r p
-      to index less same = record {
-        label_is = has.label_is;
-        whole = has.whole;
-        after_header = has.after_header;
-        more = there_stays r has.more;
-        index = index;
-        within = less;
-        target_is = λ d. same d ∙ has.target_is d ∙ target_stays r p has.more;
-      }
-
-      at : Dec (position ≤ has.index) → HasTarget octets (insert targets position target) all_names l r p
-      at (yes from) =
-          to (has.index + 1) (omega (arith, long, inside))
-          (λ d. get_or-insert_above targets position target d has.index from within)
-      at (no less) =
-          let below = lt_of_not-le less in
-          to has.index (omega (arith, long, inside))
-          (λ d. get_or-insert_below targets position target d has.index below within)
+    old_has l r p has =
+        let still = still_in targets position target has.index is.within has.within in
+        record {
+          label_is = has.label_is;
+          whole = has.whole;
+          after_header = has.after_header;
+          more = there_stays r has.more;
+          index = still.0;
+          within = still.1;
+          target_is = λ d. still.2 d ∙ has.target_is d ∙ target_stays r p has.more;
+        }
 
     all_added : (l : List ℕ) (r : List (List ℕ)) (p : Place) → get all_names (l ∷ r) ≡ Some p
         → HasTarget octets all_targets all_names l r p
@@ -192,8 +169,8 @@ module _ (octets : List ℕ) (targets : List Target) (names : Names) (agrees : A
         (put names (label ∷ rest) place)
     unfolding all_targets all_names target
     agrees_added = record {
-      targets_are = targets_added octets targets target position is.within agrees.targets_are may.whole may.near
-          may.few at_position none_there;
+      targets_are = targets_added octets targets target position agrees.targets_are may.whole may.near may.few
+          at_position none_there;
       count = length-insert targets position target is.within ∙ ap (λ n. n + 1) agrees.count
           ∙ sym (len-insert labels_total names (label ∷ rest) place
           ∙ ap (λ there. cond there (len names) (len names + 1)) (ap is_some may.new));

@@ -7,12 +7,18 @@ use Rattle.std.proofs.Common.{subst, arith, append_assoc, length-append, length-
 use Rattle.std.proofs.Math.Seq.{take-append-add}
 use Rattle.std.proofs.lemmas.List.{get_or-drop, length-take, take-append-drop, take-append-le, take-take, drop-take}
 use Rattle.std.proofs.lemmas.Slice.{drop-append-drop}
+use Rattle.std.proofs.Math.Logic.{∥∥₁_elim}
+use Rattle.std.specs.Coded.{le_prop}
+use Rattle.std.specs.List.{All}
 use Rattle.octseq_dns_compress.specs.Apart.{AreApart}
+use Rattle.octseq_dns_compress.specs.Composed.{Composed}
 use Rattle.octseq_dns_compress.specs.Key.{label_at, IsWhole}
-use Rattle.octseq_dns_compress.specs.Known.{Known}
 use Rattle.octseq_dns_compress.specs.declared.table.Target.{Target}
-use Rattle.octseq_dns_compress.proofs.Marked.{after_header}
-use Rattle.octseq_dns_compress.proofs.Grown.{IsAlike, octet_stays, label_stays, known_alike, alike_names}
+use Rattle.octseq_dns_compress.specs.Sound.{Message, IsSound, composed, state_of}
+use Rattle.octseq_dns_compress.specs.State.{with_header}
+use Rattle.octseq_dns_compress.proofs.Fields.{one_state}
+use Rattle.octseq_dns_compress.proofs.Grown.{IsAlike, octet_stays, label_stays}
+use Rattle.octseq_dns_compress.proofs.Messages.{message_alike, message_same, names_alike, none_apart}
 
 -- octets, overwritten from an offset on
 abbrev pub put_over : List ℕ → ℕ → List ℕ → List ℕ
@@ -70,37 +76,40 @@ module _ (octets put : List ℕ) (at : ℕ) (room : at + length put ≤ length o
       (omega (arith, before, front, room))))
   over_alike place (inr after) = alike_back octets (put_over octets at put) place (over_drop place after)
 
--- octets of which some are overwritten
-module _ (octets put new : List ℕ) (at : ℕ) (room : at + length put ≤ length octets)
-    (new_is : new ≡ put_over octets at put) (targets : List Target)
-    (clear : (i : ℕ) (d : Target) → i < length targets
-    → IsClear octets at (at + length put) (slice_index_or targets i d).at) where
-  pub over_long : length new ≡ length octets
+-- a message some of whose octets are overwritten, clear of the labels
+module _ {most : ℕ} {octets new : List ℕ} {held : List Target} (was : Message most octets held) (at : ℕ)
+    (put : List ℕ) (room : at + length put ≤ length octets) (new_is : new ≡ put_over octets at put)
+    (clear : All (λ t. IsClear octets at (at + length put) t.at) held) where
+  over_long : length new ≡ length octets
   over_long = ap length new_is ∙ over_length octets put at room
 
-  stay_alike : (i : ℕ) (d : Target) → i < length targets → IsAlike octets new (slice_index_or targets i d).at
+  over_longer : length octets ≤ length new
+  over_longer = let long = over_long in omega (arith, long)
+
+  over_short : length new ≤ 65535
+  over_short = let long = over_long in let short = was.short in omega (arith, long, short)
+
+  stay_alike : All (λ t. IsAlike octets new t.at) held
   stay_alike i d within =
-      let place = (slice_index_or targets i d).at in
+      let place = (slice_index_or held i d).at in
       subst (λ o. IsAlike octets o place) (sym new_is) (over_alike octets put at room place (clear i d within))
 
-  pub over_known : Known octets targets → Known new targets
-  over_known known =
-      let long = over_long in known_alike octets new targets (omega (arith, long)) stay_alike known
+  message_over : Message most new held
+  message_over = message_alike was new over_longer over_short stay_alike
 
-  pub over_names : (before : Known octets targets) (after : Known new targets) → after.0 ≡ before.0
-  over_names before after =
-      let long = over_long in alike_names octets new targets (omega (arith, long)) stay_alike before after
+  pub names_over : (now : Message most new held) → now.known.0 ≡ was.known.0
+  names_over now = names_alike was new over_longer stay_alike now
 
-  pub over_apart : (place : ℕ) → AreApart octets place targets → AreApart new place targets
+  over_apart : (place : ℕ) → AreApart octets place held → AreApart new place held
   over_apart place apart i d within near =
       let ends = apart i d within near in
       let same = (stay_alike i d within).0 in
       omega (arith, ends, same)
 
--- ---- a header, and the length of data
+-- ---- a header
 
 -- octets before an offset, with the header overwritten
-pub take_headed : (octets header : List ℕ) (start : ℕ) → length header ≤ start
+take_headed : (octets header : List ℕ) (start : ℕ) → length header ≤ start
     → take start (put_over octets 0 header) ≡ put_over (take start octets) 0 header
 take_headed octets header start late =
     let n = length header in
@@ -114,30 +123,107 @@ take_headed octets header start late =
     ∙ ap (λ m. header ++ drop n (take m octets)) (sym both)
     ∙ ap (λ m. header ++ drop m (take start octets)) (sym zero)
 
--- every label is after the header
-pub header_clear : (octets put : List ℕ) (targets : List Target) → length put ≡ 12 → Known octets targets → (i : ℕ)
-    (d : Target) → i < length targets → IsClear octets 0 (0 + length put) (slice_index_or targets i d).at
-header_clear octets put targets twelve known i d within =
-    let late = after_header octets targets known i d within in inr (omega (arith, late, twelve))
+module _ {most : ℕ} {octets new : List ℕ} {held : List Target} (was : Message most octets held) (header : List ℕ)
+    (twelve : length header ≡ 12) (new_is : new ≡ put_over octets 0 header) where
+  room : 0 + length header ≤ length octets
+  room = let headed = was.headed in omega (arith, headed, twelve)
 
--- and apart from the two octets before data
-pub count_clear : (octets put : List ℕ) (place : ℕ) (targets : List Target) → length put ≡ 2 → 2 ≤ place
-    → AreApart octets place targets → (i : ℕ) (d : Target) → i < length targets
-    → IsClear octets (place - 2) (place - 2 + length put) (slice_index_or targets i d).at
-count_clear octets put place targets two room apart i d within =
-    by_test (nat_lt (slice_index_or targets i d).at place) refl where
-      by_test : (reported : Bool) → nat_lt (slice_index_or targets i d).at place ≡ reported
-          → IsClear octets (place - 2) (place - 2 + length put) (slice_index_or targets i d).at
-      by_test true is =
-          let ends = apart i d within (ltb-true (slice_index_or targets i d).at place is) in
-          inl (omega (arith, ends, room))
-      by_test false is =
-          let past = ltb-false (slice_index_or targets i d).at place is in inr (omega (arith, past, two, room))
+  -- every label is after the header
+  clear : All (λ t. IsClear octets 0 (0 + length header) t.at) held
+  clear i d within =
+      let after : 12 ≤ (slice_index_or held i d).at =
+      ∥∥₁_elim was.known.1 le_prop (λ agrees.
+      let is = agrees.held i d within in
+      let late = (agrees.all is.label is.rest is.place is.there).after_header in
+      let same = ap (λ t. t.at) is.target_is in
+      omega (arith, late, same)) in
+      inr (omega (arith, after, twelve))
 
--- the octets before what is overwritten don't change
-pub take_before : (octets put : List ℕ) (at start : ℕ) → start ≤ at → at ≤ length octets
+  message_headed : Message most new held
+  message_headed = message_over was 0 header room new_is clear
+
+  pub state_headed : (now : Message most new held) → state_of now ≡ with_header (state_of was) header
+  state_headed now =
+      let end : 0 + length header ≡ 12 = omega (arith, twelve) in
+      one_state (new_is ∙ ap (λ n. header ++ drop n octets) end) (names_over was 0 header room new_is clear now)
+
+module _ {most : ℕ} {octets new : List ℕ} {held : List Target} {entry_start data_start : ℕ}
+    (was : IsSound most octets held entry_start data_start) (header : List ℕ) (twelve : length header ≡ 12)
+    (new_is : new ≡ put_over octets 0 header) where
+  pub begun_headed : take entry_start new ≡ put_over (take entry_start octets) 0 header
+  begun_headed =
+      let headed = was.begun.headed in
+      let long = length-take entry_start octets in
+      ap (take entry_start) new_is ∙ take_headed octets header entry_start (omega (arith, twelve, headed, long))
+
+  pub sound_headed : IsSound most new held entry_start data_start
+  sound_headed =
+      let long = over_long was.now 0 header (room was.now header twelve new_is) new_is
+      (clear was.now header twelve new_is) in
+      let within = was.within in
+      let data_within = was.data_within in
+      record {
+        now = message_headed was.now header twelve new_is;
+        begun = message_headed was.begun header twelve begun_headed;
+        within = omega (arith, long, within);
+        data_within = omega (arith, long, data_within);
+        apart = over_apart was.now 0 header (room was.now header twelve new_is) new_is
+            (clear was.now header twelve new_is) data_start was.apart;
+      }
+
+-- ---- the length of data
+
+-- data begins after its length, which is after where the entry begins
+pub count_late : {B T : Type 0} {b : B} {t : T} {view : Composed B T} {most : ℕ} {octets : List ℕ} {held : List Target}
+    {entry_start data_start : ℕ} (was : IsSound most octets held entry_start data_start) → composed b t was ≡ view
+    → length view.begun.octets + 2 ≤ view.data_start → entry_start + 2 ≤ data_start
+count_late {octets = octets} {entry_start = entry_start} was is late =
+    let begun = ap (λ v. length v.begun.octets) is in
+    let from = ap (λ v. v.data_start) is in
+    let long = length-take entry_start octets in
+    let within = was.within in
+    omega (arith, late, begun, from, long, within)
+
+-- octets before those that are overwritten
+take_before : (octets put : List ℕ) (at start : ℕ) → start ≤ at → at ≤ length octets
     → take start (put_over octets at put) ≡ take start octets
-take_before octets put at start less within =
-    let long = length-take at octets in
-    take-append-le start (take at octets) (put ++ drop (at + length put) octets) (omega (arith, long, less, within))
-    ∙ take-take start at octets less
+take_before octets put at start late within =
+    let front = length-take at octets in
+    take-append-le start (take at octets) (put ++ drop (at + length put) octets) (omega (arith, late, within, front))
+    ∙ take-take start at octets late
+
+module _ {most : ℕ} {octets new : List ℕ} {held : List Target} {entry_start data_start : ℕ}
+    (was : IsSound most octets held entry_start data_start) (count : List ℕ) (two : length count ≡ 2)
+    (late : entry_start + 2 ≤ data_start) (new_is : new ≡ put_over octets (data_start - 2) count) where
+  count_room : data_start - 2 + length count ≤ length octets
+  count_room = let within = was.data_within in omega (arith, within, late, two)
+
+  -- labels are apart from it
+  count_clear : All (λ t. IsClear octets (data_start - 2) (data_start - 2 + length count) t.at) held
+  count_clear i d within = by_test (nat_lt (slice_index_or held i d).at data_start) refl where
+    by_test : (reported : Bool) → nat_lt (slice_index_or held i d).at data_start ≡ reported
+        → IsClear octets (data_start - 2) (data_start - 2 + length count) (slice_index_or held i d).at
+    by_test true is =
+        let ends = was.apart i d within (ltb-true (slice_index_or held i d).at data_start is) in
+        inl (omega (arith, ends))
+    by_test false is =
+        let past = ltb-false (slice_index_or held i d).at data_start is in inr (omega (arith, past, two, late))
+
+  pub count_names : (now : Message most new held) → now.known.0 ≡ was.now.known.0
+  count_names = names_over was.now (data_start - 2) count count_room new_is count_clear
+
+  pub count_begun : take entry_start new ≡ take entry_start octets
+  count_begun =
+      let within = was.data_within in
+      ap (take entry_start) new_is
+      ∙ take_before octets count (data_start - 2) entry_start (omega (arith, late)) (omega (arith, within))
+
+  pub sound_counted : IsSound most new held entry_start 0
+  sound_counted = record {
+    now = message_over was.now (data_start - 2) count count_room new_is count_clear;
+    begun = message_same was.begun count_begun refl;
+    within = let long = over_long was.now (data_start - 2) count count_room new_is count_clear in
+        let within = was.within in omega (arith, long, within);
+    data_within = omega arith;
+    apart = none_apart new held;
+  }

@@ -1,5 +1,6 @@
 -- Reading a name that was written with the names that pointers may lead to.
 use Rattle.std.specs.Prelude.{if◌then◌else◌}
+use Rattle.std.proofs.lemmas.Bool.{ne_eqb}
 use Rattle.std.proofs.Common.{◌≡◌, ℕ, suc, ◌+◌, ◌/◌, ◌%◌, ◌<◌, ◌≤◌, Option, Some, None, List, [], ◌∷◌, ◌++◌}
 use Rattle.std.proofs.Common.{length, length-append, append_assoc, is_some, refl, sym, ap, ◌∙◌, subst, arith}
 use Rattle.std.specs.FinMap.{get}
@@ -7,7 +8,7 @@ use Rattle.std.specs.Option.{option_or}
 use Rattle.octseq.specs.Integer.{be}
 use Rattle.octseq.specs.Window.{Window, rest, next, past, at}
 use Rattle.octseq.proofs.WindowsAfter.{front_comes_next}
-use Rattle.octseq_dns_compress.specs.Names.{Names, Place, first_labels, last_place, unrooted, ending, name_octets}
+use Rattle.octseq_dns_compress.specs.Names.{Names, Place, at_or_zero, ended, first_labels, last_place, unrooted, name_octets}
 use Rattle.octseq_dns_compress.specs.Names.{pointers_from}
 use Rattle.octseq_dns_name.specs.Name.{HasRoot, HasLabel, HasPointer, HasLabels, octet}
 use Rattle.octseq.proofs.Written.{be_one}
@@ -40,13 +41,18 @@ label_next w label after some short is =
       ap (λ p. rest (at p w)) (sym both) ∙ two.2,
     )
 
-pointer_next : (start : ℕ) (w : Window) (place : Place) (after : List ℕ) → place.at < start
-    → rest w ≡ ending (Some place) ++ after → HasPointer start w place.at (past 2 w)
-pointer_next start w place after before is =
-    let one = front_comes_next w ((192 + place.at / 256) ∷ []) ((place.at % 256) ∷ after) 1 is refl in
-    let two = front_comes_next (past 1 w) ((place.at % 256) ∷ []) after 1 one.2 refl in
-    let first : octet w ≡ 192 + place.at / 256 = ap be one.1 ∙ be_one (192 + place.at / 256) in
-    let second : octet (past 1 w) ≡ place.at % 256 = ap be two.1 ∙ be_one (place.at % 256) in
+pointed : (n : ℕ) → 12 ≤ n → ended n ≡ (192 + n / 256) ∷ (n % 256) ∷ []
+pointed n late =
+    ap (λ b. if b then 0 ∷ [] else (192 + n / 256) ∷ (n % 256) ∷ []) (ne_eqb n 0 (λ same. omega (arith, same, late)))
+
+pointer_next : (start : ℕ) (w : Window) (n : ℕ) (after : List ℕ) → 12 ≤ n → n < start
+    → rest w ≡ ended n ++ after → HasPointer start w n (past (length (ended n)) w)
+pointer_next start w n after late before is =
+    let pointer = pointed n late in
+    let one = front_comes_next w ((192 + n / 256) ∷ []) ((n % 256) ∷ after) 1 (is ∙ ap (λ o. o ++ after) pointer) refl in
+    let two = front_comes_next (past 1 w) ((n % 256) ∷ []) after 1 one.2 refl in
+    let first : octet w ≡ 192 + n / 256 = ap be one.1 ∙ be_one (192 + n / 256) in
+    let second : octet (past 1 w) ≡ n % 256 = ap be two.1 ∙ be_one (n % 256) in
     let room = one.0 in
     let more = two.0 in
     record {
@@ -54,7 +60,7 @@ pointer_next start w place after before is =
       mark = omega (arith, first);
       place = omega (arith, first, second);
       before = before;
-      after = refl;
+      after = ap (λ o. past (length o) w) pointer;
     }
 
 -- ---- names
@@ -62,17 +68,18 @@ pointer_next start w place after before is =
 -- the octets of a name, by the result of its lookup
 abbrev pub octets_by : Names → List ℕ → List (List ℕ) → Option Place → List ℕ
 octets_by names label labels found = unrooted (if is_some found then [] else label ∷ first_labels names labels)
-    ++ ending (option_or found (last_place names labels))
+    ++ ended (at_or_zero (option_or found (last_place names labels)))
 
 -- if it isn't there, its first label is written, followed by the other labels as a name
 pub octets_new : (names : Names) (label : List ℕ) (labels : List (List ℕ))
     → octets_by names label labels None ≡ length label ∷ (label ++ name_octets names labels)
 octets_new names label labels =
     ap (λ octets. length label ∷ octets)
-    (append_assoc label (unrooted (first_labels names labels)) (ending (last_place names labels)))
+    (append_assoc label (unrooted (first_labels names labels)) (ended (at_or_zero (last_place names labels))))
 
 -- Each of the names is in the octets of a window, before a start.
 pub record AreBefore (names : Names) (start : ℕ) (w : Window) : Type 0 where
+  pub late : (labels : List (List ℕ)) (place : Place) → get names labels ≡ Some place → 12 ≤ place.at
   pub before : (labels : List (List ℕ)) (place : Place) → get names labels ≡ Some place → place.at < start
   pub there : (labels : List (List ℕ)) (place : Place) → get names labels ≡ Some place
       → (v : Window) × HasLabels place.at (at place.at w) labels place.pointers v
@@ -85,7 +92,7 @@ name_next names start w [] after are each is = HasLabels.root (root_next w after
 name_next names start w (label ∷ labels) after are each is =
     let u = past (1 + length label) w in
     by_found (get names (label ∷ labels)) refl is (λ next.
-    name_next names start u labels after (record { before = are.before; there = are.there }) each.2 next) where
+    name_next names start u labels after (record { late = are.late; before = are.before; there = are.there }) each.2 next) where
       by_found : (found : Option Place) → get names (label ∷ labels) ≡ found
           → rest w ≡ octets_by names label labels found ++ after
           → (rest (past (1 + length label) w) ≡ name_octets names labels ++ after
@@ -95,8 +102,9 @@ name_next names start w (label ∷ labels) after are each is =
           (past (length (octets_by names label labels found)) w)
       by_found (Some place) found is others =
           let one : suc place.pointers ≡ place.pointers + 1 = omega arith in
-          subst (λ n. HasLabels start w (label ∷ labels) n (past 2 w)) one
-          (HasLabels.pointer (pointer_next start w place after (are.before (label ∷ labels) place found) is)
+          subst (λ n. HasLabels start w (label ∷ labels) n (past (length (ended place.at)) w)) one
+          (HasLabels.pointer (pointer_next start w place.at after (are.late (label ∷ labels) place found)
+          (are.before (label ∷ labels) place found) is)
           (are.there (label ∷ labels) place found).1)
       by_found None found is others =
           let more = name_octets names labels in

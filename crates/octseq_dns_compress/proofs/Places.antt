@@ -93,8 +93,3 @@ module _ (octets starts : List ℕ) (count place : ℕ) (within : count < length
 pub source_is : {R : Type 0} {g : Ghosts R} (octets : List ℕ) (source : R) (parser : Parser R g) (w : Window)
     → octets ≡ g.content source → source ≡ sequence parser → window parser ≡ w → octets ≡ w.octets
 source_is {g = g} octets source parser w is from at = is ∙ ap g.content from ∙ ap (λ w. w.octets) at
-
--- the labels at their offsets are those of the name
-pub read_labels : (octets others starts : List ℕ) (plain labels : List (List ℕ)) → octets ≡ others
-    → plain ≡ labels_at octets starts → labels_at others starts ≡ labels → plain ≡ labels
-read_labels octets others starts plain labels same is are = is ∙ ap (λ o. labels_at o starts) same ∙ are

@@ -8,7 +8,7 @@ use Rattle.std.proofs.lemmas.List.{take_more, take-take}
 use Rattle.std.proofs.Math.Seq.{take-append_seam, drop-append_seam, get_or-append_seam}
 use Rattle.octseq_dns_name.specs.Name.{wire_length}
 use Rattle.octseq_dns_compress.specs.Key.{label_at, IsWhole}
-use Rattle.octseq_dns_compress.specs.Names.{unrooted}
+use Rattle.octseq_dns_compress.specs.Names.{label_no, prefixed, unrooted}
 use Rattle.octseq_dns_compress.specs.PlainName.{label_of, labels_at, AreWhole}
 
 -- the octets are those of the first labels, followed by those of the others
@@ -77,43 +77,45 @@ module _ (octets : List ℕ) (at : ℕ) (whole : IsWhole octets at) where
       label_taken ∙ ap (λ n. n ∷ take len (drop (at + 1) octets)) size ∙ ap (λ l. length l ∷ l) (sym label_of_taken)
 
 -- a label of a name is read at its offset
-pub label_read : (octets starts : List ℕ) (index start : ℕ) (label : List ℕ) (rest : List (List ℕ))
-    → AreWhole octets starts → index < length (labels_at octets starts) → start ≡ slice_index_or starts index 0
-    → drop index (labels_at octets starts) ≡ label ∷ rest → label_at octets start ≡ length label ∷ label
-label_read octets starts index start label rest whole within is here =
-    let inside : index < length starts = (let size = length-map starts (label_of octets) in omega (arith, within, size))
-    in
-    let found : slice_index_or (labels_at octets starts) index [] ≡ label_of octets start =
-    get_or-map (label_of octets) starts index 0 [] inside ∙ ap (label_of octets) (sym is) in
-    let first = ap (λ labels. slice_index_or labels 0 [])
-    (sym (drop_more (labels_at octets starts) index [] within) ∙ here) in
-    whole_label octets start (whole_at (whole index 0 inside)) ∙ ap (λ l. length l ∷ l) (sym found ∙ first) where
-      whole_at : IsWhole octets (slice_index_or starts index 0) → IsWhole octets start
-      whole_at it = let same = is in
-          let len = ap (λ n. slice_index_or octets n 0) is in omega (arith, it, same, len)
+pub label_read : (octets starts : List ℕ) (index : ℕ) → AreWhole octets starts
+    → index < length (labels_at octets starts)
+    → label_at octets (slice_index_or starts index 0) ≡ prefixed (label_no (labels_at octets starts) index)
+label_read octets starts index whole within =
+    let size = length-map starts (label_of octets) in
+    let inside : index < length starts = omega (arith, within, size) in
+    whole_label octets (slice_index_or starts index 0) (whole index 0 inside)
+    ∙ ap prefixed (sym (get_or-map (label_of octets) starts index 0 [] inside))
 
 -- one more of the first labels adds its octets and its length octet
-module _ (labels : List (List ℕ)) (count : ℕ) (read : List ℕ) (within : count < length labels)
-    (is : (label : List ℕ) (rest : List (List ℕ)) → drop count labels ≡ label ∷ rest → read ≡ length label ∷ label)
-  where
-    pub one_label_more : unrooted (take (count + 1) labels) ≡ unrooted (take count labels) ++ read
-    one_label_more =
-        ap (λ labels. unrooted labels) (take_more labels count [] within)
-        ∙ sym (flat_map_more (λ l. length l ∷ l) [] (take count labels) (slice_index_or labels count []))
-        ∙ ap (λ o. unrooted (take count labels) ++ o)
-        (sym (is (slice_index_or labels count []) (drop (count + 1) labels) (drop_more labels count [] within)))
+module _ (labels : List (List ℕ)) (count : ℕ) (within : count < length labels) where
+  pub one_label_more : unrooted (take (count + 1) labels)
+      ≡ unrooted (take count labels) ++ prefixed (label_no labels count)
+  one_label_more =
+      ap (λ labels. unrooted labels) (take_more labels count [] within)
+      ∙ sym (flat_map_more prefixed [] (take count labels) (label_no labels count))
 
-    pub one_label_longer : length (unrooted (take (count + 1) labels)) ≡ length (unrooted (take count labels)) + length read
-    one_label_longer = ap length one_label_more ∙ length-append (unrooted (take count labels)) read
+  pub one_label_longer : length (unrooted (take (count + 1) labels))
+      ≡ length (unrooted (take count labels)) + length (prefixed (label_no labels count))
+  one_label_longer =
+      ap length one_label_more ∙ length-append (unrooted (take count labels)) (prefixed (label_no labels count))
 
 -- so the last of the first labels adds its own
 pub last_label : (labels : List (List ℕ)) (count : ℕ) (read : List ℕ) → 0 < count → count ≤ length labels
-    → ((label : List ℕ) (rest : List (List ℕ)) → drop (count - 1) labels ≡ label ∷ rest → read ≡ length label ∷ label)
+    → read ≡ prefixed (label_no labels (count - 1))
     → length (unrooted (take count labels)) ≡ length (unrooted (take (count - 1) labels)) + length read
 last_label labels count read some within is =
     let same : count ≡ count - 1 + 1 = omega (arith, some) in
     ap (λ n. length (unrooted (take n labels))) same
-    ∙ one_label_longer labels (count - 1) read (omega (arith, some, within)) is
+    ∙ one_label_longer labels (count - 1) (omega (arith, some, within))
+    ∙ ap (λ o. length (unrooted (take (count - 1) labels)) + length o) (sym is)
+
+-- what is left of a name from its last label on
+pub one_left : (labels : List (List ℕ)) (left : ℕ) → 0 < left → left ≤ length labels
+    → drop (left - 1) labels ≡ label_no labels (left - 1) ∷ drop left labels
+one_left labels left some within =
+    let same : left - 1 + 1 ≡ left = omega (arith, some) in
+    drop_more labels (left - 1) [] (omega (arith, some, within))
+    ∙ ap (λ n. label_no labels (left - 1) ∷ drop n labels) same
 
 -- fewer of the first labels don't have more octets
 pub fewer_shorter : (labels : List (List ℕ)) (few many : ℕ) → few ≤ many

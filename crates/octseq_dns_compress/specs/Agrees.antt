@@ -1,14 +1,9 @@
 -- The targets in a message, and the names that they belong to.
-use Rattle.std.specs.Prelude.{◌≡◌, ℕ, ◌<◌, ◌≤◌, Option, Some, None, List, [], ◌∷◌, length, slice_index_or, IsTrue}
+use Rattle.std.specs.Prelude.{◌≡◌, ℕ, ◌<◌, ◌≤◌, Some, None, List, [], ◌∷◌, length, slice_index_or, IsTrue}
 use Rattle.std.specs.FinMap.{get, len}
 use Rattle.octseq_dns_compress.specs.Key.{label_at, IsWhole, AreTargets}
-use Rattle.octseq_dns_compress.specs.Names.{Names, Place, is_there}
+use Rattle.octseq_dns_compress.specs.Names.{Names, Place, at_or_zero, is_there}
 use Rattle.octseq_dns_compress.specs.declared.table.Target.{Target}
-
--- the offset of a place, or 0 if there is none
-abbrev pub at_or_zero : Option Place → ℕ
-at_or_zero None = 0
-at_or_zero (Some place) = place.at
 
 -- the offset of labels, or 0 if they are the root or have no place
 abbrev pub place_of : Names → List (List ℕ) → ℕ
@@ -19,7 +14,7 @@ abbrev pub target_of : Names → List (List ℕ) → Place → Target
 target_of names rest place = record { at = place.at; next = place_of names rest; pointers = place.pointers }
 
 -- A target belongs to one of the names: to a label and those that follow it.
-pub record IsOfName (octets : List ℕ) (names : Names) (target : Target) : Type 0 where
+pub record IsOfName (names : Names) (target : Target) : Type 0 where
   pub label : List ℕ
   pub rest : List (List ℕ)
   pub place : Place
@@ -43,7 +38,7 @@ pub record Agrees (octets : List ℕ) (targets : List Target) (names : Names) : 
   pub count : length targets ≡ len names
   pub root : get names [] ≡ None
   pub held : (index : ℕ) (d : Target) → index < length targets
-      → IsOfName octets names (slice_index_or targets index d)
+      → IsOfName names (slice_index_or targets index d)
   pub all : (label : List ℕ) (rest : List (List ℕ)) (place : Place) → get names (label ∷ rest) ≡ Some place
       → HasTarget octets targets names label rest place
   pub once : (labels others : List (List ℕ)) (place other : Place) → get names labels ≡ Some place

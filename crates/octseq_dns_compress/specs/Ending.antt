@@ -1,9 +1,9 @@
 -- How a name ends among names that are kept.
-use Rattle.std.specs.Prelude.{◌≡◌, ℕ, ◌-◌, ◌<◌, List, ◌∷◌, length, take, drop, IsTrue}
+use Rattle.std.specs.Prelude.{◌≡◌, ℕ, ◌-◌, ◌<◌, None, List, ◌∷◌, take, drop, IsTrue}
 use Rattle.std.specs.FinMap.{get}
 use Rattle.octseq_dns_compress.specs.Agrees.{place_of}
 use Rattle.octseq_dns_compress.specs.Key.{IsPosition}
-use Rattle.octseq_dns_compress.specs.Names.{Names, is_there, first_labels, last_place, pointers_from}
+use Rattle.octseq_dns_compress.specs.Names.{Names, is_there, first_labels, label_no, last_place, pointers_from, prefixed}
 use Rattle.octseq_dns_compress.specs.declared.search.Ending.{Ending}
 use Rattle.octseq_dns_compress.specs.declared.table.Target.{Target}
 
@@ -14,13 +14,13 @@ pub record Ends (names : Names) (labels : List (List ℕ)) (next pointers : ℕ)
   pub next_is : next ≡ place_of names labels
   pub pointers_are : pointers ≡ pointers_from (get names labels)
 
--- The labels that are written are those before the ones that are there, and the target of the last of them belongs at a
--- position.
+-- The labels that are written are those before the ones that are there. They aren't there, and the target of the last
+-- of them belongs at a position.
 pub record IsEnding (octets : List ℕ) (targets : List Target) (names : Names) (labels : List (List ℕ))
     (ending : Ending) : Type 0 where
   pub first : take ending.written labels ≡ first_labels names labels
   pub last : get names (drop ending.written labels) ≡ last_place names labels
   pub ends : Ends names (drop ending.written labels) ending.next ending.pointers
-  pub position : (label : List ℕ) (rest : List (List ℕ)) → 0 < ending.written
-      → drop (ending.written - 1) labels ≡ label ∷ rest
-      → IsPosition octets targets (ending.next ∷ length label ∷ label) ending.position
+  pub new : (k : ℕ) → k < ending.written → get names (drop k labels) ≡ None
+  pub position : 0 < ending.written
+      → IsPosition octets targets (ending.next ∷ prefixed (label_no labels (ending.written - 1))) ending.position

@@ -6,11 +6,11 @@ use Rattle.std.proofs.Math.Logic.{∥∥₁_prop, ∥∥₁_elim}
 use Rattle.std.specs.Coded.{Coded, Coded-set, coded_list, coded_ℕ, coded×, code_by}
 use Rattle.std.specs.FinMap.{get, code, same_map}
 use mathlib.Core.HLevel.{Σ_prop_path}
-use Rattle.octseq_dns_compress.specs.Agrees.{Agrees, HasTarget, at_or_zero, place_of, target_of}
+use Rattle.octseq_dns_compress.specs.Agrees.{Agrees, HasTarget, place_of, target_of}
 use Rattle.octseq_dns_compress.specs.FoundNames.{labels_total, labels_alike, alike_there, place_there}
 use Rattle.octseq_dns_compress.specs.FoundNames.{found_alike, none_found}
 use Rattle.octseq_dns_compress.specs.Key.{key_of, HasKeyAt, HasNoKey}
-use Rattle.octseq_dns_compress.specs.Names.{Names, Place, is_there}
+use Rattle.octseq_dns_compress.specs.Names.{Names, Place, at_or_zero, is_there}
 use Rattle.octseq_dns_compress.specs.declared.table.Target.{Target}
 
 -- the key of a name: the offset of what follows its first label, and that label with its length octet

@@ -1,7 +1,6 @@
 pub mod Agrees
 pub mod Apart
 pub mod Composed
-pub mod Ended
 pub mod Ending
 pub mod Few
 pub mod Fields
@@ -13,6 +12,7 @@ pub mod Named
 pub mod Names
 pub mod PlainName
 pub mod PlainNames
+pub mod Sound
 pub mod LabelsThere
 pub mod State
 pub mod Written

@@ -1,20 +1,21 @@
 -- What appending a name does to a message and its targets.
-use Rattle.std.specs.Prelude.{◌≡◌, ℕ, ◌+◌, ◌++◌, Option, List, length, Result, OnOk, OnErr}
+use Rattle.std.specs.Prelude.{◌≡◌, ◌↔◌, ℕ, Option, List, length, Result, OnOk, OnErr}
 use Rattle.octseq.specs.Limit.{IsPast, IsWithin}
 use Rattle.octseq.specs.Refusal.{IsShort, append_error}
 use Rattle.octseq.specs.declared.AppendError.{AppendError}
-use Rattle.octseq_dns_compress.specs.Known.{Known}
-use Rattle.octseq_dns_compress.specs.Names.{name_octets, names_with}
+use Rattle.octseq_dns_compress.specs.Composed.{before}
+use Rattle.octseq_dns_compress.specs.Sound.{Message, state_of}
+use Rattle.octseq_dns_compress.specs.State.{with_name}
 use Rattle.octseq_dns_compress.specs.declared.table.Target.{Target}
 
 -- The octets of a name come after those of a message, and the targets are those of the names that are then there; or
 -- neither changes. It fails with `Short` exactly if the message would exceed its limit.
-pub record AppendsName (limit : Option ℕ) (most : ℕ) (result : Result (Unit {0}) AppendError)
-    (labels : List (List ℕ)) (old new : List ℕ) (held kept : List Target) (known : Known old held) : Type 0 where
-  pub now : Known new kept
-  pub ok : OnOk result ((new ≡ old ++ name_octets known.0 labels)
-      × (now.0 ≡ names_with most known.0 (length old) labels))
-  pub err : OnErr result ((new ≡ old) × (now.0 ≡ known.0))
+pub record AppendsName (limit : Option ℕ) (result : Result (Unit {0}) AppendError) (labels : List (List ℕ)) {most : ℕ}
+    {octets : List ℕ} {held : List Target} (old : Message most octets held) (new : List ℕ) (kept : List Target)
+    : Type 0 where
+  pub now : Message most new kept
+  pub ok : OnOk result (state_of now ≡ with_name most (state_of old) labels)
+  pub err : OnErr result (state_of now ≡ state_of old)
+  pub held_before : before (length octets) kept ≡ held
   pub within : OnOk result (IsWithin limit (length new))
-  pub short : IsShort append_error result → IsPast limit (length old + length (name_octets known.0 labels))
-  pub past : IsPast limit (length old + length (name_octets known.0 labels)) → IsShort append_error result
+  pub short : IsShort append_error result ↔ IsPast limit (length (with_name most (state_of old) labels).octets)

@@ -1,6 +1,6 @@
 -- The names of a message that pointers may lead to, and how a name is written with them: RFC 1035, 4.1.4.
-use Rattle.std.specs.Prelude.{ℕ, ◌+◌, ◌/◌, ◌%◌, Bool, true, ◌&&◌, Option, Some, None, List, [], ◌∷◌, ◌++◌, length}
-use Rattle.std.specs.Prelude.{if◌then◌else◌, nat_le, nat_lt}
+use Rattle.std.specs.Prelude.{ℕ, ◌+◌, ◌/◌, ◌%◌, ◌==◌, Bool, true, ◌&&◌, Option, Some, None, List, [], ◌∷◌, ◌++◌}
+use Rattle.std.specs.Prelude.{length, if◌then◌else◌, nat_le, nat_lt, slice_index_or}
 use Rattle.std.specs.Cmp.Lexicographic.{slice_cmp}
 use Rattle.std.specs.FinMap.{FinMap, get, insert, contains_key, len}
 use Rattle.std.specs.List.{flat_map}
@@ -34,19 +34,31 @@ first_labels names [] = []
 first_labels names (label ∷ labels) =
     if contains_key names (label ∷ labels) then [] else label ∷ first_labels names labels
 
+-- the label at an index
+abbrev pub label_no : List (List ℕ) → ℕ → List ℕ
+label_no labels index = slice_index_or labels index []
+
+-- a label with its length octet
+abbrev pub prefixed : List ℕ → List ℕ
+prefixed label = length label ∷ label
+
 -- labels with their length octets
 abbrev pub unrooted : List (List ℕ) → List ℕ
-unrooted labels = flat_map (λ label. length label ∷ label) labels
+unrooted labels = flat_map prefixed labels
 
--- the root, or the two octets of a pointer to a place
-abbrev pub ending : Option Place → List ℕ
-ending None = 0 ∷ []
-ending (Some place) = (192 + place.at / 256) ∷ (place.at % 256) ∷ []
+-- the offset of a place, or 0 if there is none
+abbrev pub at_or_zero : Option Place → ℕ
+at_or_zero None = 0
+at_or_zero (Some place) = place.at
+
+-- the end of a name: the two octets of a pointer to an offset, or the root if the offset is 0, where no label is
+abbrev pub ended : ℕ → List ℕ
+ended next = if next == 0 then 0 ∷ [] else (192 + next / 256) ∷ (next % 256) ∷ []
 
 -- The octets of a name: its first labels, followed by a pointer to its longest suffix that is there, or by the root if
 -- there is none.
 abbrev pub name_octets : Names → List (List ℕ) → List ℕ
-name_octets names labels = unrooted (first_labels names labels) ++ ending (last_place names labels)
+name_octets names labels = unrooted (first_labels names labels) ++ ended (at_or_zero (last_place names labels))
 
 -- ---- the names that pointers may lead to after it is written
 

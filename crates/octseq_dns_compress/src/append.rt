@@ -1,15 +1,13 @@
 //! Appending octets and names to a message, and overwriting its octets.
-ghost use Rattle.std.specs.Prelude.{◌≡◌, ◌≤◌, ◌+◌, ◌*◌, ◌++◌, ◌⊎◌, ◌↔◌, length, take, drop, true, nat_lt, IsTrue};
-ghost use Rattle.std.specs.Prelude.{OnOk, OnErr};
-ghost use Rattle.std.specs.List.{filter};
+ghost use Rattle.std.specs.Prelude.{◌≡◌, ◌≤◌, ◌+◌, ◌*◌, ◌++◌, ◌⊎◌, ◌↔◌, length, take, drop, true, IsTrue, OnOk};
 ghost use Rattle.octseq.specs.Appends.{Appends};
 ghost use Rattle.octseq.specs.Limit.{IsWithin};
 ghost use Rattle.octseq.specs.Refusal.{IsMemory, append_error};
 ghost use Rattle.octseq_dns_compress.specs.Composed.{message_limit};
 ghost use Rattle.octseq_dns_compress.specs.Fits.{NameFits};
-ghost use Rattle.octseq_dns_compress.specs.Known.{Known};
 ghost use Rattle.octseq_dns_compress.specs.Named.{AppendsName};
 ghost use Rattle.octseq_dns_compress.specs.PlainName.{AreWhole, labels_at};
+ghost use Rattle.octseq_dns_compress.specs.Sound.{Message};
 ghost use Rattle.octseq_dns_name.specs.Read.{labels_of, place_of};
 
 use crate::encode::append_encoded;
@@ -105,19 +103,11 @@ fn append_name_at<B: OctetsBuilder + Truncate, T: Compressor, R: AsOctets + Copy
 ) -> Result<(), AppendError>
     requires whole { AreWhole (place_of name.now).octets starts.now }
     requires labels { labels_at (place_of name.now).octets starts.now ≡ labels_of name.now }
-    requires known { Known (B.content octets.old) (T.held table.old) }
-    requires few { length (T.held table.old) ≤ T.most }
-    requires header { 12 ≤ length (B.content octets.old) }
-    requires short { length (B.content octets.old) ≤ 65535 }
-    ensures named { (known : Known (B.content octets.old) (T.held table.old))
-        → AppendsName (message_limit B.limit) T.most result (labels_of name.now)
-        (B.content octets.old) (B.content octets.new) (T.held table.old) (T.held table.new) known }
-    ensures before { filter (λ t. nat_lt t.at (length (B.content octets.old))) (T.held table.new)
-        ≡ T.held table.old }
+    requires message { Message T.most (B.content octets.old) (T.held table.old) }
+    ensures named { (old : Message T.most (B.content octets.old) (T.held table.old))
+        → AppendsName (message_limit B.limit) result (labels_of name.now) old (B.content octets.new)
+        (T.held table.new) }
     ensures fits { NameFits (labels_of name.now) }
-    ensures few { length (T.held table.new) ≤ T.most }
-    ensures longer { length (B.content octets.old) ≤ length (B.content octets.new) }
-    ensures size { length (B.content octets.new) ≤ 65535 }
     ensures memory { IsMemory append_error result → (B.asks ≡ true) ⊎ (T.asks ≡ true) }
     ensures borrows { B.borrows octets.new ≡ B.borrows octets.old }
     ensures on { turns.old ≤ turns.new }
@@ -128,7 +118,7 @@ fn append_name_at<B: OctetsBuilder + Truncate, T: Compressor, R: AsOctets + Copy
     a_name_has_labels(name);
     let parser = name.parser();
     let source = parser.octets_ref();
-    let plain = PlainName::new(source.as_ref(), starts, name.len() - 1);
+    let plain = PlainName::new(source.as_ref(), starts, name);
     let ending = search(octets.as_ref(), table.as_slice(), &plain, turns);
     let start = octets.len();
     if let Err(error) = append_encoded(octets, &plain, ending) {
@@ -149,19 +139,11 @@ fn append_long_name<B: OctetsBuilder + Truncate, T: Compressor, R: AsOctets + Co
     name: &ParsedName<R>,
     turns: &mut Turns,
 ) -> Result<(), AppendError>
-    requires known { Known (B.content octets.old) (T.held table.old) }
-    requires few { length (T.held table.old) ≤ T.most }
-    requires header { 12 ≤ length (B.content octets.old) }
-    requires short { length (B.content octets.old) ≤ 65535 }
-    ensures named { (known : Known (B.content octets.old) (T.held table.old))
-        → AppendsName (message_limit B.limit) T.most result (labels_of name.now)
-        (B.content octets.old) (B.content octets.new) (T.held table.old) (T.held table.new) known }
-    ensures before { filter (λ t. nat_lt t.at (length (B.content octets.old))) (T.held table.new)
-        ≡ T.held table.old }
+    requires message { Message T.most (B.content octets.old) (T.held table.old) }
+    ensures named { (old : Message T.most (B.content octets.old) (T.held table.old))
+        → AppendsName (message_limit B.limit) result (labels_of name.now) old (B.content octets.new)
+        (T.held table.new) }
     ensures fits { NameFits (labels_of name.now) }
-    ensures few { length (T.held table.new) ≤ T.most }
-    ensures longer { length (B.content octets.old) ≤ length (B.content octets.new) }
-    ensures size { length (B.content octets.new) ≤ 65535 }
     ensures memory { IsMemory append_error result → (B.asks ≡ true) ⊎ (T.asks ≡ true) }
     ensures borrows { B.borrows octets.new ≡ B.borrows octets.old }
     ensures on { turns.old ≤ turns.new }
@@ -183,19 +165,11 @@ pub(crate) fn append_name<B: OctetsBuilder + Truncate, T: Compressor, R: AsOctet
     name: &ParsedName<R>,
     turns: &mut Turns,
 ) -> Result<(), AppendError>
-    requires known { Known (B.content octets.old) (T.held table.old) }
-    requires few { length (T.held table.old) ≤ T.most }
-    requires header { 12 ≤ length (B.content octets.old) }
-    requires short { length (B.content octets.old) ≤ 65535 }
-    ensures named { (known : Known (B.content octets.old) (T.held table.old))
-        → AppendsName (message_limit B.limit) T.most result (labels_of name.now)
-        (B.content octets.old) (B.content octets.new) (T.held table.old) (T.held table.new) known }
-    ensures before { filter (λ t. nat_lt t.at (length (B.content octets.old))) (T.held table.new)
-        ≡ T.held table.old }
+    requires message { Message T.most (B.content octets.old) (T.held table.old) }
+    ensures named { (old : Message T.most (B.content octets.old) (T.held table.old))
+        → AppendsName (message_limit B.limit) result (labels_of name.now) old (B.content octets.new)
+        (T.held table.new) }
     ensures fits { NameFits (labels_of name.now) }
-    ensures few { length (T.held table.new) ≤ T.most }
-    ensures longer { length (B.content octets.old) ≤ length (B.content octets.new) }
-    ensures size { length (B.content octets.new) ≤ 65535 }
     ensures memory { IsMemory append_error result → (B.asks ≡ true) ⊎ (T.asks ≡ true) }
     ensures borrows { B.borrows octets.new ≡ B.borrows octets.old }
     ensures on { turns.old ≤ turns.new }

@@ -1,10 +1,9 @@
 //! Messages composed of octets and of names, which are compressed.
-ghost use Rattle.std.specs.Prelude.{◌≡◌, ◌≤◌, ◌+◌, ◌*◌, ◌⊎◌, length, take, true, OnErr};
-ghost use Rattle.octseq.specs.Limit.{IsPast, IsWithin};
+ghost use Rattle.std.specs.Prelude.{◌≡◌, ◌≤◌, ◌+◌, ◌*◌, ◌⊎◌, length, true, OnErr};
+ghost use Rattle.octseq.specs.Limit.{IsPast};
 ghost use Rattle.octseq.specs.Refusal.{IsShort, append_error};
-ghost use Rattle.octseq_dns_compress.specs.Apart.{AreApart, apart_once};
-ghost use Rattle.octseq_dns_compress.specs.Composed.{message_limit, before, Composes};
-ghost use Rattle.octseq_dns_compress.specs.Known.{Known, known_once};
+ghost use Rattle.octseq_dns_compress.specs.Composed.{message_limit, Composes};
+ghost use Rattle.octseq_dns_compress.specs.Sound.{IsSound, sound_once};
 
 use crate::append::{append, append_name, append_value, write_over};
 use crate::table::Compressor;
@@ -27,35 +26,21 @@ pub struct Composer<B: AsOctets, T: Compressor> {
     table: T,
     entry_start: usize,
     data_start: usize,
-    ghost known: { Known (B.content octets) (T.held table) } by { known_once (B.content octets) (T.held table) },
-    ghost begun: { Known (take entry_start (B.content octets)) (before entry_start (T.held table)) } by { known_once
-        (take entry_start (B.content octets)) (before entry_start (T.held table)) },
-    ghost few: { length (T.held table) ≤ T.most },
-    ghost short: { length (B.content octets) ≤ 65535 },
-    ghost header: { 12 ≤ entry_start },
-    ghost within: { entry_start ≤ length (B.content octets) },
-    ghost data_within: { data_start ≤ length (B.content octets) },
-    ghost apart: { AreApart (B.content octets) data_start (T.held table) } by { apart_once (B.content octets)
-        data_start (T.held table) },
+    ghost sound: { IsSound T.most (B.content octets) (T.held table) entry_start data_start } by { sound_once T.most
+        (B.content octets) (T.held table) entry_start data_start },
 }
 
 impl<B: AsOctets, T: Compressor> Model for Composer<B, T> {
     ghost use Rattle.std.specs.Coded.{codes};
-    ghost use Rattle.std.specs.Prelude.{take};
     ghost use Rattle.octseq_dns_compress.specs.Composed.{Composed};
     ghost use Rattle.octseq_dns_compress.specs.Known.{names_code};
+    ghost use Rattle.octseq_dns_compress.specs.Sound.{composed};
 
     ghost Value = { Composed B T };
 
     ghost coded = { Prim.hlevel (codes, names_code) };
 
-    ghost view = { λ c. record {
-      octets = c.octets;
-      table = c.table;
-      state = record { octets = B.content c.octets; names = c.known.0 };
-      begun = record { octets = take c.entry_start (B.content c.octets); names = c.begun.0 };
-      data_start = c.data_start;
-    } };
+    ghost view = { λ c. composed c.octets c.table c.sound };
 }
 
 impl<B: OctetsBuilder, T: Compressor> Composer<B, T> {
@@ -200,7 +185,7 @@ impl<B: OctetsBuilder + Truncate, T: Compressor> Composer<B, T> {
 }
 
 impl<B: OctetsBuilder + Truncate + AsOctetsMut, T: Compressor> Composer<B, T> {
-    ghost use Rattle.std.specs.Prelude.{◌-◌, ◌++◌, drop, OnOk, [], ◌∷◌};
+    ghost use Rattle.std.specs.Prelude.{◌-◌, ◌++◌, take, drop, OnOk, [], ◌∷◌};
     ghost use Rattle.octseq.specs.Integer.{octets_be};
     ghost use Rattle.octseq.specs.Refusal.{IsMemory};
     ghost use Rattle.std.specs.List.{AllByRecursion};

@@ -4,8 +4,7 @@ ghost use Rattle.octseq.specs.Appends.{Appends};
 ghost use Rattle.octseq.specs.Limit.{IsWithin};
 ghost use Rattle.octseq.specs.Refusal.{IsShort, IsMemory, append_error};
 ghost use Rattle.octseq_dns_compress.specs.Composed.{message_limit};
-ghost use Rattle.octseq_dns_compress.specs.Ended.{ended};
-ghost use Rattle.octseq_dns_compress.specs.Names.{unrooted};
+ghost use Rattle.octseq_dns_compress.specs.Names.{ended, unrooted};
 ghost use Rattle.octseq_dns_compress.specs.PlainNames.{plain_labels};
 
 use crate::append::has_room;

@@ -22,16 +22,21 @@ pub(crate) struct PlainName<'a> {
 }
 
 impl<'a> PlainName<'a> {
-    ghost use Rattle.std.specs.Prelude.{List, ℕ, ◌<◌, ◌∷◌, drop};
+    ghost use Rattle.octseq_dns_compress.specs.Names.{label_no, prefixed};
     ghost use Rattle.octseq_dns_compress.specs.PlainNames.{plain_labels};
 
-    /// The labels whose length octets are at these offsets. With their length octets, they have `len` octets.
-    pub fn new(octets: &'a [u8], starts: &'a [usize], len: usize) -> PlainName<'a>
-        requires whole { AreWhole octets.now starts.now }
-        requires measured { len ≡ length (unrooted (labels_at octets.now starts.now)) }
-        requires short { len ≤ 254 }
-        ensures { plain_labels result ≡ labels_at octets.now starts.now }
+    /// The labels of a name, whose length octets are at these offsets in the octets that it was read from.
+    pub fn new<R: AsOctets + Copy>(
+        octets: &'a [u8],
+        starts: &'a [usize],
+        name: &ParsedName<R>,
+    ) -> PlainName<'a>
+        requires source { octets.now ≡ (place_of name.now).octets }
+        requires whole { AreWhole (place_of name.now).octets starts.now }
+        requires labels { labels_at (place_of name.now).octets starts.now ≡ labels_of name.now }
+        ensures { plain_labels result ≡ labels_of name.now }
     {
+        let len = name.len() - 1;
         PlainName {
             octets,
             starts,
@@ -57,8 +62,7 @@ impl<'a> PlainName<'a> {
     /// Returns a label with its length octet.
     pub fn label(&self, index: usize) -> &[u8]
         requires { index < length (plain_labels self.now) }
-        ensures { (label : List ℕ) (rest : List (List ℕ)) → drop index (plain_labels self.now) ≡ label ∷ rest
-            → result.now ≡ length label ∷ label }
+        ensures { result.now ≡ prefixed (label_no (plain_labels self.now) index) }
     {
         let (octets, start) = (self.octets, self.starts[index]);
         let len = usize::from(octets[start]);

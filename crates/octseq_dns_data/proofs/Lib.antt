@@ -1,5 +1,3 @@
-pub mod BaseLaws
-pub mod BaseTexts
 pub mod Members
 pub mod Mnemonics
 pub mod Params

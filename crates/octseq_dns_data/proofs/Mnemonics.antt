@@ -15,7 +15,8 @@ use Rattle.std.specs.Option.{SomeIff, is_some, unwrap_or}
 use Rattle.std.specs.Str.{str_eq_ignore_ascii_case, str_to_ascii_lowercase}
 use Rattle.std.specs.Str.Parse.{IsNumeral, digits_value}
 use Rattle.octseq_dns_data.specs.Mnemonic.{Names, name_in, name_or, number_in, Spells, IsNameOf, IsWordAndNumber}
-use Rattle.octseq_dns_data.specs.Mnemonic.{Reads, rtype_names, class_names}
+use Rattle.octseq_dns_data.specs.Mnemonic.{Reads, class_names}
+use Rattle.octseq_dns_data.specs.Rtype.{rtype_names}
 
 -- ---- a name among names
 

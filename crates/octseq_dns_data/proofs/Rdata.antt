@@ -1,20 +1,22 @@
 -- The form of data follows from its type: what is there for each type, and where there is none.
-use Rattle.std.proofs.Common.{◌≡◌, ◌⊎◌, ℕ, true, false, if◌then◌else◌, nat_eq, refl, sym, ap, ◌∙◌, subst, arith}
+use Rattle.std.proofs.Common.{◌≡◌, ◌≢◌, ◌⊎◌, ℕ, true, false, if◌then◌else◌, nat_eq, refl, sym, ap, ◌∙◌, subst, arith}
+use Rattle.std.proofs.Common.{List, [], ◌∷◌}
 use Rattle.std.proofs.Math.Bool.{true≢false}
+use Rattle.std.proofs.lemmas.Bool.{eqb-true, ne_eqb, or_cases}
+use Rattle.std.specs.List.{list_any}
 use mathlib.Core.Logic.{inl, inr}
 use Rattle.octseq.specs.Window.{Window}
-use Rattle.octseq_dns_data.specs.Data.{ParsedRdata, Mx, Soa, Srv, Naptr, HasRdata, HasOctets, HasString, HasStrings}
+use Rattle.octseq_dns_data.specs.Data.{ParsedRdata, Mx, Soa, Srv, Naptr, HasRdata, HasOctets, HasStrings}
 use Rattle.octseq_dns_data.specs.Data.{HasMx, HasSoa, HasSrv, HasNaptr, IsInMessage, IsTypedData, SaysData}
-use Rattle.octseq_dns_data.specs.Data.{is_in_message, naptr_form, naptr_parts, rtype_of}
-use Rattle.octseq_dns_data.specs.Local.{LocalType, IsLocal, IsOfClass, IsWhole, form, local_number}
-use Rattle.octseq_dns_data.specs.Format.{IsNumber}
+use Rattle.octseq_dns_data.specs.Data.{is_in_message, message_types, naptr_form, naptr_parts, rtype_of}
+use Rattle.octseq_dns_data.specs.Local.{IsLocal, IsWhole, NoneLocal, form}
+use Rattle.octseq_dns_data.specs.Typed.{KnownType, known_in, known_types, pick, mx_form, mx_parts, soa_form, soa_parts, srv_form, srv_parts}
 use Rattle.octseq_dns_name.specs.Name.{Name, HasName}
 use Rattle.octseq_dns_name.specs.NameFormat.{one_named}
-use Rattle.octseq_dns_data.specs.Format.{one_number}
 use Rattle.octseq_dns_data.specs.OneRow.{one_row_at, string_item}
+use Rattle.octseq_dns_data.specs.Strings.{HasString}
 use Rattle.octseq_format.specs.Fixed.{one_fixed}
 use Rattle.octseq_format.specs.Laws.{Relation, IsOne, NoneAt, one_by}
-use Rattle.octseq_format.specs.Pair.{◌then◌, ◌one_then◌}
 
 -- ---- each form is of one type
 
@@ -107,24 +109,18 @@ shape_by k rtype class w v rdata of is =
 
 -- ---- where there is no form
 
--- there is no mail exchange if there is no number of 2 octets followed by a name
-pub no_mx : (w : Window) → NoneAt (IsNumber 2 then HasName) w → NoneAt HasMx w
-no_mx w none mx v is = none (mx.preference, mx.exchange) v is
+-- there is none of a record if its parts aren't there
+pub no_mx : (w : Window) → NoneAt mx_form.Is w → NoneAt HasMx w
+no_mx w none mx v is = none (mx_parts mx) v is
 
--- there is no service record if there are no three numbers of 2 octets followed by a name
-pub no_srv : (w : Window) → NoneAt (IsNumber 2 then IsNumber 2 then IsNumber 2 then HasName) w → NoneAt HasSrv w
-no_srv w none srv v is = none (srv.priority, (srv.weight, (srv.port, srv.target))) v is
+pub no_srv : (w : Window) → NoneAt srv_form.Is w → NoneAt HasSrv w
+no_srv w none srv v is = none (srv_parts srv) v is
 
--- there is no naming authority pointer if its parts aren't there
 pub no_naptr : (w : Window) → NoneAt naptr_form.Is w → NoneAt HasNaptr w
 no_naptr w none naptr v is = none (naptr_parts naptr) v is
 
--- there is no start of authority if there are no two names followed by five numbers of 4 octets
-pub no_soa : (w : Window)
-    → NoneAt (HasName then HasName then IsNumber 4 then IsNumber 4 then IsNumber 4 then IsNumber 4 then IsNumber 4) w
-    → NoneAt HasSoa w
-no_soa w none soa v is =
-    none (soa.mname, (soa.rname, (soa.serial, (soa.refresh, (soa.retry, (soa.expire, soa.minimum)))))) v is
+pub no_soa : (w : Window) → NoneAt soa_form.Is w → NoneAt HasSoa w
+no_soa w none soa v is = none (soa_parts soa) v is
 
 -- there is none of a type if its form isn't there
 pub none_by : (k : Kind) (rtype class : ℕ) (w : Window) → rtype ≡ number k → NoneAt (Shape k) w
@@ -139,13 +135,11 @@ none_made make Has w none rdata v is = none is.0 v is.2
 -- ---- at most one is at a place
 
 one_mx : IsOne HasMx
-one_mx = one_by (λ (mx : Mx). (mx.preference, mx.exchange)) (λ c. record { preference = c.0; exchange = c.1 })
-    (λ _. refl) (one_number 2 one_then one_named)
+one_mx = one_by mx_parts (λ c. record { preference = c.0; exchange = c.1 }) (λ _. refl) mx_form.one
 
 one_srv : IsOne HasSrv
-one_srv = one_by (λ (srv : Srv). (srv.priority, (srv.weight, (srv.port, srv.target))))
-    (λ c. record { priority = c.0; weight = c.1.0; port = c.1.1.0; target = c.1.1.1 }) (λ _. refl)
-    (one_number 2 one_then one_number 2 one_then one_number 2 one_then one_named)
+one_srv = one_by srv_parts
+    (λ c. record { priority = c.0; weight = c.1.0; port = c.1.1.0; target = c.1.1.1 }) (λ _. refl) srv_form.one
 
 abbrev pub naptr_from : ℕ × (ℕ × (Window × (Window × (Window × Name)))) → Naptr
 naptr_from naptr = record {
@@ -171,13 +165,8 @@ soa_from soa = record {
   minimum = soa.1.1.1.1.1.1;
 }
 
-one_times : IsOne (IsNumber 4 then IsNumber 4 then IsNumber 4 then IsNumber 4 then IsNumber 4)
-one_times = one_number 4 one_then one_number 4 one_then one_number 4 one_then one_number 4 one_then one_number 4
-
 one_soa : IsOne HasSoa
-one_soa = one_by
-    (λ (soa : Soa). (soa.mname, (soa.rname, (soa.serial, (soa.refresh, (soa.retry, (soa.expire, soa.minimum)))))))
-    soa_from (λ _. refl) (one_named one_then one_named one_then one_times)
+one_soa = one_by soa_parts soa_from (λ _. refl) soa_form.one
 
 one_made : {A : Type 0} (make : A → ParsedRdata) (Has : Relation A) → IsOne Has → IsOne (Made make Has)
 one_made make Has one = record {
@@ -236,60 +225,47 @@ typed_rtype rtype class w v (ParsedRdata.unknown other x) is = absurd is
 
 -- ---- data in its own window
 
--- the numbers of these types differ
-abbrev local_of : ℕ → LocalType
-local_of n = if nat_eq n 13 then LocalType.hinfo else if nat_eq n 39 then LocalType.dname else
-    if nat_eq n 43 then LocalType.ds else if nat_eq n 44 then LocalType.sshfp else
-    if nat_eq n 46 then LocalType.rrsig else if nat_eq n 47 then LocalType.nsec else
-    if nat_eq n 48 then LocalType.dnskey else if nat_eq n 50 then LocalType.nsec3 else
-    if nat_eq n 51 then LocalType.nsec3param else if nat_eq n 52 then LocalType.tlsa else
-    if nat_eq n 53 then LocalType.smimea else if nat_eq n 59 then LocalType.cds else
-    if nat_eq n 60 then LocalType.cdnskey else if nat_eq n 257 then LocalType.caa else
-    if nat_eq n 64 then LocalType.svcb else if nat_eq n 65 then LocalType.https else LocalType.uri
+-- a fact of each number of a list
+abbrev AllOf : (ℕ → Type 0) → List ℕ → Type 0
+AllOf P [] = Unit {0}
+AllOf P (n ∷ ns) = P n × AllOf P ns
 
-local_again : (k : LocalType) → local_of (local_number k) ≡ k
-local_again LocalType.hinfo = refl
-local_again LocalType.dname = refl
-local_again LocalType.ds = refl
-local_again LocalType.sshfp = refl
-local_again LocalType.rrsig = refl
-local_again LocalType.nsec = refl
-local_again LocalType.dnskey = refl
-local_again LocalType.nsec3 = refl
-local_again LocalType.nsec3param = refl
-local_again LocalType.tlsa = refl
-local_again LocalType.smimea = refl
-local_again LocalType.cds = refl
-local_again LocalType.cdnskey = refl
-local_again LocalType.caa = refl
-local_again LocalType.svcb = refl
-local_again LocalType.https = refl
-local_again LocalType.uri = refl
+-- is a fact of a number in the list
+in_list : (P : ℕ → Type 0) (ns : List ℕ) (n : ℕ) → AllOf P ns → list_any (λ m. nat_eq m n) ns ≡ true → P n
+in_list P [] n all is = absurd (true≢false (sym is))
+in_list P (m ∷ ns) n all is =
+    elim (or_cases (nat_eq m n) (list_any (λ m. nat_eq m n) ns) is) [
+      | inl same ↦ subst P (eqb-true m n same) all.0
+      | inr later ↦ in_list P ns n all.1 later
+    ]
 
-one_local_type : (k l : LocalType) → local_number k ≡ local_number l → k ≡ l
-one_local_type k l same = sym (local_again k) ∙ ap local_of same ∙ local_again l
+-- none of the types that are read in the message has a form of its own
+no_form_in_message : (rtype : ℕ) → is_in_message rtype ≡ true → (w v : Window) (found : (form rtype).Found)
+    → (form rtype).Is w found v → ⊥
+no_form_in_message rtype is =
+    let none : Window → Window → Unit {0} → ⊥ → ⊥ = λ _ _ _ is. is in
+    in_list (λ n. (w v : Window) (found : (form n).Found) → (form n).Is w found v → ⊥) message_types rtype
+    (none, (none, (none, (none, (none, (none, (none, (none, (none, (none, tt)))))))))) is
 
--- none of them is read in the message
-not_in_message : (k : LocalType) → is_in_message (local_number k) ≡ false
-not_in_message LocalType.hinfo = refl
-not_in_message LocalType.dname = refl
-not_in_message LocalType.ds = refl
-not_in_message LocalType.sshfp = refl
-not_in_message LocalType.rrsig = refl
-not_in_message LocalType.nsec = refl
-not_in_message LocalType.dnskey = refl
-not_in_message LocalType.nsec3 = refl
-not_in_message LocalType.nsec3param = refl
-not_in_message LocalType.tlsa = refl
-not_in_message LocalType.smimea = refl
-not_in_message LocalType.cds = refl
-not_in_message LocalType.cdnskey = refl
-not_in_message LocalType.caa = refl
-not_in_message LocalType.svcb = refl
-not_in_message LocalType.https = refl
-not_in_message LocalType.uri = refl
+-- a number differs from those of all these types
+abbrev pub AreOthers : List KnownType → ℕ → Type 0
+AreOthers [] n = Unit {0}
+AreOthers (it ∷ more) n = (n ≢ it.number) × AreOthers more n
 
--- the others are
+-- then it has no form
+none_known : (types : List KnownType) (n : ℕ) → AreOthers types n → (w v : Window)
+    (found : (known_in types n).form.Found) → (known_in types n).form.Is w found v → ⊥
+none_known [] n others = λ w v found is. is
+none_known (it ∷ more) n others =
+    subst (λ b. (w v : Window) (found : (pick b it (known_in more n)).form.Found)
+    → (pick b it (known_in more n)).form.Is w found v → ⊥) (sym (ne_eqb it.number n (λ same. others.0 (sym same))))
+    (none_known more n others.1)
+
+pub none_other : (rtype class : ℕ) (inside : Window) → AreOthers known_types rtype → NoneLocal rtype class inside
+none_other rtype class inside others k found is =
+    none_known known_types k (subst (AreOthers known_types) is.rtype_is others) inside _ found is.whole
+
+-- the types of the records above are read in the message
 kind_in_message : (k : Kind) → is_in_message (number k) ≡ true
 kind_in_message Kind.of_a = refl
 kind_in_message Kind.of_aaaa = refl
@@ -303,30 +279,30 @@ kind_in_message Kind.of_srv = refl
 kind_in_message Kind.of_naptr = refl
 
 -- at most one value of a form takes the whole window
-one_whole : (k l : LocalType) (a : (form k).Found) (b : (form l).Found) (w : Window) → k ≡ l
+one_whole : (k l : ℕ) (a : (form k).Found) (b : (form l).Found) (w : Window) → k ≡ l
     → IsWhole (form k).Is w a → IsWhole (form l).Is w b → ParsedRdata.local k a ≡ ParsedRdata.local l b
 one_whole k l a b w same here there =
-    subst (λ (l : LocalType). (b : (form l).Found) → IsWhole (form l).Is w b
+    subst (λ (l : ℕ). (b : (form l).Found) → IsWhole (form l).Is w b
     → ParsedRdata.local k a ≡ ParsedRdata.local l b) same
     (λ b there. ap (ParsedRdata.local k) ((form k).one.same w a b _ _ here there).0) b there
 
-one_local : (rtype class : ℕ) (w : Window) (k l : LocalType) (a : (form k).Found) (b : (form l).Found)
+one_local : (rtype class : ℕ) (w : Window) (k l : ℕ) (a : (form k).Found) (b : (form l).Found)
     → IsLocal rtype class w k a → IsLocal rtype class w l b → ParsedRdata.local k a ≡ ParsedRdata.local l b
 one_local rtype class w k l a b here there =
-    one_whole k l a b w (one_local_type k l (sym here.rtype_is ∙ there.rtype_is)) here.whole there.whole
+    one_whole k l a b w (sym here.rtype_is ∙ there.rtype_is) here.whole there.whole
 
--- data of one of these types isn't read in the message
-pub apart : (rtype class : ℕ) (w inside : Window) (rdata : ParsedRdata) (k : LocalType) → rtype ≡ local_number k
-    → IsInMessage rtype class w inside rdata → ⊥
-apart rtype class w inside rdata k is there =
-    let found = shape_of rtype class w there.end rdata there.rdata_is in
-    true≢false (sym (kind_in_message found.0) ∙ ap is_in_message (sym found.1 ∙ is) ∙ not_in_message k)
-
--- nor is data that is read in the message read in its own window
-pub none_by_itself : (rtype class : ℕ) (inside : Window) → is_in_message rtype ≡ true → (k : LocalType)
-    (found : (form k).Found) → IsLocal rtype class inside k found → ⊥
+-- data that is read in the message isn't read in its own window
+pub none_by_itself : (rtype class : ℕ) (inside : Window) → is_in_message rtype ≡ true
+    → NoneLocal rtype class inside
 none_by_itself rtype class inside reported k found is =
-    true≢false (sym reported ∙ ap is_in_message is.rtype_is ∙ not_in_message k)
+    no_form_in_message k (sym (ap is_in_message is.rtype_is) ∙ reported) inside _ found is.whole
+
+-- nor the other way round
+pub apart : (rtype class : ℕ) (w inside : Window) (rdata : ParsedRdata) (k : ℕ) (found : (form k).Found)
+    → IsLocal rtype class inside k found → IsInMessage rtype class w inside rdata → ⊥
+apart rtype class w inside rdata k found is there =
+    let kind = shape_of rtype class w there.end rdata there.rdata_is in
+    none_by_itself rtype class inside (ap is_in_message kind.1 ∙ kind_in_message kind.0) k found is
 
 pub none_in_message : (rtype class : ℕ) (w inside : Window) → is_in_message rtype ≡ false → (rdata : ParsedRdata)
     → IsInMessage rtype class w inside rdata → ⊥
@@ -334,28 +310,12 @@ none_in_message rtype class w inside reported rdata is =
     let found = shape_of rtype class w is.end rdata is.rdata_is in
     true≢false (sym (kind_in_message found.0) ∙ ap is_in_message (sym found.1) ∙ reported)
 
--- if there is none of a type, there is none of any other
-pub none_local : (k : LocalType) (rtype class : ℕ) (inside : Window) → rtype ≡ local_number k
-    → ((found : (form k).Found) → IsWhole (form k).Is inside found → ⊥) → (l : LocalType) (found : (form l).Found)
-    → IsLocal rtype class inside l found → ⊥
-none_local k rtype class inside of none l found is =
-    subst (λ (l : LocalType). (found : (form l).Found) → IsWhole (form l).Is inside found → ⊥)
-    (one_local_type k l (sym of ∙ is.rtype_is)) none found is.whole
-
--- the same for a type that is limited to a class
-pub none_local_of : (k : LocalType) (rtype class : ℕ) (inside : Window) → rtype ≡ local_number k
-    → ((found : (form k).Found) → IsOfClass k class → IsWhole (form k).Is inside found → ⊥) → (l : LocalType)
-    (found : (form l).Found) → IsLocal rtype class inside l found → ⊥
-none_local_of k rtype class inside of none l found is =
-    subst (λ (l : LocalType). (found : (form l).Found) → IsOfClass l class → IsWhole (form l).Is inside found → ⊥)
-    (one_local_type k l (sym of ∙ is.rtype_is)) none found is.class_is is.whole
-
 -- ---- data
 
 -- it is in the message or in its own window
 abbrev pub IsEither : (rtype class : ℕ) (w inside : Window) → ParsedRdata → Type 0
 IsEither rtype class w inside rdata = IsInMessage rtype class w inside rdata
-    ⊎ ((k : LocalType) × (found : (form k).Found) × (rdata ≡ ParsedRdata.local k found)
+    ⊎ ((k : ℕ) × (found : (form k).Found) × (rdata ≡ ParsedRdata.local k found)
     × IsLocal rtype class inside k found)
 
 pub either : (rtype class : ℕ) (w inside : Window) (rdata : ParsedRdata) → IsTypedData rtype class w inside rdata
@@ -401,8 +361,7 @@ none_typed rtype class w inside end reported same none rdata is = apart_from (ei
 
 -- nor of any other type if there is none in its own window
 pub none_typed_local : (rtype class : ℕ) (w inside : Window) → is_in_message rtype ≡ false
-    → ((k : LocalType) (found : (form k).Found) → IsLocal rtype class inside k found → ⊥)
-    → (rdata : ParsedRdata) → IsTypedData rtype class w inside rdata → ⊥
+    → NoneLocal rtype class inside → (rdata : ParsedRdata) → IsTypedData rtype class w inside rdata → ⊥
 none_typed_local rtype class w inside reported none rdata is = apart_from (either rtype class w inside rdata is)
   where
     apart_from : IsEither rtype class w inside rdata → ⊥
@@ -414,9 +373,9 @@ one_either : (rtype class : ℕ) (w inside : Window) (rdata other : ParsedRdata)
     → IsEither rtype class w inside other → rdata ≡ other
 one_either rtype class w inside rdata other (inl a) (inl b) = one_in_message rtype class w inside rdata other a b
 one_either rtype class w inside rdata other (inl a) (inr b) =
-    absurd (apart rtype class w inside rdata b.0 b.3.rtype_is a)
+    absurd (apart rtype class w inside rdata b.0 b.1 b.3 a)
 one_either rtype class w inside rdata other (inr a) (inl b) =
-    absurd (apart rtype class w inside other a.0 a.3.rtype_is b)
+    absurd (apart rtype class w inside other a.0 a.1 a.3 b)
 one_either rtype class w inside rdata other (inr a) (inr b) =
     a.2 ∙ one_local rtype class inside a.0 b.0 a.1 b.1 a.3 b.3 ∙ sym b.2
 

@@ -11,7 +11,7 @@ use Rattle.octseq.specs.Integer.{be, octets_be}
 use Rattle.octseq.specs.Part.{part, part_of}
 use Rattle.octseq.specs.Window.{Window, at, left, nested, next, rest}
 use Rattle.octseq.proofs.WrittenBack.{small_be}
-use Rattle.octseq_dns_data.specs.Data.{HasString}
+use Rattle.octseq_dns_data.specs.Strings.{HasString}
 use Rattle.octseq_dns_data.specs.OneRow.{row_on, string_item}
 use Rattle.octseq_dns_data.specs.Strings.{spelling}
 use Rattle.octseq_format.specs.Canonical.{IsSound, many_rest, many_next, each_next}

@@ -1,22 +1,24 @@
 -- Forms of data: parts, one after another. The last one may take all the octets that are left. What is written is read
--- back.
-use Rattle.std.specs.Prelude.{ℕ, ◌<◌, ◌^◌, List}
+-- back. Each part has its text, and the least number of turns that reading it takes.
+use Rattle.std.specs.Prelude.{ℕ, ◌<◌, ◌^◌, List, [], ◌∷◌, ◌++◌}
+use Rattle.std.specs.Fmt.{decimal}
 use Rattle.octseq.specs.Integer.{be, octets_be}
 use Rattle.octseq.specs.Window.{Window, rest}
 use Rattle.octseq_dns_data.specs.Formed.{IsFormed, FormedFits, one_formed, formed_read_back}
 use Rattle.octseq_dns_data.specs.PlainName.{HasPlainName, one_plain, delimited_plain}
 use Rattle.octseq_dns_name.specs.Name.{Name, HasName}
-use Rattle.octseq_dns_name.specs.NameFormat.{NameFits, name_labels, one_named, delimited_name}
+use Rattle.octseq_dns_name.specs.NameFormat.{NameFits, least_turns, name_labels, one_named, delimited_name}
+use Rattle.octseq_dns_name.specs.Text.{name_text}
 use Rattle.octseq_dns_name.specs.Wire.{wire}
 use Rattle.octseq_format.specs.Counted.{Counted, CountFits, counted_octets, one_counted, delimited_counted}
 use Rattle.octseq_format.specs.Fixed.{IsFixed, one_fixed, delimited_fixed}
 use Rattle.octseq_format.specs.Integers.{are_be}
 use Rattle.octseq_format.specs.Laws.{Relation, IsOne, IsReadBack, IsDelimited, back_of}
-use Rattle.octseq_format.specs.Pair.{◌then◌, ◌and◌, ◌before◌, ◌also◌, ◌one_then◌, ◌back_then◌, ◌delimited_then◌}
+use Rattle.octseq_format.specs.Pair.{◌then◌, ◌and◌, ◌before◌, ◌also◌, ◌plus◌, ◌one_then◌, ◌back_then◌, ◌delimited_then◌}
 use Rattle.octseq_format.specs.Rest.{IsRest, one_rest, rest_read_back}
 
--- A part that shows its own end: what is found, what it says wherever it is, the octets that say it, and which values
--- have octets.
+-- A part that shows its own end: what is found, what it says wherever it is, the octets that say it, which values have
+-- octets, the least number of turns that reading it takes, and its text.
 pub record Part : Type 1 where
   pub Found : Type 0
   pub Said : Type 0
@@ -26,6 +28,8 @@ pub record Part : Type 1 where
   pub Fits : Said → Type 0
   pub one : IsOne Is
   pub next : IsDelimited Is says octets Fits
+  pub turns : Found → ℕ
+  pub text : Found → List ℕ
 
 -- A form, which takes the whole window.
 pub record Form : Type 1 where
@@ -37,8 +41,10 @@ pub record Form : Type 1 where
   pub Fits : Said → Type 0
   pub one : IsOne Is
   pub back : IsReadBack Is says octets Fits
+  pub turns : Found → ℕ
+  pub text : Found → List ℕ
 
--- a part, followed by a form
+-- a part, followed by a form: their texts are separated by a space (32)
 infixr 5 ◌followed_by◌
 abbrev pub ◌followed_by◌ : Part → Form → Form
 first followed_by second = record {
@@ -50,7 +56,15 @@ first followed_by second = record {
   Fits = first.Fits also second.Fits;
   one = first.one one_then second.one;
   back = first.next back_then second.back;
+  turns = first.turns plus second.turns;
+  text = λ found. first.text found.0 ++ 32 ∷ second.text found.1;
 }
+
+-- the same, if the text of the form has a space before each item
+infixr 5 ◌then_each◌
+abbrev pub ◌then_each◌ : Part → Form → Form
+first then_each second =
+    record (first followed_by second) { text = λ found. first.text found.0 ++ second.text found.1 }
 
 -- a part, followed by another
 infixr 5 ◌and_then◌
@@ -64,6 +78,8 @@ first and_then second = record {
   Fits = first.Fits also second.Fits;
   one = first.one one_then second.one;
   next = first.next delimited_then second.next;
+  turns = first.turns plus second.turns;
+  text = λ found. first.text found.0 ++ 32 ∷ second.text found.1;
 }
 
 -- a part alone
@@ -77,6 +93,23 @@ alone part = record {
   Fits = part.Fits;
   one = part.one;
   back = back_of part.next;
+  turns = part.turns;
+  text = part.text;
+}
+
+-- no form: nothing is of it
+abbrev pub no_form : Form
+no_form = record {
+  Found = Unit {0};
+  Said = Unit {0};
+  Is = λ _ _ _. ⊥;
+  says = λ a. a;
+  octets = λ _. [];
+  Fits = λ _. ⊥;
+  one = record { same = λ w a b u v is other. absurd is };
+  back = record { back = λ w said fits is last. absurd fits };
+  turns = λ _. 0;
+  text = λ _. [];
 }
 
 -- a number of k octets, big-endian
@@ -90,6 +123,8 @@ number k = record {
   Fits = λ n. n < 256 ^ k;
   one = one_fixed k be;
   next = delimited_fixed (are_be k);
+  turns = λ _. 0;
+  text = decimal;
 }
 
 -- a name, which may have pointers when it is read, and has none when it is written
@@ -103,6 +138,8 @@ domain_name = record {
   Fits = NameFits;
   one = one_named;
   next = delimited_name;
+  turns = least_turns;
+  text = λ name. name_text name.labels;
 }
 
 -- a name without pointers
@@ -116,11 +153,13 @@ plain_name = record {
   Fits = NameFits;
   one = one_plain;
   next = delimited_plain;
+  turns = least_turns;
+  text = λ name. name_text name.labels;
 }
 
--- octets of a form, after their length of one octet
-abbrev pub string : (List ℕ → Type 0) → Part
-string HasForm = record {
+-- octets of a form, after their length of one octet, and their text
+abbrev pub string : (List ℕ → Type 0) → (List ℕ → List ℕ) → Part
+string HasForm text = record {
   Found = Window;
   Said = List ℕ;
   Is = Counted 1 0 (IsFormed HasForm);
@@ -129,11 +168,13 @@ string HasForm = record {
   Fits = CountFits 1 0 (λ octets. octets) (FormedFits HasForm);
   one = one_counted (one_formed HasForm);
   next = delimited_counted (formed_read_back HasForm);
+  turns = λ _. 0;
+  text = λ place. text (rest place);
 }
 
--- all octets up to the end, which have a form
-abbrev pub octets_of : (List ℕ → Type 0) → Form
-octets_of HasForm = record {
+-- all octets up to the end, which have a form, and their text
+abbrev pub octets_of : (List ℕ → Type 0) → (List ℕ → List ℕ) → Form
+octets_of HasForm text = record {
   Found = Window;
   Said = List ℕ;
   Is = IsFormed HasForm;
@@ -142,11 +183,13 @@ octets_of HasForm = record {
   Fits = FormedFits HasForm;
   one = one_formed HasForm;
   back = formed_read_back HasForm;
+  turns = λ _. 0;
+  text = λ place. text (rest place);
 }
 
--- all octets up to the end, whatever they are
-abbrev pub all_octets : Form
-all_octets = record {
+-- all octets up to the end, whatever they are, and their text
+abbrev pub all_octets : (List ℕ → List ℕ) → Form
+all_octets text = record {
   Found = Window;
   Said = List ℕ;
   Is = IsRest;
@@ -155,4 +198,6 @@ all_octets = record {
   Fits = λ _. Unit {0};
   one = one_rest;
   back = rest_read_back;
+  turns = λ _. 0;
+  text = λ place. text (rest place);
 }

@@ -1,4 +1,3 @@
-pub mod BaseText
 pub mod Data
 pub mod DataText
 pub mod DataTurns
@@ -25,3 +24,5 @@ pub mod SvcParamsText
 pub mod Tag
 pub mod Txt
 pub mod Typed
+pub use Rattle.octseq_dns_scan.specs.Base32hex
+pub use Rattle.octseq_dns_scan.specs.Base64

@@ -7,7 +7,7 @@ use Rattle.std.specs.Fmt.{decimal}
 use Rattle.std.specs.List.{IsAmong}
 use Rattle.std.specs.Str.{str_eq_ignore_ascii_case}
 use Rattle.std.specs.Str.Parse.{IsNumeral, digits_value}
-use Rattle.octseq_dns_data.specs.Rtype as types
+use Rattle.octseq_dns_data.specs.Rtype.{rtype_names}
 
 -- numbers, each with its name
 abbrev pub Names : Type 0
@@ -53,19 +53,6 @@ Reads word names text number = IsNameOf names text number ⊎ IsWordAndNumber wo
 
 abbrev pub class_names : Names
 class_names = (1, codes "IN") ∷ (3, codes "CH") ∷ (4, codes "HS") ∷ (254, codes "NONE") ∷ (255, codes "ANY") ∷ []
-
-abbrev pub rtype_names : Names
-rtype_names = (types.a, codes "A") ∷ (types.ns, codes "NS") ∷ (types.cname, codes "CNAME") ∷ (types.soa, codes "SOA")
-    ∷ (types.ptr, codes "PTR") ∷ (types.hinfo, codes "HINFO") ∷ (types.mx, codes "MX") ∷ (types.txt, codes "TXT")
-    ∷ (types.rp, codes "RP") ∷ (types.aaaa, codes "AAAA") ∷ (types.loc, codes "LOC") ∷ (types.srv, codes "SRV")
-    ∷ (types.naptr, codes "NAPTR") ∷ (types.dname, codes "DNAME") ∷ (types.opt, codes "OPT") ∷ (types.ds, codes "DS")
-    ∷ (types.sshfp, codes "SSHFP") ∷ (types.rrsig, codes "RRSIG") ∷ (types.nsec, codes "NSEC")
-    ∷ (types.dnskey, codes "DNSKEY") ∷ (types.nsec3, codes "NSEC3") ∷ (types.nsec3param, codes "NSEC3PARAM")
-    ∷ (types.tlsa, codes "TLSA") ∷ (types.smimea, codes "SMIMEA") ∷ (types.cds, codes "CDS")
-    ∷ (types.cdnskey, codes "CDNSKEY") ∷ (types.openpgpkey, codes "OPENPGPKEY") ∷ (types.zonemd, codes "ZONEMD")
-    ∷ (types.svcb, codes "SVCB") ∷ (types.https, codes "HTTPS") ∷ (types.spf, codes "SPF")
-    ∷ (types.tkey, codes "TKEY") ∷ (types.tsig, codes "TSIG") ∷ (types.ixfr, codes "IXFR")
-    ∷ (types.axfr, codes "AXFR") ∷ (types.any, codes "ANY") ∷ (types.uri, codes "URI") ∷ (types.caa, codes "CAA") ∷ []
 
 -- the text of a class, and of a type
 unfoldable pub class_text : ℕ → List ℕ

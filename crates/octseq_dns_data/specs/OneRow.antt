@@ -5,7 +5,7 @@ use Rattle.std.specs.Coded.{Coded, Coded-set, coded_list, coded_ℕ}
 use Rattle.std.proofs.Math.Logic.{∥∥₁_prop, ∥∥₁_elim}
 use mathlib.Core.HLevel.{Σ_prop_path}
 use Rattle.octseq.specs.Window.{Window, left}
-use Rattle.octseq_dns_data.specs.Data.{HasString}
+use Rattle.octseq_dns_data.specs.Strings.{HasString}
 use Rattle.octseq_format.specs.Laws.{Relation, IsOne, IsMoving}
 use Rattle.octseq_format.specs.Row.{Row, row_moves, one_row_to}
 

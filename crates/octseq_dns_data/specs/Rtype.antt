@@ -1,5 +1,6 @@
--- The numbers of record types: RFC 1035, 3.2.2, and the registry "Resource Record (RR) TYPEs" of IANA.
-use Rattle.std.specs.Prelude.{ℕ}
+-- The numbers of record types and their mnemonics: RFC 1035, 3.2.2, and the registry "Resource Record (RR) TYPEs" of
+-- IANA.
+use Rattle.std.specs.Prelude.{ℕ, List, [], ◌∷◌, codes}
 
 abbrev pub a : ℕ
 a = 1
@@ -82,6 +83,9 @@ cdnskey = 60
 abbrev pub openpgpkey : ℕ
 openpgpkey = 61
 
+abbrev pub csync : ℕ
+csync = 62
+
 abbrev pub zonemd : ℕ
 zonemd = 63
 
@@ -114,3 +118,46 @@ uri = 256
 
 abbrev pub caa : ℕ
 caa = 257
+
+-- each with its mnemonic
+abbrev pub rtype_names : List (ℕ × List ℕ)
+rtype_names = (a, codes "A")
+    ∷ (ns, codes "NS")
+    ∷ (cname, codes "CNAME")
+    ∷ (soa, codes "SOA")
+    ∷ (ptr, codes "PTR")
+    ∷ (hinfo, codes "HINFO")
+    ∷ (mx, codes "MX")
+    ∷ (txt, codes "TXT")
+    ∷ (rp, codes "RP")
+    ∷ (aaaa, codes "AAAA")
+    ∷ (loc, codes "LOC")
+    ∷ (srv, codes "SRV")
+    ∷ (naptr, codes "NAPTR")
+    ∷ (dname, codes "DNAME")
+    ∷ (opt, codes "OPT")
+    ∷ (ds, codes "DS")
+    ∷ (sshfp, codes "SSHFP")
+    ∷ (rrsig, codes "RRSIG")
+    ∷ (nsec, codes "NSEC")
+    ∷ (dnskey, codes "DNSKEY")
+    ∷ (nsec3, codes "NSEC3")
+    ∷ (nsec3param, codes "NSEC3PARAM")
+    ∷ (tlsa, codes "TLSA")
+    ∷ (smimea, codes "SMIMEA")
+    ∷ (cds, codes "CDS")
+    ∷ (cdnskey, codes "CDNSKEY")
+    ∷ (openpgpkey, codes "OPENPGPKEY")
+    ∷ (csync, codes "CSYNC")
+    ∷ (zonemd, codes "ZONEMD")
+    ∷ (svcb, codes "SVCB")
+    ∷ (https, codes "HTTPS")
+    ∷ (spf, codes "SPF")
+    ∷ (tkey, codes "TKEY")
+    ∷ (tsig, codes "TSIG")
+    ∷ (ixfr, codes "IXFR")
+    ∷ (axfr, codes "AXFR")
+    ∷ (any, codes "ANY")
+    ∷ (uri, codes "URI")
+    ∷ (caa, codes "CAA")
+    ∷ []

@@ -5,7 +5,7 @@ use Rattle.std.specs.Fmt.{decimal}
 use Rattle.std.specs.List.{flat_map}
 use Rattle.std.specs.Net.Text.{ipv4_text}
 use Rattle.octseq.specs.Integer.{be}
-use Rattle.octseq_dns_data.specs.BaseText.{base64_text}
+use Rattle.octseq_dns_scan.specs.Base64.{base64_text}
 use Rattle.octseq.specs.OctetsText.{ipv6_address_text, string_octet_text}
 use Rattle.octseq_dns_data.specs.Mnemonic.{Names, name_or}
 use Rattle.octseq_dns_data.specs.Pieces.{pieces, split_octets}

@@ -1,45 +1,49 @@
 //! Record data, read by the record's type and class: RFC 1035, 3.3 and 3.4.
-ghost use Rattle.std.specs.Prelude.{◌≡◌, ◌≢◌, ℕ, ◌+◌, ◌-◌, ◌≤◌, List, true, IsTrue, IsErr, IfOk, OnOk, ⊤};
+ghost use Rattle.std.specs.Prelude.{◌≡◌, ◌≢◌, ℕ, ◌+◌, ◌-◌, ◌≤◌, List, Some, true, IsTrue, IsErr, IfOk, OnOk, ⊤};
 ghost use Rattle.std.specs.Net.Addr.{IsIpv4Mapped, segments_of};
 ghost use Rattle.octseq.specs.Parser.{window};
 ghost use Rattle.octseq.specs.Window.{Window, left};
 ghost use Rattle.octseq_dns_data.specs.Data.{ParsedRdata, FitsForm, HasRdata, IsTypedData, SaysData, is_in_message};
 ghost use Rattle.octseq_dns_data.specs.Data.{rtype_of};
-ghost use Rattle.octseq_dns_data.specs.Local.{LocalType, IsLocal, IsWhole, form, service_form};
-ghost use Rattle.octseq_dns_data.specs.Typed.{svcb_of};
+ghost use Rattle.octseq_dns_data.specs.Local.{Agrees, IsOfClass, IsWhole, NoneLocal};
+ghost use Rattle.octseq_dns_data.specs.RdataText.{rdata_text};
+ghost use Rattle.octseq_dns_data.specs.Typed.{rdata_of};
 ghost use Rattle.octseq_format.specs.Turns.{TakesTurns};
-ghost use Rattle.octseq_dns_data.specs.DataTurns.{rdata_turns, service_turns};
+ghost use Rattle.octseq_dns_data.specs.DataTurns.{rdata_turns};
 ghost use Rattle.octseq.specs.OctetsText.{is_compatible, ipv6_address_text};
 ghost use Rattle.octseq_dns_data.specs.DataText.{IsGroupsText};
 
 use crate::iana::{Class, Rtype};
+use octseq::octets_text::{write_ipv4, write_ipv6, write_opaque};
 use octseq::{AsOctets, Parser, Turns};
 use octseq_dns_name::name::a_name_has_labels;
 use octseq_dns_name::{DomainName, Malformed, ParsedName};
-use octseq_format::{Format, Octets, Of};
+use octseq_format::{Fields, Format, Octets, Of};
 use std::alloc::AllocError;
+use std::fmt;
 
 mod addresses;
 mod caa;
+mod csync;
 mod denial;
 mod dnssec;
-mod fits;
 mod formed;
 mod hinfo;
 mod keys;
 mod mx;
 mod naptr;
+mod openpgpkey;
 mod plain_name;
 mod soa;
 mod some_octets;
 mod srv;
 mod string;
 mod svcb;
-pub(crate) mod text;
 mod txt;
 mod uri;
 
 pub use crate::data::caa::Caa;
+pub use crate::data::csync::Csync;
 pub use crate::data::denial::{Nsec, Nsec3, Nsec3param};
 pub use crate::data::dnssec::{Dnskey, Ds, Rrsig};
 pub use crate::data::formed::{Formed, FormedOctets};
@@ -47,6 +51,7 @@ pub use crate::data::hinfo::Hinfo;
 pub use crate::data::keys::{Sshfp, Tlsa};
 pub use crate::data::mx::Mx;
 pub use crate::data::naptr::Naptr;
+pub use crate::data::openpgpkey::Openpgpkey;
 pub use crate::data::plain_name::PlainName;
 pub use crate::data::soa::Soa;
 pub use crate::data::some_octets::{CaaTag, OwnerHash, SomeOctets};
@@ -129,6 +134,10 @@ pub enum Data<R: AsOctets> {
     Cds(Ds<R>),
     /// The key whose DS a child zone wants in its parent: RFC 7344.
     Cdnskey(Dnskey<R>),
+    /// The OpenPGP key of a mailbox: RFC 7929.
+    Openpgpkey(Openpgpkey<R>),
+    /// The types that a parent zone should copy from its child: RFC 7477.
+    Csync(Csync<R>),
     /// Who may issue certificates: RFC 8659.
     Caa(Caa<R>),
     /// A service binding, in class IN: RFC 9460.
@@ -154,7 +163,7 @@ impl<R: AsOctets + Copy> Clone for Data<R> {
 }
 
 impl<R: AsOctets + Copy> Data<R> {
-    ghost use Rattle.octseq_dns_data.specs.Typed.{rdata_of, IsAt};
+    ghost use Rattle.octseq_dns_data.specs.Typed.{IsAt};
 
     /// Returns the type of the record.
     pub fn rtype(&self) -> Rtype
@@ -184,6 +193,8 @@ impl<R: AsOctets + Copy> Data<R> {
             Data::Smimea(_) => Rtype::SMIMEA,
             Data::Cds(_) => Rtype::CDS,
             Data::Cdnskey(_) => Rtype::CDNSKEY,
+            Data::Openpgpkey(_) => Rtype::OPENPGPKEY,
+            Data::Csync(_) => Rtype::CSYNC,
             Data::Caa(_) => Rtype::CAA,
             Data::Svcb(_) => Rtype::SVCB,
             Data::Https(_) => Rtype::HTTPS,
@@ -195,27 +206,50 @@ impl<R: AsOctets + Copy> Data<R> {
     /// Data that is written by its form, rather than by fields some of which are compressed, has octets: its parts fit.
     ///
     /// It does nothing. Calling it brings the law into the caller's proof.
+    #[tactic(auto, unfolding(octseq_format::specs::Pair::both_say))]
     pub fn has_octets(&self)
         ensures { FitsForm (rdata_of self.now) }
     {
         match self {
-            Data::Naptr(naptr) => fits::naptr_fits(naptr),
-            Data::Hinfo(hinfo) => fits::hinfo_fits(hinfo),
-            Data::Ds(ds) => fits::ds_fits(ds),
-            Data::Sshfp(sshfp) => fits::sshfp_fits(sshfp),
-            Data::Rrsig(rrsig) => fits::rrsig_fits(rrsig),
-            Data::Nsec(nsec) => fits::nsec_fits(nsec),
-            Data::Dnskey(dnskey) => fits::dnskey_fits(dnskey),
-            Data::Nsec3(nsec3) => fits::nsec3_fits(nsec3),
-            Data::Nsec3param(nsec3param) => fits::nsec3param_fits(nsec3param),
-            Data::Tlsa(tlsa) => fits::tlsa_fits(tlsa),
-            Data::Smimea(tlsa) => fits::tlsa_fits(tlsa),
-            Data::Cds(ds) => fits::ds_fits(ds),
-            Data::Cdnskey(dnskey) => fits::dnskey_fits(dnskey),
-            Data::Caa(caa) => fits::caa_fits(caa),
-            Data::Svcb(svcb) => fits::svcb_fits(svcb),
-            Data::Https(svcb) => fits::svcb_fits(svcb),
-            Data::Uri(uri) => fits::uri_fits(uri),
+            Data::Naptr(naptr) => {
+                drop(naptr.to_fields());
+                let _len = naptr.replacement.len();
+                a_name_has_labels(&naptr.replacement);
+            }
+            Data::Hinfo(hinfo) => drop(hinfo.to_fields()),
+            Data::Ds(ds) => drop(ds.to_fields()),
+            Data::Sshfp(sshfp) => drop(sshfp.to_fields()),
+            Data::Rrsig(sig) => {
+                drop(sig.to_fields());
+                let _len = sig.signer_name.len();
+                a_name_has_labels(&sig.signer_name);
+            }
+            Data::Nsec(nsec) => {
+                drop(nsec.to_fields());
+                let _len = nsec.next_name.len();
+                a_name_has_labels(&nsec.next_name);
+            }
+            Data::Dnskey(key) => drop(key.to_fields()),
+            Data::Nsec3(nsec) => drop(nsec.to_fields()),
+            Data::Nsec3param(param) => drop(param.to_fields()),
+            Data::Tlsa(tlsa) => drop(tlsa.to_fields()),
+            Data::Smimea(tlsa) => drop(tlsa.to_fields()),
+            Data::Cds(ds) => drop(ds.to_fields()),
+            Data::Cdnskey(key) => drop(key.to_fields()),
+            Data::Openpgpkey(key) => drop(key.to_fields()),
+            Data::Csync(csync) => drop(csync.to_fields()),
+            Data::Caa(caa) => drop(caa.to_fields()),
+            Data::Svcb(svcb) => {
+                drop(svcb.to_fields());
+                let _len = svcb.target.len();
+                a_name_has_labels(&svcb.target);
+            }
+            Data::Https(svcb) => {
+                drop(svcb.to_fields());
+                let _len = svcb.target.len();
+                a_name_has_labels(&svcb.target);
+            }
+            Data::Uri(uri) => drop(uri.to_fields()),
             Data::Dname(name) => {
                 let _len = name.len();
                 a_name_has_labels(name);
@@ -347,55 +381,130 @@ impl<R: AsOctets + Copy> Data<R> {
         ensures rdata { IfOk result (λ found. (w : Window)
             → IsTypedData rtype class w (window inside) (rdata_of found)) }
         ensures place { IfOk result (λ found. (w : Window) → IsAt w found) }
-        ensures malformed { IsErr result → (k : LocalType) (found : (form k).Found)
-            → ¬ IsLocal rtype class (window inside) k found }
+        ensures malformed { IsErr result → NoneLocal rtype class (window inside) }
         ensures some { turns.old ≤ turns.new }
         ensures least { IfOk result (λ found. turns.old + rdata_turns (rdata_of found) ≤ turns.new) }
         ensures turns { turns.new ≤ turns.old + 510 + left (window inside) }
     {
         match rtype {
-            Rtype::HINFO => Ok(Data::Hinfo(whole::<R, Of<Hinfo<R>>>(inside, turns)?)),
-            Rtype::DNAME => Ok(Data::Dname(whole::<R, PlainName>(inside, turns)?)),
-            Rtype::DS => Ok(Data::Ds(whole::<R, Of<Ds<R>>>(inside, turns)?)),
-            Rtype::SSHFP => Ok(Data::Sshfp(whole::<R, Of<Sshfp<R>>>(inside, turns)?)),
-            Rtype::RRSIG => Ok(Data::Rrsig(whole::<R, Of<Rrsig<R>>>(inside, turns)?)),
-            Rtype::NSEC => Ok(Data::Nsec(whole::<R, Of<Nsec<R>>>(inside, turns)?)),
-            Rtype::DNSKEY => Ok(Data::Dnskey(whole::<R, Of<Dnskey<R>>>(inside, turns)?)),
-            Rtype::NSEC3 => Ok(Data::Nsec3(whole::<R, Of<Nsec3<R>>>(inside, turns)?)),
-            Rtype::NSEC3PARAM => Ok(Data::Nsec3param(whole::<R, Of<Nsec3param<R>>>(
-                inside, turns,
-            )?)),
-            Rtype::TLSA => Ok(Data::Tlsa(whole::<R, Of<Tlsa<R>>>(inside, turns)?)),
-            Rtype::SMIMEA => Ok(Data::Smimea(whole::<R, Of<Tlsa<R>>>(inside, turns)?)),
-            Rtype::CDS => Ok(Data::Cds(whole::<R, Of<Ds<R>>>(inside, turns)?)),
-            Rtype::CDNSKEY => Ok(Data::Cdnskey(whole::<R, Of<Dnskey<R>>>(inside, turns)?)),
-            Rtype::CAA => Ok(Data::Caa(whole::<R, Of<Caa<R>>>(inside, turns)?)),
-            Rtype::SVCB => Ok(Data::Svcb(parse_service(inside, class, turns)?)),
-            Rtype::HTTPS => Ok(Data::Https(parse_service(inside, class, turns)?)),
-            Rtype::URI => Ok(Data::Uri(whole::<R, Of<Uri<R>>>(inside, turns)?)),
+            Rtype::HINFO => Ok(Data::Hinfo(record(Rtype::HINFO, inside, turns)?)),
+            Rtype::DNAME => Ok(Data::Dname(typed::<R, PlainName>(Rtype::DNAME, inside, turns)?)),
+            Rtype::DS => Ok(Data::Ds(record(Rtype::DS, inside, turns)?)),
+            Rtype::SSHFP => Ok(Data::Sshfp(record(Rtype::SSHFP, inside, turns)?)),
+            Rtype::RRSIG => Ok(Data::Rrsig(record(Rtype::RRSIG, inside, turns)?)),
+            Rtype::NSEC => Ok(Data::Nsec(record(Rtype::NSEC, inside, turns)?)),
+            Rtype::DNSKEY => Ok(Data::Dnskey(record(Rtype::DNSKEY, inside, turns)?)),
+            Rtype::NSEC3 => Ok(Data::Nsec3(record(Rtype::NSEC3, inside, turns)?)),
+            Rtype::NSEC3PARAM => Ok(Data::Nsec3param(record(Rtype::NSEC3PARAM, inside, turns)?)),
+            Rtype::TLSA => Ok(Data::Tlsa(record(Rtype::TLSA, inside, turns)?)),
+            Rtype::SMIMEA => Ok(Data::Smimea(record(Rtype::SMIMEA, inside, turns)?)),
+            Rtype::CDS => Ok(Data::Cds(record(Rtype::CDS, inside, turns)?)),
+            Rtype::CDNSKEY => Ok(Data::Cdnskey(record(Rtype::CDNSKEY, inside, turns)?)),
+            Rtype::OPENPGPKEY => Ok(Data::Openpgpkey(record(Rtype::OPENPGPKEY, inside, turns)?)),
+            Rtype::CSYNC => Ok(Data::Csync(record(Rtype::CSYNC, inside, turns)?)),
+            Rtype::CAA => Ok(Data::Caa(record(Rtype::CAA, inside, turns)?)),
+            Rtype::SVCB => Ok(Data::Svcb(record_in(Rtype::SVCB, inside, class, turns)?)),
+            Rtype::HTTPS => Ok(Data::Https(record_in(Rtype::HTTPS, inside, class, turns)?)),
+            Rtype::URI => Ok(Data::Uri(record(Rtype::URI, inside, turns)?)),
             _ => Err(Malformed),
         }
     }
 }
 
-/// Reads a service binding, which is of class IN only.
-fn parse_service<R: AsOctets + Copy>(
+/// Prints the data in its text form: an address as in RFC 5952, and octets of an unknown form as in RFC 3597, 5.
+impl<R: AsOctets + Copy> fmt::Display for Data<R> {
+    ghost output = { λ found. Some (rdata_text (rdata_of found)) };
+
+    fn fmt<W: fmt::Write>(&self, f: &mut fmt::Formatter<W>) -> fmt::Result {
+        match self {
+            Data::A(octets) => write_ipv4(f, *octets),
+            Data::Aaaa(octets) => write_ipv6(f, *octets),
+            Data::Ns(name) => write!(f, "{name}"),
+            Data::Cname(name) => write!(f, "{name}"),
+            Data::Ptr(name) => write!(f, "{name}"),
+            Data::Mx(mx) => write!(f, "{mx}"),
+            Data::Soa(soa) => write!(f, "{soa}"),
+            Data::Txt(txt) => write!(f, "{txt}"),
+            Data::Srv(srv) => write!(f, "{srv}"),
+            Data::Naptr(naptr) => write!(f, "{naptr}"),
+            Data::Hinfo(hinfo) => write!(f, "{hinfo}"),
+            Data::Dname(name) => write!(f, "{name}"),
+            Data::Ds(ds) => write!(f, "{ds}"),
+            Data::Sshfp(sshfp) => write!(f, "{sshfp}"),
+            Data::Rrsig(sig) => write!(f, "{sig}"),
+            Data::Nsec(nsec) => write!(f, "{nsec}"),
+            Data::Dnskey(key) => write!(f, "{key}"),
+            Data::Nsec3(nsec) => write!(f, "{nsec}"),
+            Data::Nsec3param(param) => write!(f, "{param}"),
+            Data::Tlsa(tlsa) => write!(f, "{tlsa}"),
+            Data::Smimea(tlsa) => write!(f, "{tlsa}"),
+            Data::Cds(ds) => write!(f, "{ds}"),
+            Data::Cdnskey(key) => write!(f, "{key}"),
+            Data::Openpgpkey(key) => write!(f, "{key}"),
+            Data::Csync(csync) => write!(f, "{csync}"),
+            Data::Caa(caa) => write!(f, "{caa}"),
+            Data::Svcb(svcb) => write!(f, "{svcb}"),
+            Data::Https(svcb) => write!(f, "{svcb}"),
+            Data::Uri(uri) => write!(f, "{uri}"),
+            Data::Unknown(_, parser) => write_opaque(f, parser.peek_all()),
+        }
+    }
+}
+
+/// Reads the record of a type, which is of class IN only, from its own window.
+fn record_in<R: AsOctets + Copy, S: Fields<R>>(
+    rtype: Rtype,
     inside: Parser<R>,
     class: Class,
     turns: &mut Turns,
-) -> Result<Svcb<R>, Malformed>
+) -> Result<S, Malformed>
+    requires agrees { Agrees rtype S.Format.is_at }
+    requires only { (other : ℕ) → IsOfClass rtype other → other ≡ 1 }
     ensures class { OnOk result (class ≡ 1) }
-    ensures value { IfOk result (λ svcb. IsWhole service_form.Is (window inside) (svcb_of svcb)) }
-    ensures malformed { IsErr result → (found : service_form.Found) → class ≡ 1
-        → ¬ IsWhole service_form.Is (window inside) found }
-    ensures least { IfOk result (λ svcb. turns.old + service_turns (svcb_of svcb) ≤ turns.new) }
-    ensures turns { TakesTurns 256 1 (left (window inside)) turns.old turns.new }
+    ensures value { IfOk result (λ value.
+        IsWhole S.Format.is_at (window inside) (S.Format.found (S.fields value))) }
+    ensures malformed { IsErr result → NoneLocal rtype class (window inside) }
+    ensures least { IfOk result (λ value. turns.old + S.Format.turns_of (S.Format.found (S.fields value))
+        ≤ turns.new) }
+    ensures turns { TakesTurns S.Format.base S.Format.rate (left (window inside)) turns.old turns.new }
 {
     if class != Class::IN {
         return Err(Malformed);
     }
-    let svcb = whole::<R, Of<Svcb<R>>>(inside, turns)?;
-    Ok(svcb)
+    let value = record(rtype, inside, turns)?;
+    Ok(value)
+}
+
+/// Reads the record of a type from its own window.
+fn record<R: AsOctets + Copy, S: Fields<R>>(
+    rtype: Rtype,
+    inside: Parser<R>,
+    turns: &mut Turns,
+) -> Result<S, Malformed>
+    requires agrees { Agrees rtype S.Format.is_at }
+    ensures value { IfOk result (λ value.
+        IsWhole S.Format.is_at (window inside) (S.Format.found (S.fields value))) }
+    ensures malformed { IsErr result → (class : ℕ) → NoneLocal rtype class (window inside) }
+    ensures least { IfOk result (λ value. turns.old + S.Format.turns_of (S.Format.found (S.fields value))
+        ≤ turns.new) }
+    ensures turns { TakesTurns S.Format.base S.Format.rate (left (window inside)) turns.old turns.new }
+{
+    typed::<R, Of<S>>(rtype, inside, turns)
+}
+
+/// Reads data of a type, which has this format, from its own window.
+fn typed<R: AsOctets + Copy, F: Format<R>>(
+    rtype: Rtype,
+    inside: Parser<R>,
+    turns: &mut Turns,
+) -> Result<F::Value, Malformed>
+    requires agrees { Agrees rtype F.is_at }
+    ensures value { IfOk result (λ value. IsWhole F.is_at (window inside) (F.found value)) }
+    ensures malformed { IsErr result → (class : ℕ) → NoneLocal rtype class (window inside) }
+    ensures least { IfOk result (λ value. turns.old + F.turns_of (F.found value) ≤ turns.new) }
+    ensures turns { TakesTurns F.base F.rate (left (window inside)) turns.old turns.new }
+{
+    whole::<R, F>(inside, turns)
 }
 
 /// Reads a value that takes the whole window.

@@ -97,6 +97,8 @@ impl Rtype {
     pub const CDNSKEY: Self = Rtype { number: 60 };
     /// An OpenPGP key: RFC 7929.
     pub const OPENPGPKEY: Self = Rtype { number: 61 };
+    /// The types that a parent zone should copy from its child: RFC 7477.
+    pub const CSYNC: Self = Rtype { number: 62 };
     /// The digest of a zone: RFC 8976.
     pub const ZONEMD: Self = Rtype { number: 63 };
     /// A service binding: RFC 9460.
@@ -297,7 +299,7 @@ impl Rcode {
 }
 
 /// Types by name.
-pub(crate) static RTYPE_NAMES: [(u16, &str); 38] = [
+pub(crate) static RTYPE_NAMES: [(u16, &str); 39] = [
     (Rtype::A.number, "A"),
     (Rtype::NS.number, "NS"),
     (Rtype::CNAME.number, "CNAME"),
@@ -325,6 +327,7 @@ pub(crate) static RTYPE_NAMES: [(u16, &str); 38] = [
     (Rtype::CDS.number, "CDS"),
     (Rtype::CDNSKEY.number, "CDNSKEY"),
     (Rtype::OPENPGPKEY.number, "OPENPGPKEY"),
+    (Rtype::CSYNC.number, "CSYNC"),
     (Rtype::ZONEMD.number, "ZONEMD"),
     (Rtype::SVCB.number, "SVCB"),
     (Rtype::HTTPS.number, "HTTPS"),

@@ -22,6 +22,8 @@ fn shown<T: Display>(rt: &(impl Abort + AllocGlobal), value: &T) -> String {
 }
 
 mod addresses;
+mod known_types;
 mod mnemonics;
 mod rtype_bitmaps;
+mod scan;
 mod svc_params;

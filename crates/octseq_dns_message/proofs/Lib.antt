@@ -4,6 +4,7 @@ pub mod Digits
 pub mod Edns
 pub mod Formats
 pub mod Headers
+pub mod InSections
 pub mod Known
 pub mod Limits
 pub mod MessageTexts

@@ -7,6 +7,7 @@ pub mod Flag
 pub mod Header
 pub mod HeaderText
 pub mod Limited
+pub mod Listed
 pub mod Message
 pub mod MessageOpt
 pub mod MessageText
@@ -18,5 +19,6 @@ pub mod OptionData
 pub mod Parsed
 pub mod RecordData
 pub mod Said
+pub mod Section
 pub mod TypedOption
 pub mod Walk

@@ -1,5 +1,5 @@
 -- What contracts see of a message that was read.
-use Rattle.std.specs.Prelude.{ℕ, ◌+◌, ◌/◌, ◌%◌, List}
+use Rattle.std.specs.Prelude.{ℕ, ◌+◌, ◌/◌, ◌%◌, List, ◌++◌}
 use Rattle.octseq.specs.declared.AsOctets.{Ghosts}
 use Rattle.octseq_dns_message.specs.Entry.{Question, Record}
 use Rattle.octseq_dns_message.specs.EntryTurns.{questions_turns, records_turns}
@@ -41,6 +41,10 @@ authorities_of message = message.authorized.0
 -- its additional records
 abbrev pub additionals_of : {R : Type 0} {g : Ghosts R} → Message R g → List Record
 additionals_of message = message.added.0
+
+-- the records of all three sections
+abbrev pub records_of : {R : Type 0} {g : Ghosts R} → Message R g → List Record
+records_of message = answers_of message ++ (authorities_of message ++ additionals_of message)
 
 -- the least number of turns that its names take
 abbrev pub message_turns : {R : Type 0} {g : Ghosts R} → Message R g → ℕ

@@ -7,7 +7,7 @@ ghost use Rattle.octseq_dns_message.specs.Message.{IsMessage};
 ghost use Rattle.octseq_dns_message.specs.OneEntry.{questions_once, records_once};
 ghost use Rattle.octseq_dns_message.specs.declared.header.Header.{Header as Fields};
 ghost use Rattle.octseq_dns_message.specs.declared.header.HeaderCounts.{HeaderCounts as Counts};
-ghost use Rattle.octseq_format.specs.Row.{Holds};
+ghost use Rattle.octseq_format.specs.Row.{Holds, Many};
 
 use crate::header::{Header, HeaderCounts, Numbers};
 use crate::message::sections::{pass_questions, pass_records};
@@ -22,6 +22,7 @@ mod edns;
 mod limited;
 mod question;
 mod record;
+mod records;
 mod sections;
 mod text;
 mod walk;
@@ -32,6 +33,7 @@ pub use crate::message::collect::Sections;
 pub use crate::message::limited::RecordsOfType;
 pub use crate::message::question::Question;
 pub use crate::message::record::Record;
+pub use crate::message::records::{AllRecords, Section};
 pub use crate::message::text::one_text_of_a_message;
 pub use crate::message::walk::{Questions, Records};
 
@@ -59,6 +61,9 @@ pub struct Message<R: AsOctets> {
     ghost answered: { Holds IsRecord (window answers) header.counts.ancount } by { records_once _ _ },
     ghost authorized: { Holds IsRecord (window authorities) header.counts.nscount } by { records_once _ _ },
     ghost added: { Holds IsRecord (window additionals) header.counts.arcount } by { records_once _ _ },
+    ghost past_answers: { ∥ Many header.counts.ancount IsRecord (window answers) answered.0 (window authorities) ∥₁ },
+    ghost past_authorities: { ∥ Many header.counts.nscount IsRecord (window authorities) authorized.0
+        (window additionals) ∥₁ },
 }
 
 impl<R: AsOctets + Copy> Copy for Message<R> {}

@@ -4,10 +4,12 @@ pub mod Known
 pub mod LabelItems
 pub mod LabelLaws
 pub mod Names
-pub mod Origins
+pub mod Octets
 pub mod Parents
 pub mod Passes
-pub mod Refusals
+pub mod Places
+pub mod Readings
+pub mod Reports
 pub mod SpellingSteps
 pub mod Spellings
 pub mod Unfits

@@ -15,16 +15,20 @@ ReadsLabels text labels rest =
     (first : List ℕ) × (text ≡ first ++ rest) × SpellsLabels labels first × AreLabels labels
     × (wire_length labels ≤ 255)
 
+-- whole labels and the octets of a last one are all of a text
+abbrev pub ReadsAll : List ℕ → List (List ℕ) → List ℕ → Type 0
+ReadsAll text labels last =
+    (rest : List ℕ) × ReadsLabels text labels rest × Reads rest last [] × (length last ≤ 63)
+
 -- a text doesn't begin with the spelling of an octet
 abbrev pub SpellsNone : List ℕ → Type 0
 SpellsNone text = (octet : ℕ) (first rest : List ℕ) → text ≡ first ++ rest → ¬ SpellsOctet octet first
 
--- what such a text begins with, if an octet of a label is to come next
-abbrev pub BeginsWith : FromTextError → List ℕ → Type 0
-BeginsWith FromTextError.UnexpectedEnd text = text ≡ []
-BeginsWith FromTextError.IllegalEscape text = (rest : List ℕ) × (text ≡ 92 ∷ rest)
-BeginsWith FromTextError.IllegalOctet text = (octet : ℕ) × (rest : List ℕ) × (text ≡ octet ∷ rest) × ¬ (octet ≡ 92)
-BeginsWith _ text = ⊥
+-- what is wrong with an octet that begins such a text
+abbrev pub IsIllegal : FromTextError → ℕ → Type 0
+IsIllegal FromTextError.IllegalEscape octet = octet ≡ 92
+IsIllegal FromTextError.IllegalOctet octet = ¬ (octet ≡ 92)
+IsIllegal _ octet = ⊥
 
 -- What is wrong with the label after whole ones, in the rest of the text: the text ends in it, or is empty; it has a
 -- full stop (46) at its front; it has a 64th octet; the name has more than 255 octets with it; a backslash (92) spells

@@ -30,8 +30,8 @@ pub use crate::name::labels::{Label, Labels};
 pub use crate::name::owned::Name;
 pub use crate::name::relatives::Suffixes;
 pub use crate::name::text::{
-    a_name_has_labels, a_name_is_spelled_by_its_text, one_name_of_a_text,
-    one_name_of_a_text_with_origin,
+    a_name_has_labels, a_name_is_spelled_by_its_text, a_name_is_spelled_by_its_text_with_origin,
+    one_name_of_a_text, one_name_of_a_text_with_origin,
 };
 
 /// The maximum number of octets of a name in wire form: RFC 1035, 2.3.4.

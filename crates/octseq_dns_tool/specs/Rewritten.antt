@@ -1,5 +1,5 @@
 -- Messages that are rewritten.
-use Rattle.std.specs.Prelude.{◌≡◌, ℕ, ◌<◌, ◌≤◌, List, length}
+use Rattle.std.specs.Prelude.{◌≡◌, ℕ, ◌<◌, ◌≤◌, List, ◌++◌, length}
 use Rattle.octseq_dns.specs.Contents.{octets_of}
 use Rattle.octseq_dns.specs.Contents.{Message as Contents}
 use Rattle.octseq_dns.specs.Moved.{CanMove}
@@ -14,7 +14,7 @@ use Rattle.octseq_dns_tool.specs.declared.engine.rewrite.Rewriting.TheVariants.{
 -- each offset that a pointer can express: at most 65,535.
 pub record IsWritten (header : Header) (questions : List Question) (answers authorities additionals : List Record)
     (anew : List ℕ) : Type 0 where
-  pub moves : CanMove answers authorities additionals
+  pub moves : CanMove (answers ++ (authorities ++ additionals))
   pub contents : Contents
   pub contents_are : IsMessageOf header questions answers authorities additionals contents
   pub written : anew ≡ octets_of 16384 contents
@@ -22,11 +22,11 @@ pub record IsWritten (header : Header) (questions : List Question) (answers auth
 
 -- a message that was read can't be moved
 abbrev pub CannotMove : Header → List Question → List Record → List Record → List Record → Type 0
-CannotMove header questions answers authorities additionals = ¬ CanMove answers authorities additionals
+CannotMove header questions answers authorities additionals = ¬ CanMove (answers ++ (authorities ++ additionals))
 
 -- a message that was read can be moved, but takes more than 65,535 octets when it is rewritten
 abbrev pub IsTooLong : Header → List Question → List Record → List Record → List Record → Type 0
-IsTooLong header questions answers authorities additionals = CanMove answers authorities additionals
+IsTooLong header questions answers authorities additionals = CanMove (answers ++ (authorities ++ additionals))
     × ((m : Contents) → IsMessageOf header questions answers authorities additionals m
     → 65535 < length (octets_of 16384 m))
 

@@ -1,21 +1,19 @@
 //! Rewriting the entries of a message, one after another.
-ghost use Rattle.std.specs.Prelude.{◌≡◌, ◌≤◌, ◌+◌, ◌*◌, ◌⊎◌, ◌||◌, List, length, map, true, None, IfOk, OnOk};
-ghost use Rattle.std.specs.List.{AllByRecursion, AllZip, sum_by};
+ghost use Rattle.std.specs.Prelude.{◌≡◌, ◌≤◌, ◌+◌, ◌*◌, ◌⊎◌, List, length, map, true, IfOk, OnOk};
+ghost use Rattle.std.specs.List.{AllZip, sum_by};
 ghost use Rattle.octseq.specs.Limit.{IsPast, IsWithin};
 ghost use Rattle.octseq.specs.Refusal.{IsShort, IsMemory, IsMalformed, append_error};
 ghost use Rattle.octseq_dns_compress.specs.Composed.{message_limit};
 ghost use Rattle.octseq_dns_compress.specs.State.{with_entries};
-ghost use Rattle.octseq_dns_message.specs.Parsed.{answers_of, authorities_of, additionals_of};
-ghost use Rattle.octseq_dns_message.specs.Walk.{questions_left, records_left};
+ghost use Rattle.octseq_dns_message.specs.Parsed.{questions_of, records_of};
+ghost use Rattle.octseq_dns.specs.Appended.{Appended};
 ghost use Rattle.octseq_dns.specs.Contents.{Message as Contents, Question as Asked, Record as Written};
-ghost use Rattle.octseq_dns.specs.Contents.{FitsHeader, FitsQuestion, FitsRecord, entries_of, headed, octets_of};
+ghost use Rattle.octseq_dns.specs.Contents.{FitsHeader, FitsQuestion, FitsRecord, headed, octets_of};
 ghost use Rattle.octseq_dns.specs.Contents.{question_entry, record_entry};
 ghost use Rattle.octseq_dns.specs.Labels.{labels_in, question_labels, record_labels};
-ghost use Rattle.octseq_dns.specs.Moved.{CanMove, CanMoveRecord};
-ghost use Rattle.octseq_dns.specs.Rewritten.{IsContentsOf, IsQuestionOf, IsRecordOf, any_opt, any_opt_in};
+ghost use Rattle.octseq_dns.specs.Moved.{CanMove};
+ghost use Rattle.octseq_dns.specs.Rewritten.{IsContentsOf, IsQuestionOf, IsRecordOf, IsRewritten, any_opt};
 ghost use Rattle.octseq_dns.specs.Rewritten.{rewrite_error};
-ghost use Rattle.octseq_dns.specs.Whole.{FitEntries};
-ghost use Rattle.octseq_dns.specs.Writes.{Writes};
 
 use crate::builder::entry::{compose_question, compose_record};
 use crate::builder::header::octets_of;
@@ -26,19 +24,8 @@ use octseq::builder::AsOctetsMut;
 use octseq::{AppendError, AsOctets, OctetsBuilder, Truncate, Turns};
 use octseq_dns_compress::{Composer, Compressor};
 use octseq_dns_data::Rtype;
-use octseq_dns_message::message::{Questions, Records};
 use octseq_dns_message::{Header, HeaderCounts, Message};
 use std::marker::PhantomData;
-
-/// Why a message isn't rewritten, given the error of an entry.
-fn refused(error: AppendError) -> RewriteError
-    ensures { rewrite_error result ≡ append_error error }
-{
-    match error {
-        AppendError::Short(error) => RewriteError::Short(error),
-        AppendError::Memory => RewriteError::Memory,
-    }
-}
 
 /// Begins a message with this header and the counts of the entries that will follow.
 fn begin<B: OctetsBuilder + Truncate + AsOctetsMut, T: Compressor>(
@@ -55,132 +42,72 @@ fn begin<B: OctetsBuilder + Truncate + AsOctetsMut, T: Compressor>(
     ensures borrows { IfOk result (λ c. B.borrows c.octets ≡ B.borrows octets) }
 {
     let header = octets_of(header, counts);
-    let mut message = match Composer::from_builder(octets, table) {
-        Ok(message) => message,
-        Err(error) => return Err(error),
-    };
+    let mut message = Composer::from_builder(octets, table)?;
     message.put_header(&header);
     Ok(message)
 }
 
-/// Appends the questions that are left.
-fn append_questions<B: OctetsBuilder + Truncate + AsOctetsMut, T: Compressor, R: AsOctets + Copy>(
-    message: &mut Composer<B, T>,
-    questions: Questions<R>,
-    turns: &mut Turns,
-) -> Result<(), AppendError>
-    requires within { IsWithin (message_limit B.limit) (length message.old.state.octets) }
-    ensures written { OnOk result ((written : List Asked) → AllZip IsQuestionOf (questions_left questions) written
-        → message.new.state ≡ with_entries T.most message.old.state (map question_entry written)) }
-    ensures fits { OnOk result ((written : List Asked) → AllZip IsQuestionOf (questions_left questions) written
-        → AllByRecursion FitsQuestion written) }
-    ensures within { OnOk result (IsWithin (message_limit B.limit) (length message.new.state.octets)) }
+/// Appends the questions of a message.
+pub(super) fn append_questions<
+    B: OctetsBuilder + Truncate + AsOctetsMut,
+    T: Compressor,
+    R: AsOctets + Copy,
+>(message: &mut Composer<B, T>, source: &Message<R>, turns: &mut Turns) -> Result<(), AppendError>
+    ensures appended { OnOk result (Appended IsQuestionOf question_entry question_labels FitsQuestion T.most
+        (questions_of source.now) message.old.state message.new.state turns.old turns.new) }
+    ensures within { OnOk result (IsWithin (message_limit B.limit) (length message.old.state.octets)
+        → IsWithin (message_limit B.limit) (length message.new.state.octets)) }
     ensures short { IsShort append_error result → (written : List Asked)
-        → AllZip IsQuestionOf (questions_left questions) written → IsPast (message_limit B.limit)
+        → AllZip IsQuestionOf (questions_of source.now) written → IsPast (message_limit B.limit)
         (length (with_entries T.most message.old.state (map question_entry written)).octets) }
     ensures memory { IsMemory append_error result → (B.asks ≡ true) ⊎ (T.asks ≡ true) }
     ensures borrows { B.borrows message.new.octets ≡ B.borrows message.old.octets }
     ensures on { turns.old ≤ turns.new }
-    ensures turns { (written : List Asked) → AllZip IsQuestionOf (questions_left questions) written
+    ensures turns { (written : List Asked) → AllZip IsQuestionOf (questions_of source.now) written
         → turns.new ≤ turns.old + 17 * sum_by question_labels written }
-    ensures least { OnOk result ((written : List Asked) → AllZip IsQuestionOf (questions_left questions) written
-        → turns.old + sum_by question_labels written + length message.old.state.octets
-        ≤ turns.new + length message.new.state.octets) }
 {
-    for question in questions {
+    for question in source.questions() {
         let (qtype, qclass) = (question.qtype(), question.qclass());
-        if let Err(error) = compose_question(message, &question.qname(), qtype, qclass, turns) {
-            return Err(error);
-        }
+        compose_question(message, &question.qname(), qtype, qclass, turns)?;
     }
     Ok(())
 }
 
-/// Appends the records that are left, each with its parsed data, up to the first that can't be moved. It sets `has_opt`
-/// if one of them is an OPT record.
+/// Appends the records of a message, each with its parsed data, up to the first that can't be moved. Returns whether one
+/// of them is an OPT record.
 fn append_records<B: OctetsBuilder + Truncate + AsOctetsMut, T: Compressor, R: AsOctets + Copy>(
     message: &mut Composer<B, T>,
-    records: Records<R>,
-    has_opt: &mut bool,
+    source: &Message<R>,
     turns: &mut Turns,
-) -> Result<(), RewriteError>
-    requires within { IsWithin (message_limit B.limit) (length message.old.state.octets) }
-    ensures written { OnOk result ((written : List Written) → AllZip IsRecordOf (records_left records) written
-        → message.new.state ≡ with_entries T.most message.old.state (map record_entry written)) }
-    ensures fits { OnOk result ((written : List Written) → AllZip IsRecordOf (records_left records) written
-        → AllByRecursion FitsRecord written) }
-    ensures within { OnOk result (IsWithin (message_limit B.limit) (length message.new.state.octets)) }
-    ensures exists { OnOk result ((written : List Written) × AllZip IsRecordOf (records_left records) written) }
-    ensures movable { OnOk result (AllByRecursion CanMoveRecord (records_left records)) }
-    ensures opt { OnOk result (has_opt.new ≡ (has_opt.old || any_opt (records_left records))) }
-    ensures immovable { IsMalformed rewrite_error result → ¬ AllByRecursion CanMoveRecord (records_left records) }
+) -> Result<bool, RewriteError>
+    ensures appended { OnOk result (Appended IsRecordOf record_entry record_labels FitsRecord T.most
+        (records_of source.now) message.old.state message.new.state turns.old turns.new) }
+    ensures within { OnOk result (IsWithin (message_limit B.limit) (length message.old.state.octets)
+        → IsWithin (message_limit B.limit) (length message.new.state.octets)) }
+    ensures movable { OnOk result (CanMove (records_of source.now)) }
+    ensures opt { IfOk result (λ has_opt. has_opt ≡ any_opt (records_of source.now)) }
+    ensures immovable { IsMalformed rewrite_error result → ¬ CanMove (records_of source.now) }
     ensures short { IsShort rewrite_error result → (written : List Written)
-        → AllZip IsRecordOf (records_left records) written → IsPast (message_limit B.limit)
+        → AllZip IsRecordOf (records_of source.now) written → IsPast (message_limit B.limit)
         (length (with_entries T.most message.old.state (map record_entry written)).octets) }
     ensures memory { IsMemory rewrite_error result → (B.asks ≡ true) ⊎ (T.asks ≡ true) }
     ensures borrows { B.borrows message.new.octets ≡ B.borrows message.old.octets }
     ensures on { turns.old ≤ turns.new }
-    ensures turns { (written : List Written) → AllZip IsRecordOf (records_left records) written
+    ensures turns { (written : List Written) → AllZip IsRecordOf (records_of source.now) written
         → turns.new ≤ turns.old + 17 * sum_by record_labels written }
-    ensures least { OnOk result ((written : List Written) → AllZip IsRecordOf (records_left records) written
-        → turns.old + sum_by record_labels written + length message.old.state.octets
-        ≤ turns.new + length message.new.state.octets) }
 {
-    for entry in records {
+    let mut has_opt = false;
+    for listed in source.records() {
+        let entry = listed.0;
         let data = entry.data();
         let (class, ttl) = (entry.class(), entry.ttl());
         if !is_movable(&entry, &data) {
             return Err(RewriteError::Immovable);
         }
-        *has_opt = *has_opt | (entry.rtype() == Rtype::OPT);
-        if let Err(error) = compose_record(message, &entry.owner(), class, ttl, &data, turns) {
-            return Err(refused(error));
-        }
+        has_opt = has_opt | (entry.rtype() == Rtype::OPT);
+        compose_record(message, &entry.owner(), class, ttl, &data, turns)?;
     }
-    Ok(())
-}
-
-/// Appends all entries of a message, section by section, up to the first record that can't be moved.
-fn append_all<B: OctetsBuilder + Truncate + AsOctetsMut, T: Compressor, R: AsOctets + Copy>(
-    message: &mut Composer<B, T>,
-    source: &Message<R>,
-    has_opt: &mut bool,
-    turns: &mut Turns,
-) -> Result<(), RewriteError>
-    requires within { IsWithin (message_limit B.limit) (length message.old.state.octets) }
-    ensures written { OnOk result ((m : Contents) → IsContentsOf source.now m
-        → message.new.state ≡ with_entries T.most message.old.state (entries_of m)) }
-    ensures fits { OnOk result ((m : Contents) → IsContentsOf source.now m → FitEntries m) }
-    ensures within { OnOk result (IsWithin (message_limit B.limit) (length message.new.state.octets)) }
-    ensures exists { OnOk result ((m : Contents) × IsContentsOf source.now m) }
-    ensures movable { OnOk result (CanMove (answers_of source.now) (authorities_of source.now)
-        (additionals_of source.now)) }
-    ensures opt { OnOk result (has_opt.new ≡ (has_opt.old
-        || any_opt_in (answers_of source.now) (authorities_of source.now) (additionals_of source.now))) }
-    ensures immovable { IsMalformed rewrite_error result
-        → ¬ CanMove (answers_of source.now) (authorities_of source.now) (additionals_of source.now) }
-    ensures short { IsShort rewrite_error result → (m : Contents) → IsContentsOf source.now m
-        → IsPast (message_limit B.limit) (length (with_entries T.most message.old.state (entries_of m)).octets) }
-    ensures memory { IsMemory rewrite_error result → (B.asks ≡ true) ⊎ (T.asks ≡ true) }
-    ensures borrows { B.borrows message.new.octets ≡ B.borrows message.old.octets }
-    ensures on { turns.old ≤ turns.new }
-    ensures turns { (m : Contents) → IsContentsOf source.now m → turns.new ≤ turns.old + 17 * labels_in m }
-    ensures least { OnOk result ((m : Contents) → IsContentsOf source.now m
-        → turns.old + labels_in m + length message.old.state.octets ≤ turns.new + length message.new.state.octets) }
-{
-    if let Err(error) = append_questions(message, source.questions(), turns) {
-        return Err(refused(error));
-    }
-    if let Err(error) = append_records(message, source.answers(), has_opt, turns) {
-        return Err(error);
-    }
-    if let Err(error) = append_records(message, source.authorities(), has_opt, turns) {
-        return Err(error);
-    }
-    if let Err(error) = append_records(message, source.additionals(), has_opt, turns) {
-        return Err(error);
-    }
-    Ok(())
+    Ok(has_opt)
 }
 
 /// Rewrites a message, up to the first record that can't be moved.
@@ -194,20 +121,12 @@ pub(crate) fn compose_anew<
     table: T,
     turns: &mut Turns,
 ) -> Result<AdditionalBuilder<B, T>, RewriteError>
-    ensures written { IfOk result (λ b. (m : Contents) → IsContentsOf source.now m
-        → Writes T.most m b.state b.header b.counts) }
-    ensures contents { IfOk result (λ _. (m : Contents) × IsContentsOf source.now m) }
-    ensures fits { IfOk result (λ b. IsWithin (message_limit B.limit) (length b.state.octets)) }
-    ensures movable { OnOk result (CanMove (answers_of source.now) (authorities_of source.now)
-        (additionals_of source.now)) }
-    ensures immovable { IsMalformed rewrite_error result
-        → ¬ CanMove (answers_of source.now) (authorities_of source.now) (additionals_of source.now) }
+    ensures rewritten { IfOk result (λ b. IsRewritten T.most (message_limit B.limit) source.now b) }
+    ensures movable { OnOk result (CanMove (records_of source.now)) }
+    ensures immovable { IsMalformed rewrite_error result → ¬ CanMove (records_of source.now) }
     ensures short { IsShort rewrite_error result → (m : Contents) → IsContentsOf source.now m
         → IsPast (message_limit B.limit) (length (octets_of T.most m)) }
     ensures memory { IsMemory rewrite_error result → (B.asks ≡ true) ⊎ (T.asks ≡ true) }
-    ensures push_limit { IfOk result (λ b. b.push_limit ≡ None) }
-    ensures has_opt { IfOk result (λ b. b.has_opt
-        ≡ any_opt_in (answers_of source.now) (authorities_of source.now) (additionals_of source.now)) }
     ensures borrows { IfOk result (λ b. B.borrows b.octets ≡ B.borrows octets) }
     ensures on { turns.old ≤ turns.new }
     ensures turns { (m : Contents) → IsContentsOf source.now m → turns.new ≤ turns.old + 17 * labels_in m }
@@ -215,14 +134,9 @@ pub(crate) fn compose_anew<
         → turns.old + labels_in m ≤ turns.new + length b.state.octets) }
 {
     let (header, counts) = (source.header(), source.header_counts());
-    let mut message = match begin(octets, table, &header, &counts) {
-        Ok(message) => message,
-        Err(error) => return Err(refused(error)),
-    };
-    let mut has_opt = false;
-    if let Err(error) = append_all(&mut message, source, &mut has_opt, turns) {
-        return Err(error);
-    }
+    let mut message = begin(octets, table, &header, &counts)?;
+    append_questions(&mut message, source, turns)?;
+    let has_opt = append_records(&mut message, source, turns)?;
     Ok(SectionBuilder {
         message,
         header,

@@ -71,9 +71,7 @@ pub(super) fn compose_question<
         ≤ turns.new + length message.new.state.octets) }
 {
     let end = question_end(qtype, qclass);
-    if let Err(error) = message.append_name(qname, turns) {
-        return Err(error);
-    }
+    message.append_name(qname, turns)?;
     message.append_slice(&end)
 }
 
@@ -139,17 +137,13 @@ pub(super) fn compose_record<
     ensures begun { message.new.begun ≡ message.old.begun }
 {
     let middle = record_middle(rdata.rtype(), class, ttl);
-    if let Err(error) = message.append_name(owner, turns) {
-        return Err(error);
-    }
-    if let Err(error) = message.append_slice(&middle) {
-        return Err(error);
-    }
+    message.append_name(owner, turns)?;
+    message.append_slice(&middle)?;
     append_data(message, rdata, turns)
 }
 
 /// Whether `len` octets exceed a limit, if there is one.
-fn is_past(limit: Option<usize>, len: usize) -> bool
+pub(super) fn is_past(limit: Option<usize>, len: usize) -> bool
     ensures past { IsTrue result → IsPast limit len }
     ensures within { ¬ IsTrue result → IsWithin limit len }
 {

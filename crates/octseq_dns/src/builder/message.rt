@@ -43,10 +43,7 @@ impl<B: OctetsBuilder + Truncate + AsOctetsMut, T: Compressor> MessageBuilder<B,
         ensures memory { IsMemory append_error result → B.asks ≡ true }
         ensures borrows { IfOk result (λ m. B.borrows m.octets ≡ B.borrows octets) }
     {
-        let message = match Composer::from_builder(octets, table) {
-            Ok(message) => message,
-            Err(error) => return Err(error),
-        };
+        let message = Composer::from_builder(octets, table)?;
         Ok(SectionBuilder {
             message,
             header: blank_header(),

@@ -102,9 +102,7 @@ impl<B: OctetsBuilder + Truncate + AsOctetsMut, T: Compressor> QuestionBuilder<B
             return Err(AppendError::Short(ShortBuf));
         };
         let limit = self.push_limit;
-        if let Err(error) = append_question(&mut self.message, limit, qname, qtype, qclass, turns) {
-            return Err(error);
-        }
+        append_question(&mut self.message, limit, qname, qtype, qclass, turns)?;
         self.counts.qdcount = qdcount;
         self.message
             .put_header(&octets_of(&self.header, &self.counts));

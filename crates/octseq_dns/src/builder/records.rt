@@ -120,17 +120,7 @@ impl<B: OctetsBuilder + Truncate + AsOctetsMut, T: Compressor, S: RecordSection>
             return Err(AppendError::Short(ShortBuf));
         };
         let limit = self.push_limit;
-        if let Err(error) = append_record(
-            &mut self.message,
-            limit,
-            owner,
-            class,
-            ttl,
-            rdata,
-            turns,
-        ) {
-            return Err(error);
-        }
+        append_record(&mut self.message, limit, owner, class, ttl, rdata, turns)?;
         self.counts = counts;
         self.has_opt = self.has_opt || rdata.rtype() == Rtype::OPT;
         self.message

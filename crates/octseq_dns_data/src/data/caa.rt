@@ -1,11 +1,15 @@
 //! Certification authority authorization: RFC 8659, 4.1.
-ghost use Rattle.std.specs.Prelude.{◌≡◌, ⊤};
+ghost use Rattle.std.specs.Prelude.{◌≡◌, ⊤, Some};
+ghost use Rattle.octseq_dns_data.specs.Typed.{caa_form, caa_of};
 
 use crate::data::formed::Formed;
 use crate::data::some_octets::CaaTag;
+use crate::tag::write_tag;
+use octseq::octets_text::write_string;
 use octseq::{AsOctets, Parser};
 use octseq_format::{Counted, Fields, Format, Nested, U8};
 use std::alloc::AllocError;
+use std::fmt;
 
 /// Certification authority authorization: who may issue certificates for a name.
 #[derive(Debug)]
@@ -42,5 +46,18 @@ impl<R: AsOctets + Copy> Fields<R> for Caa<R> {
 
     fn to_fields(&self) -> <Self::Format as Format<R>>::Value {
         (self.flags, self.tag, self.value)
+    }
+}
+
+/// Prints the flags, the tag as it is, and the value as a string in `"`.
+impl<R: AsOctets + Copy> fmt::Display for Caa<R> {
+    ghost output = { λ caa. Some (caa_form.text (caa_of caa)) };
+
+    fn fmt<W: fmt::Write>(&self, f: &mut fmt::Formatter<W>) -> fmt::Result {
+        let flags = self.flags;
+        write!(f, "{flags} ")?;
+        write_tag(f, self.tag.as_slice())?;
+        f.write_char(' ')?;
+        write_string(f, self.value.peek_all())
     }
 }

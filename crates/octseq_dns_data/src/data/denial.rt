@@ -1,15 +1,23 @@
 //! Authenticated denial of existence: RFC 4034, 4 (NSEC) and RFC 5155 (NSEC3).
-ghost use Rattle.std.specs.Prelude.{◌≡◌, ⊤};
+ghost use Rattle.std.specs.Prelude.{◌≡◌, ⊤, Some, ◌∷◌, ◌++◌};
+ghost use Rattle.std.specs.Fmt.{WritesOnOk, decimal};
+ghost use Rattle.octseq.specs.Window.{rest};
+ghost use Rattle.octseq_dns_data.specs.Txt.{string_place};
+ghost use Rattle.octseq_dns_data.specs.Typed.{nsec3_form, nsec3_of, nsec3param_form};
+ghost use Rattle.octseq_dns_data.specs.Typed.{nsec3param_of, nsec_form, nsec_of, salt_text};
 
+use crate::base_text::write_base32hex;
 use crate::data::formed::Formed;
 use crate::data::plain_name::PlainName;
 use crate::data::some_octets::OwnerHash;
 use crate::data::txt::CharStr;
 use crate::rtype_bitmap::RtypeBitmap;
 use octseq::AsOctets;
+use octseq::octets_text::write_hex;
 use octseq_dns_name::ParsedName;
 use octseq_format::{Counted, Fields, Format, U8, U16Be};
 use std::alloc::AllocError;
+use std::fmt;
 
 /// The next name of a zone, and the types that the owner name has: RFC 4034, 4.1.
 #[derive(Debug)]
@@ -44,6 +52,16 @@ impl<R: AsOctets + Copy> Fields<R> for Nsec<R> {
 
     fn to_fields(&self) -> <Self::Format as Format<R>>::Value {
         (self.next_name, self.types)
+    }
+}
+
+/// Prints the next name, and each type after a space.
+impl<R: AsOctets + Copy> fmt::Display for Nsec<R> {
+    ghost output = { λ nsec. Some (nsec_form.text (nsec_of nsec)) };
+
+    fn fmt<W: fmt::Write>(&self, f: &mut fmt::Formatter<W>) -> fmt::Result {
+        let Nsec { next_name, types } = self;
+        write!(f, "{next_name}{types}")
     }
 }
 
@@ -119,6 +137,19 @@ impl<R: AsOctets + Copy> Fields<R> for Nsec3<R> {
     }
 }
 
+/// Prints the three numbers, the salt in hexadecimal, the next hash in base 32, and each type after a space.
+impl<R: AsOctets + Copy> fmt::Display for Nsec3<R> {
+    ghost output = { λ nsec. Some (nsec3_form.text (nsec3_of nsec)) };
+
+    fn fmt<W: fmt::Write>(&self, f: &mut fmt::Formatter<W>) -> fmt::Result {
+        let types = &self.types;
+        write_hashed(f, self)?;
+        f.write_char(' ')?;
+        write_base32hex(f, self.next_owner.as_slice())?;
+        write!(f, "{types}")
+    }
+}
+
 /// The parameters by which a zone hashes its names: RFC 5155, 4.2.
 #[derive(Debug)]
 pub struct Nsec3param<R: AsOctets> {
@@ -162,4 +193,44 @@ impl<R: AsOctets + Copy> Fields<R> for Nsec3param<R> {
     fn to_fields(&self) -> <Self::Format as Format<R>>::Value {
         (self.hash_algorithm, self.flags, self.iterations, self.salt)
     }
+}
+
+/// Prints the three numbers, and the salt in hexadecimal, or `-` if it is empty.
+impl<R: AsOctets + Copy> fmt::Display for Nsec3param<R> {
+    ghost output = { λ param. Some (nsec3param_form.text (nsec3param_of param)) };
+
+    fn fmt<W: fmt::Write>(&self, f: &mut fmt::Formatter<W>) -> fmt::Result {
+        let Nsec3param {
+            hash_algorithm,
+            flags,
+            iterations,
+            salt,
+        } = self;
+        write!(f, "{hash_algorithm} {flags} {iterations} ")?;
+        write_salt(f, salt.as_slice())
+    }
+}
+
+/// Writes the numbers and the salt of a hash.
+fn write_hashed<W: fmt::Write, R: AsOctets + Copy>(
+    f: &mut fmt::Formatter<W>,
+    nsec: &Nsec3<R>,
+) -> fmt::Result
+    ensures { WritesOnOk W.write_str_gives f.old result (decimal nsec.now.hash_algorithm
+        ++ 32 ∷ decimal nsec.now.flags ++ 32 ∷ decimal nsec.now.iterations
+        ++ 32 ∷ salt_text (rest (string_place nsec.now.salt))) f.new }
+{
+    let (algorithm, flags, iterations) = (nsec.hash_algorithm, nsec.flags, nsec.iterations);
+    write!(f, "{algorithm} {flags} {iterations} ")?;
+    write_salt(f, nsec.salt.as_slice())
+}
+
+/// Writes octets in hexadecimal, or `-` if there are none.
+fn write_salt<W: fmt::Write>(f: &mut fmt::Formatter<W>, octets: &[u8]) -> fmt::Result
+    ensures { WritesOnOk W.write_str_gives f.old result (salt_text octets.now) f.new }
+{
+    if octets.is_empty() {
+        return f.write_char('-');
+    }
+    write_hex(f, octets)
 }

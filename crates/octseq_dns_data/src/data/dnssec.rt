@@ -1,13 +1,22 @@
 //! DNSSEC keys, digests and signatures: RFC 4034.
-ghost use Rattle.std.specs.Prelude.{◌≡◌, ⊤};
+ghost use Rattle.std.specs.Prelude.{◌≡◌, ⊤, Some, [], ◌∷◌, ◌++◌};
+ghost use Rattle.std.specs.Fmt.{WritesOnOk, decimal};
+ghost use Rattle.octseq_dns_data.specs.Mnemonic.{rtype_text};
+ghost use Rattle.octseq_dns_name.specs.Read.{name_of};
+ghost use Rattle.octseq_dns_name.specs.Text.{name_text};
+ghost use Rattle.octseq_dns_data.specs.Typed.{digest_form, dnskey_of, ds_of, key_form, rrsig_form, rrsig_of};
 
+use crate::base_text::write_base64;
 use crate::data::formed::Formed;
 use crate::data::plain_name::PlainName;
 use crate::data::some_octets::SomeOctets;
+use crate::iana::Rtype;
 use octseq::AsOctets;
+use octseq::octets_text::write_hex;
 use octseq_dns_name::ParsedName;
 use octseq_format::{Fields, Format, U8, U16Be, U32Be};
 use std::alloc::AllocError;
+use std::fmt;
 
 /// The digest of a key of a child zone, in DS (RFC 4034, 5.1) and CDS (RFC 7344, 3.1).
 #[derive(Debug)]
@@ -54,6 +63,22 @@ impl<R: AsOctets + Copy> Fields<R> for Ds<R> {
     }
 }
 
+/// Prints the three numbers, and the digest in hexadecimal.
+impl<R: AsOctets + Copy> fmt::Display for Ds<R> {
+    ghost output = { λ ds. Some (digest_form.text (ds_of ds)) };
+
+    fn fmt<W: fmt::Write>(&self, f: &mut fmt::Formatter<W>) -> fmt::Result {
+        let Ds {
+            key_tag,
+            algorithm,
+            digest_type,
+            digest,
+        } = self;
+        write!(f, "{key_tag} {algorithm} {digest_type} ")?;
+        write_hex(f, digest.as_slice())
+    }
+}
+
 /// A public key of a zone, in DNSKEY (RFC 4034, 2.1) and CDNSKEY (RFC 7344, 3.2).
 #[derive(Debug)]
 pub struct Dnskey<R: AsOctets> {
@@ -96,6 +121,22 @@ impl<R: AsOctets + Copy> Fields<R> for Dnskey<R> {
 
     fn to_fields(&self) -> <Self::Format as Format<R>>::Value {
         (self.flags, self.protocol, self.algorithm, self.public_key)
+    }
+}
+
+/// Prints the three numbers, and the key in base 64.
+impl<R: AsOctets + Copy> fmt::Display for Dnskey<R> {
+    ghost output = { λ key. Some (key_form.text (dnskey_of key)) };
+
+    fn fmt<W: fmt::Write>(&self, f: &mut fmt::Formatter<W>) -> fmt::Result {
+        let Dnskey {
+            flags,
+            protocol,
+            algorithm,
+            public_key,
+        } = self;
+        write!(f, "{flags} {protocol} {algorithm} ")?;
+        write_base64(f, public_key.as_slice())
     }
 }
 
@@ -193,4 +234,53 @@ impl<R: AsOctets + Copy> Fields<R> for Rrsig<R> {
             (self.signer_name, self.signature),
         )
     }
+}
+
+/// Prints the type covered, the numbers, the signer's name, and the signature in base 64.
+impl<R: AsOctets + Copy> fmt::Display for Rrsig<R> {
+    ghost output = { λ sig. Some (rrsig_form.text (rrsig_of sig)) };
+
+    fn fmt<W: fmt::Write>(&self, f: &mut fmt::Formatter<W>) -> fmt::Result {
+        write_covered(f, self)?;
+        write_times(f, self)?;
+        write_signer(f, self)?;
+        write_base64(f, self.signature.as_slice())
+    }
+}
+
+/// Writes the type covered, the algorithm and the number of labels of a signature.
+fn write_covered<W: fmt::Write, R: AsOctets + Copy>(
+    f: &mut fmt::Formatter<W>,
+    sig: &Rrsig<R>,
+) -> fmt::Result
+    ensures { WritesOnOk W.write_str_gives f.old result (rtype_text sig.now.type_covered
+        ++ 32 ∷ decimal sig.now.algorithm ++ 32 ∷ decimal sig.now.labels ++ 32 ∷ []) f.new }
+{
+    let (algorithm, labels) = (sig.algorithm, sig.labels);
+    let rtype = Rtype::from_int(sig.type_covered);
+    write!(f, "{rtype} {algorithm} {labels} ")
+}
+
+/// Writes the TTL, the expiration and the inception of a signature.
+fn write_times<W: fmt::Write, R: AsOctets + Copy>(
+    f: &mut fmt::Formatter<W>,
+    sig: &Rrsig<R>,
+) -> fmt::Result
+    ensures { WritesOnOk W.write_str_gives f.old result (decimal sig.now.original_ttl
+        ++ 32 ∷ decimal sig.now.expiration ++ 32 ∷ decimal sig.now.inception ++ 32 ∷ []) f.new }
+{
+    let (ttl, expiration, inception) = (sig.original_ttl, sig.expiration, sig.inception);
+    write!(f, "{ttl} {expiration} {inception} ")
+}
+
+/// Writes the key tag and the signer's name of a signature.
+fn write_signer<W: fmt::Write, R: AsOctets + Copy>(
+    f: &mut fmt::Formatter<W>,
+    sig: &Rrsig<R>,
+) -> fmt::Result
+    ensures { WritesOnOk W.write_str_gives f.old result (decimal sig.now.key_tag
+        ++ 32 ∷ name_text (name_of sig.now.signer_name).labels ++ 32 ∷ []) f.new }
+{
+    let (key_tag, name) = (sig.key_tag, sig.signer_name);
+    write!(f, "{key_tag} {name} ")
 }

@@ -1,11 +1,13 @@
 //! Host information: RFC 1035, 3.3.2.
-ghost use Rattle.std.specs.Prelude.{◌≡◌, ⊤};
+ghost use Rattle.std.specs.Prelude.{◌≡◌, ⊤, Some};
+ghost use Rattle.octseq_dns_data.specs.Typed.{hinfo_form, hinfo_of};
 
 use crate::data::formed::Formed;
 use crate::data::txt::CharStr;
 use octseq::AsOctets;
 use octseq_format::{Counted, Fields, Format, U8};
 use std::alloc::AllocError;
+use std::fmt;
 
 /// Host information: RFC 1035, 3.3.2.
 #[derive(Debug)]
@@ -43,5 +45,15 @@ impl<R: AsOctets + Copy> Fields<R> for Hinfo<R> {
 
     fn to_fields(&self) -> <Self::Format as Format<R>>::Value {
         (self.cpu, self.os)
+    }
+}
+
+/// Prints both strings.
+impl<R: AsOctets + Copy> fmt::Display for Hinfo<R> {
+    ghost output = { λ hinfo. Some (hinfo_form.text (hinfo_of hinfo)) };
+
+    fn fmt<W: fmt::Write>(&self, f: &mut fmt::Formatter<W>) -> fmt::Result {
+        let Hinfo { cpu, os } = self;
+        write!(f, "{cpu} {os}")
     }
 }

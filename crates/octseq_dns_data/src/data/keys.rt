@@ -1,11 +1,14 @@
 //! Certificates and keys of other protocols: RFC 6698 (TLSA), RFC 8162 (SMIMEA), RFC 4255 (SSHFP).
-ghost use Rattle.std.specs.Prelude.{◌≡◌, ⊤};
+ghost use Rattle.std.specs.Prelude.{◌≡◌, ⊤, Some};
+ghost use Rattle.octseq_dns_data.specs.Typed.{certificate_form, sshfp_form, sshfp_of, tlsa_of};
 
 use crate::data::formed::Formed;
 use crate::data::some_octets::SomeOctets;
 use octseq::AsOctets;
+use octseq::octets_text::write_hex;
 use octseq_format::{Fields, Format, U8};
 use std::alloc::AllocError;
+use std::fmt;
 
 /// A certificate association, in TLSA (RFC 6698, 2.1) and SMIMEA (RFC 8162, 2).
 #[derive(Debug)]
@@ -57,6 +60,22 @@ impl<R: AsOctets + Copy> Fields<R> for Tlsa<R> {
     }
 }
 
+/// Prints the three numbers, and the octets in hexadecimal.
+impl<R: AsOctets + Copy> fmt::Display for Tlsa<R> {
+    ghost output = { λ tlsa. Some (certificate_form.text (tlsa_of tlsa)) };
+
+    fn fmt<W: fmt::Write>(&self, f: &mut fmt::Formatter<W>) -> fmt::Result {
+        let Tlsa {
+            cert_usage,
+            selector,
+            matching_type,
+            cert_assoc_data,
+        } = self;
+        write!(f, "{cert_usage} {selector} {matching_type} ")?;
+        write_hex(f, cert_assoc_data.as_slice())
+    }
+}
+
 /// The fingerprint of a host's SSH key: RFC 4255, 3.1.
 #[derive(Debug)]
 pub struct Sshfp<R: AsOctets> {
@@ -96,5 +115,20 @@ impl<R: AsOctets + Copy> Fields<R> for Sshfp<R> {
 
     fn to_fields(&self) -> <Self::Format as Format<R>>::Value {
         (self.algorithm, self.fingerprint_type, self.fingerprint)
+    }
+}
+
+/// Prints both numbers, and the fingerprint in hexadecimal.
+impl<R: AsOctets + Copy> fmt::Display for Sshfp<R> {
+    ghost output = { λ sshfp. Some (sshfp_form.text (sshfp_of sshfp)) };
+
+    fn fmt<W: fmt::Write>(&self, f: &mut fmt::Formatter<W>) -> fmt::Result {
+        let Sshfp {
+            algorithm,
+            fingerprint_type,
+            fingerprint,
+        } = self;
+        write!(f, "{algorithm} {fingerprint_type} ")?;
+        write_hex(f, fingerprint.as_slice())
     }
 }

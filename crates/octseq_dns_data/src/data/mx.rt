@@ -1,10 +1,12 @@
 //! Mail exchanges: RFC 1035, 3.3.9.
-ghost use Rattle.std.specs.Prelude.{◌≡◌, ⊤};
+ghost use Rattle.std.specs.Prelude.{◌≡◌, ⊤, Some};
+ghost use Rattle.octseq_dns_data.specs.Typed.{mx_form, mx_of, mx_parts};
 
 use octseq::AsOctets;
 use octseq_dns_name::{DomainName, ParsedName};
 use octseq_format::{Fields, Format, U16Be};
 use std::alloc::AllocError;
+use std::fmt;
 
 /// A mail exchange.
 #[derive(Debug)]
@@ -42,5 +44,18 @@ impl<R: AsOctets + Copy> Fields<R> for Mx<R> {
 
     fn to_fields(&self) -> <Self::Format as Format<R>>::Value {
         (self.preference, self.exchange)
+    }
+}
+
+/// Prints the preference and the exchange.
+impl<R: AsOctets + Copy> fmt::Display for Mx<R> {
+    ghost output = { λ mx. Some (mx_form.text (mx_parts (mx_of mx))) };
+
+    fn fmt<W: fmt::Write>(&self, f: &mut fmt::Formatter<W>) -> fmt::Result {
+        let Mx {
+            preference,
+            exchange,
+        } = self;
+        write!(f, "{preference} {exchange}")
     }
 }

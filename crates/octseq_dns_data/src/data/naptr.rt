@@ -1,5 +1,6 @@
 //! Naming authority pointers: RFC 3403, 4.1.
-ghost use Rattle.std.specs.Prelude.{◌≡◌, ⊤};
+ghost use Rattle.std.specs.Prelude.{◌≡◌, ⊤, Some};
+ghost use Rattle.octseq_dns_data.specs.Typed.{naptr_form, naptr_of, naptr_parts};
 
 use crate::data::formed::Formed;
 use crate::data::txt::CharStr;
@@ -7,6 +8,7 @@ use octseq::AsOctets;
 use octseq_dns_name::{DomainName, ParsedName};
 use octseq_format::{Counted, Fields, Format, U8, U16Be};
 use std::alloc::AllocError;
+use std::fmt;
 
 /// A naming authority pointer.
 #[derive(Debug)]
@@ -76,6 +78,26 @@ impl<R: AsOctets + Copy> Fields<R> for Naptr<R> {
             self.services,
             self.regexp,
             self.replacement,
+        )
+    }
+}
+
+/// Prints the order, the preference, the three strings and the replacement.
+impl<R: AsOctets + Copy> fmt::Display for Naptr<R> {
+    ghost output = { λ naptr. Some (naptr_form.text (naptr_parts (naptr_of naptr))) };
+
+    fn fmt<W: fmt::Write>(&self, f: &mut fmt::Formatter<W>) -> fmt::Result {
+        let Naptr {
+            order,
+            preference,
+            flags,
+            services,
+            regexp,
+            replacement,
+        } = self;
+        write!(
+            f,
+            "{order} {preference} {flags} {services} {regexp} {replacement}"
         )
     }
 }

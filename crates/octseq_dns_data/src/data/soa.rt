@@ -1,10 +1,12 @@
 //! The start of authority: RFC 1035, 3.3.13.
-ghost use Rattle.std.specs.Prelude.{◌≡◌, ⊤};
+ghost use Rattle.std.specs.Prelude.{◌≡◌, ⊤, Some};
+ghost use Rattle.octseq_dns_data.specs.Typed.{soa_form, soa_of, soa_parts};
 
 use octseq::AsOctets;
 use octseq_dns_name::{DomainName, ParsedName};
 use octseq_format::{Fields, Format, U32Be};
 use std::alloc::AllocError;
+use std::fmt;
 
 /// The start of authority of a zone. Its times are in seconds.
 #[derive(Debug)]
@@ -72,6 +74,27 @@ impl<R: AsOctets + Copy> Fields<R> for Soa<R> {
             self.retry,
             self.expire,
             self.minimum,
+        )
+    }
+}
+
+/// Prints both names and the five numbers in order.
+impl<R: AsOctets + Copy> fmt::Display for Soa<R> {
+    ghost output = { λ soa. Some (soa_form.text (soa_parts (soa_of soa))) };
+
+    fn fmt<W: fmt::Write>(&self, f: &mut fmt::Formatter<W>) -> fmt::Result {
+        let Soa {
+            mname,
+            rname,
+            serial,
+            refresh,
+            retry,
+            expire,
+            minimum,
+        } = self;
+        write!(
+            f,
+            "{mname} {rname} {serial} {refresh} {retry} {expire} {minimum}"
         )
     }
 }

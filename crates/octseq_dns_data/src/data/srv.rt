@@ -1,10 +1,12 @@
 //! Service records: RFC 2782.
-ghost use Rattle.std.specs.Prelude.{◌≡◌, ⊤};
+ghost use Rattle.std.specs.Prelude.{◌≡◌, ⊤, Some};
+ghost use Rattle.octseq_dns_data.specs.Typed.{srv_form, srv_of, srv_parts};
 
 use octseq::AsOctets;
 use octseq_dns_name::{DomainName, ParsedName};
 use octseq_format::{Fields, Format, U16Be};
 use std::alloc::AllocError;
+use std::fmt;
 
 /// The location of a service.
 #[derive(Debug)]
@@ -48,5 +50,20 @@ impl<R: AsOctets + Copy> Fields<R> for Srv<R> {
 
     fn to_fields(&self) -> <Self::Format as Format<R>>::Value {
         (self.priority, self.weight, self.port, self.target)
+    }
+}
+
+/// Prints the priority, the weight, the port and the target.
+impl<R: AsOctets + Copy> fmt::Display for Srv<R> {
+    ghost output = { λ srv. Some (srv_form.text (srv_parts (srv_of srv))) };
+
+    fn fmt<W: fmt::Write>(&self, f: &mut fmt::Formatter<W>) -> fmt::Result {
+        let Srv {
+            priority,
+            weight,
+            port,
+            target,
+        } = self;
+        write!(f, "{priority} {weight} {port} {target}")
     }
 }

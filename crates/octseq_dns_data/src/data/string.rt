@@ -3,7 +3,7 @@ ghost use Rattle.std.specs.Prelude.{◌≡◌, ◌≤◌, ℕ, List, IsErr, IfOk
 ghost use Rattle.octseq.specs.Parser.{window};
 ghost use Rattle.octseq.specs.Part.{part};
 ghost use Rattle.octseq.specs.Window.{Window, left, rest};
-ghost use Rattle.octseq_dns_data.specs.Data.{HasString};
+ghost use Rattle.octseq_dns_data.specs.Strings.{HasString};
 
 use octseq::{AsOctets, Parser};
 use octseq_dns_name::Malformed;

@@ -1,5 +1,6 @@
 //! Service bindings: RFC 9460, 2.2.
-ghost use Rattle.std.specs.Prelude.{◌≡◌, ⊤};
+ghost use Rattle.std.specs.Prelude.{◌≡◌, ⊤, Some};
+ghost use Rattle.octseq_dns_data.specs.Typed.{service_form, svcb_of};
 
 use crate::data::formed::Formed;
 use crate::data::plain_name::PlainName;
@@ -8,6 +9,7 @@ use octseq::AsOctets;
 use octseq_dns_name::ParsedName;
 use octseq_format::{Fields, Format, U16Be};
 use std::alloc::AllocError;
+use std::fmt;
 
 /// A service binding: how a service is reached, in SVCB and HTTPS.
 #[derive(Debug)]
@@ -48,5 +50,19 @@ impl<R: AsOctets + Copy> Fields<R> for Svcb<R> {
 
     fn to_fields(&self) -> <Self::Format as Format<R>>::Value {
         (self.priority, self.target, self.params)
+    }
+}
+
+/// Prints the priority, the target, and each parameter after a space.
+impl<R: AsOctets + Copy> fmt::Display for Svcb<R> {
+    ghost output = { λ svcb. Some (service_form.text (svcb_of svcb)) };
+
+    fn fmt<W: fmt::Write>(&self, f: &mut fmt::Formatter<W>) -> fmt::Result {
+        let Svcb {
+            priority,
+            target,
+            params,
+        } = self;
+        write!(f, "{priority} {target}{params}")
     }
 }

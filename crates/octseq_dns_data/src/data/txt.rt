@@ -1,18 +1,19 @@
 //! Character strings: RFC 1035, 3.3 and 3.3.14.
-ghost use Rattle.std.specs.Prelude.{◌≡◌, ◌≤◌, ◌+◌, ◌-◌, ⊤, length, slice_range};
+ghost use Rattle.std.specs.Prelude.{◌≡◌, ◌≤◌, ◌+◌, ◌-◌, ⊤, Some, length, slice_range};
 ghost use Rattle.std.specs.List.{All};
 ghost use Rattle.octseq.specs.Parser.{window};
 ghost use Rattle.octseq.specs.Window.{left};
-ghost use Rattle.octseq_dns_data.specs.Data.{HasString};
 ghost use Rattle.octseq_dns_data.specs.OneRow.{Reaches, strings_once};
-ghost use Rattle.octseq_dns_data.specs.Strings.{spelling};
+ghost use Rattle.octseq_dns_data.specs.Strings.{HasString, spelling};
 
 use crate::data::formed::FormedOctets;
 use crate::data::string::{CharacterString, take_string};
+use octseq::octets_text::write_string;
 use octseq::{AsOctets, Parser, Turns};
 use octseq_dns_name::Malformed;
 use octseq_format::{Format, Repeated, are_octets};
 use std::alloc::AllocError;
+use std::fmt;
 
 /// A character string: at most 255 octets, where they are in the message.
 #[derive(Debug)]
@@ -112,6 +113,19 @@ impl<R: AsOctets + Copy> FormedOctets<R> for CharStr<R> {
     }
 }
 
+/// Prints the octets of the string in `"`: `"` and `\` after a backslash, other octets of 20 to 7E (hexadecimal) as
+/// they are, and all others as a backslash and three decimal digits.
+impl<R: AsOctets> fmt::Display for CharStr<R> {
+    ghost use Rattle.octseq.specs.OctetsText.{string_text};
+    ghost use Rattle.octseq_dns_data.specs.Txt.{string_octets};
+
+    ghost output = { λ string. Some (string_text (string_octets string)) };
+
+    fn fmt<W: fmt::Write>(&self, f: &mut fmt::Formatter<W>) -> fmt::Result {
+        write_string(f, self.as_slice())
+    }
+}
+
 /// One or more character strings, one after another up to the end of the data.
 #[derive(Debug)]
 pub struct Txt<R: AsOctets> {
@@ -140,7 +154,7 @@ impl<R: AsOctets + Copy> Clone for Txt<R> {
 impl<R: AsOctets + Copy> Txt<R> {
     ghost use Rattle.std.specs.Prelude.{ℕ, List, IsErr, IfOk, OnOk};
     ghost use Rattle.octseq.specs.Window.{Window};
-    ghost use Rattle.octseq_dns_data.specs.Data.{HasStrings};
+    ghost use Rattle.octseq_dns_data.specs.Strings.{HasStrings};
     ghost use Rattle.octseq.specs.Window.{whole};
     ghost use Rattle.octseq_dns_data.specs.Txt.{strings_of, strings_left, txt_place, strings_ahead};
 
@@ -211,6 +225,26 @@ impl<R: AsOctets + Copy> Txt<R> {
             parser: self.parser,
             end: self.end,
         }
+    }
+}
+
+/// Prints the strings, separated by spaces.
+impl<R: AsOctets + Copy> fmt::Display for Txt<R> {
+    ghost use Rattle.octseq_dns_data.specs.DataText.{strings_text};
+    ghost use Rattle.octseq_dns_data.specs.Txt.{strings_of};
+
+    ghost output = { λ txt. Some (strings_text (strings_of txt)) };
+
+    fn fmt<W: fmt::Write>(&self, f: &mut fmt::Formatter<W>) -> fmt::Result {
+        let mut strings = self.strings();
+        match strings.next() {
+            Some(first) => write!(f, "{first}")?,
+            None => return Ok(()),
+        }
+        for string in strings {
+            write!(f, " {string}")?;
+        }
+        Ok(())
     }
 }
 

@@ -1,11 +1,14 @@
 //! URI records: RFC 7553.
-ghost use Rattle.std.specs.Prelude.{◌≡◌, ⊤};
+ghost use Rattle.std.specs.Prelude.{◌≡◌, ⊤, Some};
+ghost use Rattle.octseq_dns_data.specs.Typed.{uri_form, uri_of};
 
 use crate::data::formed::Formed;
 use crate::data::some_octets::SomeOctets;
 use octseq::AsOctets;
+use octseq::octets_text::write_string;
 use octseq_format::{Fields, Format, U16Be};
 use std::alloc::AllocError;
+use std::fmt;
 
 /// The location of a service, as a URI.
 #[derive(Debug)]
@@ -46,5 +49,20 @@ impl<R: AsOctets + Copy> Fields<R> for Uri<R> {
 
     fn to_fields(&self) -> <Self::Format as Format<R>>::Value {
         (self.priority, self.weight, self.target)
+    }
+}
+
+/// Prints both numbers, and the URI as a string in `"`.
+impl<R: AsOctets + Copy> fmt::Display for Uri<R> {
+    ghost output = { λ uri. Some (uri_form.text (uri_of uri)) };
+
+    fn fmt<W: fmt::Write>(&self, f: &mut fmt::Formatter<W>) -> fmt::Result {
+        let Uri {
+            priority,
+            weight,
+            target,
+        } = self;
+        write!(f, "{priority} {weight} ")?;
+        write_string(f, target.as_slice())
     }
 }

@@ -5,7 +5,7 @@ use octseq_dns_data::{Class, Opcode, Rcode, Rtype, write_base32hex, write_base64
 use std::fmt;
 
 /// Types of the DNS parameters registry.
-static TYPES: [(u16, &str); 38] = [
+static TYPES: [(u16, &str); 39] = [
     (1, "A"),
     (2, "NS"),
     (5, "CNAME"),
@@ -33,6 +33,7 @@ static TYPES: [(u16, &str); 38] = [
     (59, "CDS"),
     (60, "CDNSKEY"),
     (61, "OPENPGPKEY"),
+    (62, "CSYNC"),
     (63, "ZONEMD"),
     (64, "SVCB"),
     (65, "HTTPS"),

@@ -1,11 +1,11 @@
 //! Names that own their octets.
-ghost use Rattle.std.specs.Prelude.{◌≡◌, ◌+◌, ◌≤◌, ◌↔◌, true, List, [], ◌++◌, length, IsTrue, IfOk, OnOk, OnErr};
+ghost use Rattle.std.specs.Prelude.{◌≡◌, ◌+◌, ◌≤◌, ◌↔◌, true, ℕ, List, [], ◌++◌, length, IsTrue, IfOk, OnOk, OnErr};
 ghost use Rattle.octseq.specs.Window.{whole};
 ghost use Rattle.octseq.specs.Limit.{IsPast};
 ghost use Rattle.octseq.specs.Refusal.{IsShort, IsMemory, append_error};
 ghost use Rattle.octseq_dns_name.specs.Name.{wire_length};
 ghost use Rattle.octseq_dns_name.specs.OneName.{Named, named_once};
-ghost use Rattle.octseq_dns_name.specs.Wire.{wire};
+ghost use Rattle.octseq_dns_name.specs.Wire.{wire, IsWireOf};
 
 use crate::name::wire::append_labels;
 use crate::name::{Labels, ParsedName};
@@ -75,6 +75,14 @@ impl<B: AsOctets> Name<B> {
         self.parsed().is_root()
     }
 
+    /// Makes the name with this plain wire form.
+    fn from_wire(octets: B) -> Self
+        requires { (labels : List (List ℕ)) × IsWireOf labels (B.content octets) }
+        ensures { (labels : List (List ℕ)) → IsWireOf labels (B.content octets) → owned_labels result ≡ labels }
+    {
+        Name { octets }
+    }
+
     /// Returns the builder, which holds the plain wire form.
     pub fn into_octets(self) -> B
         ensures { B.content result ≡ wire (owned_labels self) }
@@ -95,7 +103,7 @@ impl<B: AsOctets> Name<B> {
     {
         let mut octets = B::with_capacity(alloc, name.len())?;
         append_labels(&mut octets, name.labels())?;
-        Ok(Name { octets })
+        Ok(Name::from_wire(octets))
     }
 }
 

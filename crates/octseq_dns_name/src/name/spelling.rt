@@ -1,12 +1,13 @@
 //! The spelling of names in text: RFC 1035, 5.1.
 ghost use Rattle.std.specs.Prelude.{◌≡◌, ℕ, ◌+◌, ◌<◌, ◌≤◌, List, [], ◌∷◌, ◌++◌, length};
 ghost use Rattle.std.specs.Prelude.{IsNone, IfSome, IfOk, IfErr, OnErr, MatchOption};
-ghost use Rattle.octseq_dns_name.specs.Name.{wire_length};
+ghost use Rattle.octseq_dns_name.specs.NameFormat.{bodies};
 ghost use Rattle.octseq_dns_name.specs.Origin.{SpellsWithOrigin, IsRefusedWithOrigin};
 ghost use Rattle.octseq_dns_name.specs.Read.{labels_of};
-ghost use Rattle.octseq_dns_name.specs.Refused.{Reads, SpellsNone, BeginsWith, IsFault, IsRefused};
+ghost use Rattle.octseq_dns_name.specs.Refused.{Reads, ReadsLabels, ReadsAll, SpellsNone, IsIllegal, IsFault};
+ghost use Rattle.octseq_dns_name.specs.Refused.{IsRefused};
 ghost use Rattle.octseq_dns_name.specs.Spelling.{SpellsOctet, SpellsName};
-ghost use Rattle.octseq_dns_name.specs.Wire.{wire, AreLabels};
+ghost use Rattle.octseq_dns_name.specs.Wire.{IsWireOf};
 ghost use Rattle.octseq.specs.OctetsText.{three_digits};
 
 use crate::error::FromTextError;
@@ -20,26 +21,19 @@ use octseq::{Array, AsOctets, OctetsBuilder};
 
 /// Returns the plain wire form of the name that a text spells.
 pub(crate) fn wire_of(text: &[u8]) -> Result<Array<255>, FromTextError>
-    ensures ok { IfOk result (λ octets. (labels : List (List ℕ)) × (octets.content ≡ wire labels)
-        × AreLabels labels × (wire_length labels ≤ 255) × SpellsName labels text.now) }
+    ensures ok { IfOk result (λ octets. (labels : List (List ℕ)) × IsWireOf labels octets.content
+        × SpellsName labels text.now) }
     ensures refused { IfErr result (λ fault. IsRefused fault text.now) }
 {
-    let mut octets = Array::<255>::new();
     if text == b".".as_slice() {
-        return Ok(with_root(octets));
+        return Ok(with_root(Array::new()));
     }
-    if text.is_empty() {
+    let (octets, last) = read_labels(text)?;
+    if !last.is_empty() {
         return Err(FromTextError::UnexpectedEnd);
     }
-    let mut ahead = text;
-    'labels: while !ahead.is_empty() {
-        let (label, rest) = next_label(ahead)?;
-        let slice = label.as_slice();
-        if !has_room(&octets, slice) {
-            return Err(FromTextError::LongName);
-        }
-        append_label(&mut octets, slice);
-        ahead = rest;
+    if octets.is_empty() {
+        return Err(FromTextError::UnexpectedEnd);
     }
     Ok(with_root(octets))
 }
@@ -49,56 +43,58 @@ pub(crate) fn wire_with_origin<R: AsOctets + Copy>(
     text: &[u8],
     origin: &ParsedName<R>,
 ) -> Result<Array<255>, FromTextError>
-    ensures ok { IfOk result (λ octets. (labels : List (List ℕ)) × (octets.content ≡ wire labels)
-        × AreLabels labels × (wire_length labels ≤ 255) × SpellsWithOrigin (labels_of origin.now) labels text.now) }
+    ensures ok { IfOk result (λ octets. (labels : List (List ℕ)) × IsWireOf labels octets.content
+        × SpellsWithOrigin (labels_of origin.now) labels text.now) }
     ensures refused { IfErr result (λ fault. IsRefusedWithOrigin (labels_of origin.now) fault text.now) }
 {
-    let mut octets = Array::<255>::new();
     if text == b".".as_slice() {
-        return Ok(with_root(octets));
+        return Ok(with_root(Array::new()));
     }
     if text == b"@".as_slice() {
-        return Ok(with_name(octets, origin));
+        return Ok(with_name(Array::new(), origin));
     }
-    if text.is_empty() {
+    let (octets, last) = read_labels(text)?;
+    if !last.is_empty() {
+        return with_label_and_name(octets, last.as_slice(), origin);
+    }
+    if octets.is_empty() {
         return Err(FromTextError::UnexpectedEnd);
     }
+    Ok(with_root(octets))
+}
+
+/// Reads labels from a text, each followed by a full stop. Returns their wire form without the root, and the label that
+/// the text ends with if no full stop follows it, or no octets.
+fn read_labels(text: &[u8]) -> Result<(Array<255>, Array<63>), FromTextError>
+    ensures ok { IfOk result (λ read. (labels : List (List ℕ)) × (read.0.content ≡ bodies labels)
+        × ReadsAll text.now labels read.1.content) }
+    ensures room { IfOk result (λ read. length read.0.content + 1 ≤ 255) }
+    ensures refused { IfErr result (λ fault. (labels : List (List ℕ)) × (rest : List ℕ)
+        × ReadsLabels text.now labels rest × IsFault fault labels rest) }
+    ensures within { IfErr result (λ fault. ¬ (fault ≡ FromTextError.UnexpectedEnd)) }
+{
+    let mut octets = Array::<255>::new();
     let mut ahead = text;
-    'labels: while !ahead.is_empty() {
+    'labels: loop {
         let (label, rest) = next_part(ahead)?;
-        let slice = label.as_slice();
         let Some(rest) = rest else {
-            return with_label_and_name(octets, slice, origin).ok_or(FromTextError::LongName);
+            return Ok((octets, label));
         };
+        let slice = label.as_slice();
         if !has_room(&octets, slice) {
             return Err(FromTextError::LongName);
         }
         append_label(&mut octets, slice);
         ahead = rest;
     }
-    Ok(with_root(octets))
-}
-
-/// Takes a label and the full stop after it from the front of a text.
-pub(crate) fn next_label(text: &[u8]) -> Result<(Array<63>, &[u8]), FromTextError>
-    requires { 1 ≤ length text.now }
-    ensures ok { IfOk result (λ taken. Reads text.now taken.0.content (46 ∷ taken.1.now)) }
-    ensures some { IfOk result (λ taken. 1 ≤ length taken.0.content) }
-    ensures refused { IfErr result (λ fault. (labels : List (List ℕ)) → IsFault fault labels text.now) }
-{
-    match next_part(text)? {
-        (label, Some(rest)) => Ok((label, rest)),
-        (_, None) => Err(FromTextError::UnexpectedEnd),
-    }
 }
 
 /// Takes a label from the front of a text, and the full stop after it. Returns the label with what follows the full
 /// stop, or with `None` if the text ends with the label.
 fn next_part(text: &[u8]) -> Result<(Array<63>, Option<&[u8]>), FromTextError>
-    requires { 1 ≤ length text.now }
     ensures ok { IfOk result (λ taken. MatchOption taken.1 (Reads text.now taken.0.content [])
         (λ rest. Reads text.now taken.0.content (46 ∷ rest.now))) }
-    ensures some { IfOk result (λ taken. 1 ≤ length taken.0.content) }
+    ensures some { IfOk result (λ taken. IfSome taken.1 (λ _. 1 ≤ length taken.0.content)) }
     ensures short { IfOk result (λ taken. length taken.0.content ≤ 63) }
     ensures refused { IfErr result (λ fault. (labels : List (List ℕ)) → IsFault fault labels text.now) }
     ensures within { IfErr result (λ fault. ¬ (fault ≡ FromTextError.UnexpectedEnd)) }
@@ -115,7 +111,7 @@ fn next_part(text: &[u8]) -> Result<(Array<63>, Option<&[u8]>), FromTextError>
             }
             return Ok((label, Some(rest)));
         }
-        let (octet, rest) = next_octet(ahead)?;
+        let (octet, rest) = next_octet(*first, rest)?;
         if label.len() >= LABEL_MAX {
             return Err(FromTextError::LongLabel);
         }
@@ -124,23 +120,20 @@ fn next_part(text: &[u8]) -> Result<(Array<63>, Option<&[u8]>), FromTextError>
     }
 }
 
-/// Takes an octet of a label from the front of a text.
-fn next_octet(text: &[u8]) -> Result<(u8, &[u8]), FromTextError>
-    ensures ok { IfOk result (λ taken. (first : List ℕ) × (text.now ≡ first ++ taken.1.now)
-        × SpellsOctet taken.0 first) }
-    ensures none { OnErr result (SpellsNone text.now) }
-    ensures begins { IfErr result (λ fault. BeginsWith fault text.now) }
+/// Takes an octet of a label from the front of a text: the octet `first`, followed by `rest`.
+fn next_octet(first: u8, rest: &[u8]) -> Result<(u8, &[u8]), FromTextError>
+    ensures ok { IfOk result (λ taken. (run : List ℕ) × (first ∷ rest.now ≡ run ++ taken.1.now)
+        × SpellsOctet taken.0 run) }
+    ensures none { OnErr result (SpellsNone (first ∷ rest.now)) }
+    ensures illegal { IfErr result (λ fault. IsIllegal fault first) }
 {
-    let Some((first, rest)) = text.split_first() else {
-        return Err(FromTextError::UnexpectedEnd);
-    };
-    if *first == b'\\' {
+    if first == b'\\' {
         return next_escaped(rest).ok_or(FromTextError::IllegalEscape);
     }
-    if needs_backslash(*first) || !first.is_ascii_graphic() {
+    if needs_backslash(first) || !first.is_ascii_graphic() {
         return Err(FromTextError::IllegalOctet);
     }
-    Ok((*first, rest))
+    Ok((first, rest))
 }
 
 /// Takes what follows the backslash of an octet from the front of a text.

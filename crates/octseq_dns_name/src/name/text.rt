@@ -38,6 +38,17 @@ pub fn a_name_is_spelled_by_its_text()
     ensures { (labels : List (List ℕ)) → AreOctetLabels labels → SpellsName labels (name_text labels) }
 {}
 
+/// The printed text of a name spells it with any origin, and no other name, so it is read back as that name.
+///
+/// It does nothing. Calling it brings the law into the caller's proof.
+pub fn a_name_is_spelled_by_its_text_with_origin()
+    ensures spells { (origin labels : List (List ℕ)) → AreOctetLabels labels
+        → SpellsWithOrigin origin labels (name_text labels) }
+    ensures one { (origin labels others : List (List ℕ)) → AreOctetLabels labels → AreLabels labels
+        → wire_length labels ≤ 255 → AreLabels others → wire_length others ≤ 255
+        → SpellsWithOrigin origin others (name_text labels) → others ≡ labels }
+{}
+
 /// The labels of a name have 1 to 63 octets each, so its printed text is read back as that name.
 ///
 /// It only borrows the octets. Calling it brings the law into the caller's proof.

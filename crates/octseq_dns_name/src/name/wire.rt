@@ -1,13 +1,13 @@
 //! The plain wire form of labels.
 ghost use Rattle.std.specs.Prelude.{◌≡◌, ◌↔◌, ◌+◌, ◌<◌, ◌≤◌, true, ℕ, List, [], ◌∷◌, ◌++◌, length, map};
-ghost use Rattle.std.specs.Prelude.{IsTrue, IfOk, IfErr, OnOk, OnErr, IsNone, IfSome};
+ghost use Rattle.std.specs.Prelude.{IsTrue, IfOk, IfErr, OnOk, OnErr};
 ghost use Rattle.octseq.specs.Limit.{IsPast};
 ghost use Rattle.octseq_dns_name.specs.Name.{wire_length};
 ghost use Rattle.octseq_dns_name.specs.Read.{labels_left, labels_of};
-ghost use Rattle.octseq_dns_name.specs.Unfit.{HasWrong};
-ghost use Rattle.octseq_dns_name.specs.Wire.{wire, AreLabels};
+ghost use Rattle.octseq_dns_name.specs.Unfit.{IsWrong, HasWrong};
+ghost use Rattle.octseq_dns_name.specs.Wire.{wire, AreLabels, IsWireOf};
 
-use crate::error::FromLabelsError;
+use crate::error::{FromLabelsError, FromTextError};
 use crate::name::{Labels, NAME_MAX, ParsedName};
 use octseq::builder::infallible;
 use octseq::{AppendError, Array, AsOctets, OctetsBuilder};
@@ -60,25 +60,36 @@ pub(crate) fn append<B: OctetsBuilder>(octets: &mut B, slice: &[u8]) -> Result<(
 
 /// Returns the plain wire form of the name with these labels.
 pub(crate) fn wire_of_labels(labels: &[&[u8]]) -> Result<Array<255>, FromLabelsError>
-    ensures ok { IfOk result (λ octets. (octets.content ≡ wire (map (λ label. label.now) labels.now))
-        × AreLabels (map (λ label. label.now) labels.now)
-        × (wire_length (map (λ label. label.now) labels.now) ≤ 255)) }
+    ensures ok { IfOk result (λ octets. IsWireOf (map (λ label. label.now) labels.now) octets.content) }
     ensures wrong { IfErr result (λ fault. HasWrong fault (map (λ label. label.now) labels.now)) }
 {
     let mut octets = Array::<255>::new();
     for label in labels {
-        if label.is_empty() {
-            return Err(FromLabelsError::EmptyLabel);
-        }
-        if label.len() > LABEL_MAX {
-            return Err(FromLabelsError::LongLabel);
-        }
-        if !has_room(&octets, label) {
-            return Err(FromLabelsError::LongName);
-        }
-        append_label(&mut octets, label);
+        try_append_label(&mut octets, label)?;
     }
     Ok(with_root(octets))
+}
+
+/// Appends a label after its length, if it isn't wrong after the labels so far.
+#[tactic(auto, using(crate::proofs::Names::wire_append))]
+fn try_append_label(octets: &mut Array<255>, label: &[u8]) -> Result<(), FromLabelsError>
+    ensures ok { OnOk result (octets.new.content ≡ octets.old.content ++ length label.now ∷ label.now) }
+    ensures right { OnOk result ((1 ≤ length label.now) × (length label.now ≤ 63)) }
+    ensures room { OnOk result (length octets.new.content + 1 ≤ 255) }
+    ensures wrong { (before : List (List ℕ)) → length octets.old.content + 1 ≡ wire_length before
+        → IfErr result (λ fault. IsWrong fault before label.now) }
+{
+    if label.is_empty() {
+        return Err(FromLabelsError::EmptyLabel);
+    }
+    if label.len() > LABEL_MAX {
+        return Err(FromLabelsError::LongLabel);
+    }
+    if !has_room(octets, label) {
+        return Err(FromLabelsError::LongName);
+    }
+    append_label(octets, label);
+    Ok(())
 }
 
 /// Whether there is room for one more label, and the root.
@@ -120,23 +131,23 @@ pub(crate) fn with_name<R: AsOctets + Copy>(octets: Array<255>, name: &ParsedNam
     all
 }
 
-/// Returns the octets followed by a label and a name, if there is room.
+/// Returns the octets followed by a label and a name, or `LongName` if there is no room.
 pub(crate) fn with_label_and_name<R: AsOctets + Copy>(
     octets: Array<255>,
     label: &[u8],
     name: &ParsedName<R>,
-) -> Option<Array<255>>
+) -> Result<Array<255>, FromTextError>
     requires { length label.now ≤ 63 }
-    ensures some { IfSome result (λ all. (all.content ≡ octets.content ++ length label.now ∷ label.now
+    ensures ok { IfOk result (λ all. (all.content ≡ octets.content ++ length label.now ∷ label.now
         ++ wire (labels_of name.now)) × AreLabels (labels_of name.now)
         × (length octets.content + 1 + length label.now + wire_length (labels_of name.now) ≤ 255)) }
-    ensures none { IsNone result → 255 < length octets.content + 1 + length label.now
-        + wire_length (labels_of name.now) }
+    ensures long { IfErr result (λ fault. (fault ≡ FromTextError.LongName)
+        × (255 < length octets.content + 1 + length label.now + wire_length (labels_of name.now))) }
 {
     if octets.len() + 1 + label.len() + name.len() > NAME_MAX {
-        return None;
+        return Err(FromTextError::LongName);
     }
     let mut all = octets;
     append_label(&mut all, label);
-    Some(with_name(all, name))
+    Ok(with_name(all, name))
 }

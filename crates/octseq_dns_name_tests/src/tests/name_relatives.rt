@@ -295,6 +295,33 @@ fn the_root_may_be_the_origin(rt: HostRuntime) {
 }
 
 #[test]
+fn a_name_is_read_from_octets(rt: HostRuntime) {
+    let origin = unwrap(&rt, Name::from_text_octets(b"example.com."));
+    for (text, wanted) in [
+        (b"@".as_slice(), "example.com."),
+        (b"www", "www.example.com."),
+        (b"\\\xFF.", "\\255."),
+        (b".", "."),
+    ] {
+        let name = Name::from_text_octets_with_origin(text, &origin.parsed());
+        assert_equal!(&rt, shown(&rt, &unwrap(&rt, name)).as_str(), wanted);
+    }
+}
+
+#[test]
+fn octets_that_spell_no_name_are_refused(rt: HostRuntime) {
+    let root = name_at(&rt, MESSAGE, 24);
+    for (text, reason) in [
+        (b"a".as_slice(), FromTextError::UnexpectedEnd),
+        (b"\xFF.", FromTextError::IllegalOctet),
+    ] {
+        assert_equal!(&rt, Name::from_text_octets(text).err(), Some(reason));
+    }
+    let refused = Name::from_text_octets_with_origin(b"\xFF", &root);
+    assert_equal!(&rt, refused.err(), Some(FromTextError::IllegalOctet));
+}
+
+#[test]
 fn a_text_with_an_origin_is_refused_by_reason(rt: HostRuntime) {
     let origin = name_at(&rt, MESSAGE, 16);
     for (text, reason) in [

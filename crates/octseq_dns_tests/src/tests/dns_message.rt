@@ -4,7 +4,7 @@ use octseq::octets::Octets;
 use octseq::str::DisplayError;
 use octseq::{Array, AsOctets, Parser, StrBuilder};
 use octseq_asserts::{assert_equal, assert_true};
-use octseq_dns::message::Sections;
+use octseq_dns::message::{Section, Sections};
 use octseq_dns::{Data, Malformed, Message, Record, Rtype, Ttl};
 use std::alloc::AllocGlobal;
 use std::process::Abort;
@@ -171,6 +171,29 @@ fn lists_entries<R: Octets + Copy>(rt: &(impl Abort + AllocGlobal), octets: R) {
 #[test]
 fn entries_are_listed(rt: HostRuntime) {
     lists_entries(&rt, ANSWERED_TWICE);
+}
+
+/// A message without questions, with two answers, an authority record and an additional record of the root, whose types
+/// are 1 to 4.
+const ONE_BY_ONE: &[u8] =
+    b"\0\0\0\0\0\0\0\x02\0\x01\0\x01\0\0\x01\0\x01\0\0\0\0\0\0\0\0\x02\0\x01\0\0\0\0\0\0\
+\0\0\x03\0\x01\0\0\0\0\0\0\0\0\x04\0\x01\0\0\0\0\0\0";
+
+#[test]
+fn records_are_listed_with_their_sections(rt: HostRuntime) {
+    let message = unwrap(&rt, Message::parse(ONE_BY_ONE));
+    let mut listed = message.records();
+    for (rtype, section) in [
+        (1, Section::Answer),
+        (2, Section::Answer),
+        (3, Section::Authority),
+        (4, Section::Additional),
+    ] {
+        let (record, found) = unwrap(&rt, listed.next().ok_or("no record"));
+        assert_equal!(&rt, record.rtype(), Rtype::from_int(rtype));
+        assert_equal!(&rt, found, section);
+    }
+    assert_true!(&rt, listed.next().is_none());
 }
 
 /// Returns what a message prints, followed by what each of its authority records prints.

@@ -19,7 +19,7 @@ struct Row {
 }
 
 /// One of each type. Only the name of NAPTR may have a pointer when it is read, and no name has one when it is written.
-static ROWS: [Row; 18] = [
+static ROWS: [Row; 20] = [
     Row {
         rtype: 13,
         read: b"\x01A\0",
@@ -121,6 +121,18 @@ static ROWS: [Row; 18] = [
         read: b"\0\x0A\0\x01a\"\\\xFF",
         written: b"\0\x0A\0\x01a\"\\\xFF",
         text: "10 1 \"a\\\"\\\\\\255\"",
+    },
+    Row {
+        rtype: 61,
+        read: b"\x99\x01\x0D\x04S",
+        written: b"\x99\x01\x0D\x04S",
+        text: "mQENBFM=",
+    },
+    Row {
+        rtype: 62,
+        read: b"\0\0\0B\0\x03\0\x04`\0\0\x08",
+        written: b"\0\0\0B\0\x03\0\x04`\0\0\x08",
+        text: "66 3 A NS AAAA",
     },
     Row {
         rtype: 257,

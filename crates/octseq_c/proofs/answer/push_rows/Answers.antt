@@ -1,6 +1,6 @@
 use Rattle.std.proofs.Common.{◌∷◌, [], inl, inr, refl, arith}
 use Rattle.std.proofs.lemmas.List.{drop_all}
-use Rattle.octseq_dns.proofs.Anew.{ahead_first}
+use Rattle.octseq_c.proofs.Anew.{ahead_first}
 use Rattle.octseq_c.specs.Made.{places_kept}
 use Rattle.octseq_c.proofs.RowsPushed.{left_next, left_none, left_past, row_passed, row_taken, rows_step}
 use Rattle.octseq_c.proofs.answer.push_rows.Goals as goal

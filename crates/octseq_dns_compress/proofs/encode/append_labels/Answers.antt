@@ -14,9 +14,10 @@ returns-in-Err-clause-short g c short =
     let count = c.requires.count in
     let long = ap length so_far.content
     ∙ length-append (g.B.AsOctets.content c.args.octets.now) (unrooted (take index labels)) in
-    let one = one_label_longer labels index c.label.result.now (omega (arith, less, count)) c.label.ensures in
+    let read = ap length c.label.ensures in
+    let one = one_label_longer labels index (omega (arith, less, count)) in
     let few = fewer_shorter labels (index + 1) c.args.count (omega (arith, less)) in
-    within_fewer g.B.AsOctets.limit _ _ c.requires.room (omega (arith, long, one, few))
+    within_fewer g.B.AsOctets.limit _ _ c.requires.room (omega (arith, long, read, one, few))
     (c.in-Err.ensures.appended.short.0 short)
 
 pub labels-preserved : goal.labels-preserved
@@ -27,11 +28,11 @@ labels-preserved g c =
     let less = c.labels-test.true in
     let count = c.requires.count in
     let old = g.B.AsOctets.content c.args.octets.now in
+    let first = unrooted (take index labels) in
     record {
       within = omega (arith, less);
       content = c.in_default.ensures.appended.ok ∙ ap (λ o. o ++ c.label.result.now) so_far.content
-          ∙ append_assoc old (unrooted (take index labels)) c.label.result.now
-          ∙ ap (λ o. old ++ o) (sym (one_label_more labels index c.label.result.now (omega (arith, less, count))
-          c.label.ensures));
+          ∙ append_assoc old first c.label.result.now ∙ ap (λ o. old ++ (first ++ o)) c.label.ensures
+          ∙ ap (λ o. old ++ o) (sym (one_label_more labels index (omega (arith, less, count))));
       borrows = c.in_default.ensures.borrows ∙ so_far.borrows;
     }

@@ -12,8 +12,7 @@ use Rattle.octseq_dns_compress.proofs.keep.keep.Goals.{then-at-gt-PLACE_MAX-via-
 
 pub returns-then-ending-gt-POINTERS_MAX-clause-kept : goal.returns-then-ending-gt-POINTERS_MAX-clause-kept
 returns-then-ending-gt-POINTERS_MAX-clause-kept g c octets names agrees ends written =
-    kept_none g.T.Compressor.most octets (g.T.Compressor.held c.args.table.now) names (plain_labels c.args.name.now)
-    c.args.start c.args.ending agrees ends c.requires.written written c.if-ending-gt-POINTERS_MAX.true
+    kept_none g.T.Compressor.most agrees ends c.requires.written written c.if-ending-gt-POINTERS_MAX.true
 
 pub overflow_add-end : goal.overflow_add-end
 overflow_add-end g c = let start = c.requires.start in let short = c.requires.short in omega (arith, start, short)
@@ -41,9 +40,7 @@ labels-init g c =
       least = omega arith;
       on = omega arith;
       before = refl;
-      kept = λ octets names agrees ends written. kept_yet g.T.Compressor.most octets
-          (g.T.Compressor.held c.args.table.now) names (plain_labels c.args.name.now) c.args.start c.args.ending
-          agrees ends c.requires.written written (length c.as_slice-older.result.now) all c.requires.position;
+      kept = λ octets names agrees ends written. kept_yet g.T.Compressor.most agrees ends c.requires.written written _ (length c.as_slice-older.result.now) all c.requires.position;
     }
 
 pub returns-then-at-gt-PLACE_MAX-clause-kept : goal.returns-then-at-gt-PLACE_MAX-clause-kept
@@ -54,18 +51,15 @@ returns-then-at-gt-PLACE_MAX-clause-kept g c octets names agrees ends written =
     let begin = last_label (plain_labels c.args.name.now) c.labels.left c.label.result.now some
     (let within = so_far.within in let all = c.requires.written in omega (arith, within, all)) c.label.ensures in
     let end = so_far.end in
+    let size = ap length c.label.ensures in
+    let at = c.labels.end - length c.label.result.now in
     elim c.then-at-gt-PLACE_MAX.branch [
       | then-at-gt-PLACE_MAX-via-then-at-gt-PLACE_MAX w ↦
-          kept_far g.T.Compressor.most octets (g.T.Compressor.held c.args.table.now) names
-          (plain_labels c.args.name.now) c.args.start c.args.ending agrees ends c.requires.written written
-          (g.T.Compressor.held c.labels.table) (length c.as_slice-older.result.now) c.labels.left c.labels.next
-          c.labels.position kept some so_far.within
-          (let far = w.if-at-gt-PLACE_MAX.true in omega (arith, far, begin, end))
+          kept_far g.T.Compressor.most agrees ends c.requires.written written kept some so_far.within at (omega (arith, begin, end))
+          (omega (arith, begin, end, size)) w.if-at-gt-PLACE_MAX.true
       | then-at-gt-PLACE_MAX-via-else-at-gt-PLACE_MAX+then-is_full w ↦
-          kept_full g.T.Compressor.most octets (g.T.Compressor.held c.args.table.now) names
-          (plain_labels c.args.name.now) c.args.start c.args.ending agrees ends c.requires.written written
-          (g.T.Compressor.held c.labels.table) (length c.as_slice-older.result.now) c.labels.left c.labels.next
-          c.labels.position kept some so_far.within (w.if-is_full.ensures.0 refl)
+          kept_full g.T.Compressor.most agrees ends c.requires.written written kept some so_far.within at (omega (arith, begin, end))
+          (omega (arith, begin, end, size)) (w.if-is_full.ensures.0 refl)
     ]
 
 pub labels-preserved : goal.labels-preserved
@@ -83,6 +77,7 @@ labels-preserved g c =
     let begin = last_label (plain_labels c.args.name.now) c.labels.left c.label.result.now
     (omega (arith, c.labels-test.true)) (let all = c.requires.written in omega (arith, within, all)) c.label.ensures in
     let end = so_far.end in
+    let size = ap length c.label.ensures in
     let few_pointers = c.if-ending-gt-POINTERS_MAX.false in
     let near = c.if-at-gt-PLACE_MAX.false in
     record {
@@ -96,20 +91,14 @@ labels-preserved g c =
       on = (let on = so_far.on in omega (arith, on, tick));
       before = ap (filter (λ t. nat_lt t.at c.args.start)) inserted
           ∙ none_before c.args.start held c.labels.position _ (omega (arith, begin, end)) ∙ so_far.before;
-      kept = λ octets names agrees ends written. kept_at g.T.Compressor.most octets
-          (g.T.Compressor.held c.args.table.now) names (plain_labels c.args.name.now) c.args.start c.args.ending
-          agrees ends c.requires.written written held (length c.as_slice-older.result.now) c.labels.left c.labels.next
-          c.labels.position (so_far.kept octets names agrees ends written) (omega (arith, c.labels-test.true)) within
-          (c.labels.end - length c.label.result.now) (g.T.Compressor.held c.insert.new.self)
-          (omega (arith, begin, end)) inserted
-          (omega (arith, near)) (omega (arith, few_pointers)) room;
+      kept = λ octets names agrees ends written. kept_at g.T.Compressor.most agrees ends c.requires.written written (so_far.kept octets names agrees ends written)
+          (omega (arith, c.labels-test.true)) within (c.labels.end - length c.label.result.now)
+          (omega (arith, begin, end)) (omega (arith, begin, end, size)) (g.T.Compressor.held c.insert.new.self) end
+          inserted (omega (arith, near)) (omega (arith, few_pointers)) room;
     }
 
 pub returns-clause-kept : goal.returns-clause-kept
 returns-clause-kept g c octets names agrees ends written =
     let so_far = c.labels.invariant in
     let none = c.labels-test.false in
-    kept_all g.T.Compressor.most octets (g.T.Compressor.held c.args.table.now) names (plain_labels c.args.name.now)
-    c.args.start c.args.ending agrees ends c.requires.written written (g.T.Compressor.held c.labels.table)
-    (length c.as_slice-older.result.now) c.labels.left c.labels.next c.labels.position
-    (so_far.kept octets names agrees ends written) (omega (arith, none))
+    kept_all g.T.Compressor.most agrees ends c.requires.written written (so_far.kept octets names agrees ends written) (omega (arith, none))

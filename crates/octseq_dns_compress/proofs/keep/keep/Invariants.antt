@@ -27,7 +27,7 @@ invariant-labels g l = record {
       → IsWritten octets names l.fn.start (plain_labels l.name) l.fn.ending.written
       → KeptSoFar octets (g.T.Compressor.held l.table)
       (with_labels g.T.Compressor.most l.fn.ending.pointers names (place_after l.fn.start (plain_labels l.name) l.left)
-      (drop l.left (plain_labels l.name))) (plain_labels l.name) l.fn.start l.older l.left l.next l.position;
+      (drop l.left (plain_labels l.name))) (plain_labels l.name) l.fn.start l.end l.older l.left l.next l.position;
 }
 
 abbrev pub decreases-labels : goal.decreases-labels

@@ -39,8 +39,9 @@ labels-preserved c =
       turned = omega (arith, turned, turns, c.labels-test.true);
       least = omega (arith, least, one, c.labels-test.true);
       ends = λ names agrees. ends_at c.args.octets.now c.args.targets.now names agrees labels c.labels.ending.written
-          c.label-label.result.now c.labels.ending.next c.labels.ending.pointers c.in-Ok.index d
-          (omega (arith, c.labels-test.true)) within c.label-label.ensures found (so_far.ends names agrees);
+          c.label-label.result.now c.labels.ending.next c.labels.ending.pointers
+          (omega (arith, c.labels-test.true)) within c.label-label.ensures (so_far.ends names agrees) c.in-Ok.index d
+          found;
     }
 
 pub returns-in-Err-clause-ending : goal.returns-in-Err-clause-ending
@@ -48,15 +49,16 @@ returns-in-Err-clause-ending c names agrees =
     let so_far = c.labels.invariant in
     let labels = plain_labels c.args.name.now in
     let ends = so_far.ends names agrees in
-    let is = ending_is names agrees labels c.labels.ending.written so_far.within ends.there
-    (λ v is. none_at c.args.octets.now c.args.targets.now names agrees labels c.labels.ending.written v
-    c.label-label.result.now c.labels.ending.next c.labels.ending.pointers is so_far.within c.label-label.ensures
-    (c.in-Err.ensures.none refl) ends) in
+    let new = none_at c.args.octets.now c.args.targets.now names agrees labels c.labels.ending.written
+    c.label-label.result.now c.labels.ending.next c.labels.ending.pointers (omega (arith, c.labels-test.true))
+    so_far.within c.label-label.ensures ends (c.in-Err.ensures.none refl) in
+    let is = ending_is names agrees labels c.labels.ending.written so_far.within ends.there new in
     record {
       first = is.0;
       last = is.1;
       ends = ends;
-      position = λ label rest some here.
+      new = new;
+      position = λ some.
           subst (λ o. IsPosition c.args.octets.now c.args.targets.now (c.labels.ending.next ∷ o) c.in-Err.position)
-          (c.label-label.ensures label rest here) c.in-Err.ensures.position;
+          c.label-label.ensures c.in-Err.ensures.position;
     }

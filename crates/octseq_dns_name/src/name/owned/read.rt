@@ -9,7 +9,7 @@ ghost use Rattle.octseq_dns_name.specs.Read.{labels_of};
 ghost use Rattle.octseq_dns_name.specs.Refused.{IsRefused};
 ghost use Rattle.octseq_dns_name.specs.Spelling.{SpellsName};
 ghost use Rattle.octseq_dns_name.specs.Unfit.{AreUnfit};
-ghost use Rattle.octseq_dns_name.specs.Wire.{wire, AreLabels};
+ghost use Rattle.octseq_dns_name.specs.Wire.{AreLabels, IsWireOf};
 
 use crate::error::{FromLabelsError, FromTextError};
 use crate::name::ParsedName;
@@ -45,8 +45,23 @@ impl Name<Array<255>> {
             → ¬ SpellsName labels text.now }
         ensures refused { (fault : FromTextError) → IsErrOf result fault ↔ IsRefused fault text.now }
     {
-        let octets = wire_of(text.as_bytes())?;
-        Ok(Name { octets })
+        Self::from_text_octets(text.as_bytes())
+    }
+
+    /// Reads the text of a name from its octets, as [`from_text`](Self::from_text) does from a string. It requests no
+    /// memory.
+    ///
+    /// # Errors
+    ///
+    /// As `from_text`.
+    pub fn from_text_octets(text: &[u8]) -> Result<Self, FromTextError>
+        ensures ok { IfOk result (λ name. SpellsName (owned_labels name) text.now) }
+        ensures malformed { IsErr result → (labels : List (List ℕ)) → AreLabels labels → wire_length labels ≤ 255
+            → ¬ SpellsName labels text.now }
+        ensures refused { (fault : FromTextError) → IsErrOf result fault ↔ IsRefused fault text.now }
+    {
+        let octets = wire_of(text)?;
+        Ok(Name::from_wire(octets))
     }
 
     /// Reads the text of a name that may be relative to an origin: RFC 1035, 5.1. It is read as by
@@ -67,8 +82,27 @@ impl Name<Array<255>> {
         ensures refused { (fault : FromTextError) → IsErrOf result fault
             ↔ IsRefusedWithOrigin (labels_of origin.now) fault text.now }
     {
-        let octets = wire_with_origin(text.as_bytes(), origin)?;
-        Ok(Name { octets })
+        Self::from_text_octets_with_origin(text.as_bytes(), origin)
+    }
+
+    /// Reads the text of a name that may be relative to an origin from its octets, as
+    /// [`from_text_with_origin`](Self::from_text_with_origin) does from a string. It requests no memory.
+    ///
+    /// # Errors
+    ///
+    /// As `from_text_with_origin`.
+    pub fn from_text_octets_with_origin<R: AsOctets + Copy>(
+        text: &[u8],
+        origin: &ParsedName<R>,
+    ) -> Result<Self, FromTextError>
+        ensures ok { IfOk result (λ name. SpellsWithOrigin (labels_of origin.now) (owned_labels name) text.now) }
+        ensures malformed { IsErr result → (labels : List (List ℕ)) → AreLabels labels → wire_length labels ≤ 255
+            → ¬ SpellsWithOrigin (labels_of origin.now) labels text.now }
+        ensures refused { (fault : FromTextError) → IsErrOf result fault
+            ↔ IsRefusedWithOrigin (labels_of origin.now) fault text.now }
+    {
+        let octets = wire_with_origin(text, origin)?;
+        Ok(Name::from_wire(octets))
     }
 }
 
@@ -96,14 +130,13 @@ impl<B: EmptyBuilder> Name<B> {
     /// Makes the name with this plain wire form, which is within the limit.
     fn held(alloc: Global, octets: &[u8]) -> Result<Self, AllocError>
         requires room { ¬ IsPast B.limit (length octets.now) }
-        requires plain { (labels : List (List ℕ)) × (octets.now ≡ wire labels) × AreLabels labels
-            × (wire_length labels ≤ 255) }
-        ensures ok { (labels : List (List ℕ)) → octets.now ≡ wire labels → AreLabels labels
-            → wire_length labels ≤ 255 → IfOk result (λ name. owned_labels name ≡ labels) }
+        requires plain { (labels : List (List ℕ)) × IsWireOf labels octets.now }
+        ensures ok { (labels : List (List ℕ)) → IsWireOf labels octets.now
+            → IfOk result (λ name. owned_labels name ≡ labels) }
         ensures memory { OnErr result (B.asks ≡ true) }
     {
         let mut held = B::with_capacity(alloc, octets.len())?;
         append(&mut held, octets)?;
-        Ok(Name { octets: held })
+        Ok(Name::from_wire(held))
     }
 }

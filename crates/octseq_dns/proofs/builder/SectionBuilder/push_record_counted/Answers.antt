@@ -12,7 +12,7 @@ pub invariant_of-self : goal.invariant_of-self
 invariant_of-self g c =
     let in' = c.self.inside in
     subst (λ s. IsBuilt g.T.Compressor.most s in'.header in'.counts g.S.Section.reaches)
-    (sym c.in-Err.ensures.appended.err) c.self.invariant
+    (sym c.in_err-append_record.ensures.appended.err) c.self.invariant
 
 pub invariant_of-self-2 : goal.invariant_of-self-2
 invariant_of-self-2 g c =
@@ -24,8 +24,8 @@ invariant_of-self-2 g c =
         pushed g.met.S.RecordSection.takes_records g.T.Compressor.most w.0 one in'.message.state
             c.append_record.new.message.state
             c.put_header.new.self.state in'.header in'.counts _ c.octets_of.result w.1 c.self.invariant.1
-            c.in_default-append_record.ensures.fits c.in-Some.ensures.some.1 c.in-Some.ensures.some.0
-            c.in_default-append_record.ensures.appended.ok
+            c.in_ok-append_record.ensures.fits c.in-Some.ensures.some.1 c.in-Some.ensures.some.0
+            c.in_ok-append_record.ensures.appended.ok
             c.octets_of.ensures.octets c.put_header.ensures.state,
       )),
       subst g.S.Section.reaches (sym c.in-Some.ensures.some.0)
@@ -42,8 +42,8 @@ returns-clause-written g c m is =
     c.append_record.new.message.state
     c.put_header.new.self.state in'.header in'.counts _ c.octets_of.result
     (subst (λ v. Writes g.T.Compressor.most m v.state v.header v.counts) (sym c.self.view_is) is) c.self.invariant.1
-    c.in_default-append_record.ensures.fits c.in-Some.ensures.some.1 c.in-Some.ensures.some.0
-    c.in_default-append_record.ensures.appended.ok
+    c.in_ok-append_record.ensures.fits c.in-Some.ensures.some.1 c.in-Some.ensures.some.0
+    c.in_ok-append_record.ensures.appended.ok
     c.octets_of.ensures.octets c.put_header.ensures.state
 
 pub returns-clause-within : goal.returns-clause-within
@@ -56,5 +56,5 @@ returns-clause-within g c =
     (pushed_within (least_limit in'.push_limit limit) g.T.Compressor.most in'.message.state
     c.append_record.new.message.state c.put_header.new.self.state in'.header in'.counts (c.in-Some.counts)
     g.S.Section.reaches c.octets_of.result (record_entry one) c.self.invariant
-    c.in_default-append_record.ensures.appended.within
-    c.in_default-append_record.ensures.appended.ok c.octets_of.ensures.octets c.put_header.ensures.state)
+    c.in_ok-append_record.ensures.appended.within
+    c.in_ok-append_record.ensures.appended.ok c.octets_of.ensures.octets c.put_header.ensures.state)

@@ -1,23 +1,16 @@
-use Rattle.std.proofs.Common.{◌∙◌, length, refl, sym, subst, arith}
-use Rattle.std.specs.List.{AllZip}
+use Rattle.std.proofs.Common.{◌∙◌, ap, length, refl, sym, subst, arith, rules}
 use Rattle.octseq.specs.Limit.{IsWithin}
 use Rattle.octseq_dns_compress.specs.Composed.{message_limit}
-use Rattle.octseq_dns_message.specs.Said.{question_of}
 use Rattle.octseq_dns_message.specs.Walk.{questions_left}
-use Rattle.octseq_dns.specs.Contents.{FitsQuestion, question_entry}
-use Rattle.octseq_dns.specs.Labels.{question_labels}
-use Rattle.octseq_dns.specs.Pushed.{pushed_question}
-use Rattle.octseq_dns.specs.Rewritten.{IsQuestionOf}
-use Rattle.octseq_dns.proofs.Onward.{Onward, onward_first, onward_next, onward_none, onward_past, onward_turns}
-use Rattle.octseq_dns.proofs.OnlyRecord.{same_question}
+use Rattle.octseq_dns.proofs.Onward.{onward_first, onward_next, onward_none, onward_past, onward_fewer, onward_turns}
+use Rattle.octseq_dns.proofs.OnlyRecord.{same_question, single_question}
 use Rattle.octseq_dns.proofs.builder.anew.append_questions.Goals as goal
 
 pub loop-question-init : goal.loop-question-init
 loop-question-init g c = record {
-  on = λ written are. onward_first g.T.Compressor.most written _ _ _
-      (subst (λ walk. AllZip IsQuestionOf (questions_left walk) written)
-      (sym c.into_iter-question-iterator.ensures.into_iter_gives) are);
-  within = c.requires.within;
+  on = onward_first (ap (λ walk. questions_left walk) c.into_iter-question-iterator.ensures.into_iter_gives
+      ∙ c.questions-question-items.ensures);
+  within = λ within. within;
   counted = omega arith;
   borrows = refl;
 }
@@ -25,70 +18,31 @@ loop-question-init g c = record {
 pub loop-question-preserved : goal.loop-question-preserved
 loop-question-preserved g c =
     let so_far = c.loop-question.invariant in
-    let most = g.T.Compressor.most in
-    let went = c.in_default.ensures in
-    let one = pushed_question c.qname.result c.qtype-qtype.result c.qclass-qclass.result in
+    let went = c.in_ok-compose_question.ensures in
     record {
-      on = λ written are. onward_next most written _ _ (question_of c.in-Some.question)
-          (questions_left c.next.new.self) c.loop-question.message.state c.loop-question.turns
-          (subst (λ q. Onward IsQuestionOf question_entry question_labels FitsQuestion most written q
-          c.args.message.now.state c.loop-question.message.state c.args.turns.now c.loop-question.turns)
-          c.in-Some.ensures.steps (so_far.on written are))
-          one (λ other is. is ∙ sym (same_question c.qname.ensures c.qtype-qtype.ensures c.qclass-qclass.ensures))
-          c.compose_question.new.message.state c.compose_question.new.turns went.composed.ok went.fits went.turns
-          went.least;
-      within = subst (λ s. IsWithin (message_limit g.B.AsOctets.limit) (length s.octets)) (sym went.composed.ok)
+      on = onward_next so_far.on single_question c.in-Some.ensures.steps
+          (same_question c.qname.ensures c.qtype-qtype.ensures c.qclass-qclass.ensures) went.composed.ok went.fits
+          went.turns went.least;
+      within = λ _. subst (λ s. IsWithin (message_limit g.B.AsOctets.limit) (length s.octets)) (sym went.composed.ok)
           went.composed.within;
       counted = let before = so_far.counted in let more = went.on in omega (arith, before, more);
       borrows = went.borrows ∙ so_far.borrows;
     }
 
-pub returns-in-Err-clause-short : goal.returns-in-Err-clause-short
-returns-in-Err-clause-short g c short written are =
-    onward_past g.T.Compressor.most written _ _ (question_of c.in-Some.question) (questions_left c.next.new.self)
-    c.loop-question.message.state c.loop-question.turns
-    (subst (λ q. Onward IsQuestionOf question_entry question_labels FitsQuestion g.T.Compressor.most written q
-    c.args.message.now.state c.loop-question.message.state c.args.turns.now c.loop-question.turns)
-    c.in-Some.ensures.steps (c.loop-question.invariant.on written are))
-    (pushed_question c.qname.result c.qtype-qtype.result c.qclass-qclass.result)
-    (λ other is. is ∙ sym (same_question c.qname.ensures c.qtype-qtype.ensures c.qclass-qclass.ensures))
-    (message_limit g.B.AsOctets.limit) (c.in-Err.ensures.composed.short short)
+pub returns-in_err-compose_question-clause-short : goal.returns-in_err-compose_question-clause-short
+returns-in_err-compose_question-clause-short g c short =
+    onward_past c.loop-question.invariant.on single_question c.in-Some.ensures.steps
+    (same_question c.qname.ensures c.qtype-qtype.ensures c.qclass-qclass.ensures)
+    (message_limit g.B.AsOctets.limit) (c.in_err-compose_question.ensures.composed.short (search (rules, short)))
 
-pub returns-in-Err-clause-turns : goal.returns-in-Err-clause-turns
-returns-in-Err-clause-turns g c written are =
-    onward_turns g.T.Compressor.most written _ _ (question_of c.in-Some.question) (questions_left c.next.new.self)
-    c.loop-question.message.state c.loop-question.turns
-    (subst (λ q. Onward IsQuestionOf question_entry question_labels FitsQuestion g.T.Compressor.most written q
-    c.args.message.now.state c.loop-question.message.state c.args.turns.now c.loop-question.turns)
-    c.in-Some.ensures.steps (c.loop-question.invariant.on written are))
-    (pushed_question c.qname.result c.qtype-qtype.result c.qclass-qclass.result)
-    (λ other is. is ∙ sym (same_question c.qname.ensures c.qtype-qtype.ensures c.qclass-qclass.ensures))
-    c.compose_question.new.turns c.in-Err.ensures.turns
+pub returns-in_err-compose_question-clause-turns : goal.returns-in_err-compose_question-clause-turns
+returns-in_err-compose_question-clause-turns g c =
+    onward_turns c.loop-question.invariant.on single_question c.in-Some.ensures.steps
+    (same_question c.qname.ensures c.qtype-qtype.ensures c.qclass-qclass.ensures)
+    c.in_err-compose_question.ensures.turns
 
-pub returns-clause-written : goal.returns-clause-written
-returns-clause-written g c written are =
-    (onward_none g.T.Compressor.most written _ _ c.loop-question.message.state c.loop-question.turns
-    (subst (λ q. Onward IsQuestionOf question_entry question_labels FitsQuestion g.T.Compressor.most written q
-    c.args.message.now.state c.loop-question.message.state c.args.turns.now c.loop-question.turns)
-    c.in-None.ensures.steps.0 (c.loop-question.invariant.on written are))).0
-
-pub returns-clause-fits : goal.returns-clause-fits
-returns-clause-fits g c written are =
-    (onward_none g.T.Compressor.most written _ _ c.loop-question.message.state c.loop-question.turns
-    (subst (λ q. Onward IsQuestionOf question_entry question_labels FitsQuestion g.T.Compressor.most written q
-    c.args.message.now.state c.loop-question.message.state c.args.turns.now c.loop-question.turns)
-    c.in-None.ensures.steps.0 (c.loop-question.invariant.on written are))).1
+pub returns-clause-appended : goal.returns-clause-appended
+returns-clause-appended g c = onward_none c.loop-question.invariant.on c.in-None.ensures.steps.0
 
 pub returns-clause-turns : goal.returns-clause-turns
-returns-clause-turns g c written are =
-    (onward_none g.T.Compressor.most written _ _ c.loop-question.message.state c.loop-question.turns
-    (subst (λ q. Onward IsQuestionOf question_entry question_labels FitsQuestion g.T.Compressor.most written q
-    c.args.message.now.state c.loop-question.message.state c.args.turns.now c.loop-question.turns)
-    c.in-None.ensures.steps.0 (c.loop-question.invariant.on written are))).2
-
-pub returns-clause-least : goal.returns-clause-least
-returns-clause-least g c written are =
-    (onward_none g.T.Compressor.most written _ _ c.loop-question.message.state c.loop-question.turns
-    (subst (λ q. Onward IsQuestionOf question_entry question_labels FitsQuestion g.T.Compressor.most written q
-    c.args.message.now.state c.loop-question.message.state c.args.turns.now c.loop-question.turns)
-    c.in-None.ensures.steps.0 (c.loop-question.invariant.on written are))).3
+returns-clause-turns g c = onward_fewer c.loop-question.invariant.on

@@ -2,15 +2,14 @@ use Rattle.std.proofs.Common.{◌≡◌, ◌+◌, ◌-◌, ap, ◌∙◌, take, 
 use Rattle.octseq_dns_compress.specs.Key.{label_at}
 use Rattle.octseq_dns_compress.proofs.PlainLabels.{label_read}
 use Rattle.octseq_dns_compress.proofs.plain.PlainName.label.Goals as goal
-use Rattle.std.proofs.Common.{refl}
 
 pub returns : goal.returns
 unfolding label_at
-returns c label rest here =
+returns c =
     let octets = c.args.self.now.octets.now in
     let starts = c.args.self.now.starts.now in
     let start = slice_index_or starts c.args.index 0 in
     let long : start + 1 + c.from-len.result - start ≡ 1 + slice_index_or octets start 0 =
     (let len = c.from-len.ensures in omega (arith, len)) in
     ap (λ n. take n (drop start octets)) long
-    ∙ label_read octets starts c.args.index start label rest c.args.self.now.whole c.requires refl here
+    ∙ label_read octets starts c.args.index c.args.self.now.whole c.requires

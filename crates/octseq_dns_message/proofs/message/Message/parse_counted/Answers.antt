@@ -96,6 +96,8 @@ invariant_of-result g c =
       answered = (answered.0, ∣ (window c.pass_records.new.parser, answered.1) ∣₁);
       authorized = (authorized.0, ∣ (window c.pass_records-2.new.parser, authorized.1) ∣₁);
       added = (added.0, ∣ (window c.pass_records-3.new.parser, added.1) ∣₁);
+      past_answers = ∣ answered.1 ∣₁;
+      past_authorities = ∣ authorized.1 ∣₁;
     }
 
 pub returns-clause-message : goal.returns-clause-message

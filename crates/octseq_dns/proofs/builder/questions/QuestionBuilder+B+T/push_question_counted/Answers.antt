@@ -12,7 +12,7 @@ use Rattle.octseq_dns.proofs.builder.questions.QuestionBuilder+B+T.push_question
 pub invariant_of-self : goal.invariant_of-self
 invariant_of-self g c =
     let in' = c.self.inside in
-    subst (λ s. IsBuilt g.T.Compressor.most s in'.header in'.counts UpToQuestions) (sym c.in-Err.ensures.appended.err)
+    subst (λ s. IsBuilt g.T.Compressor.most s in'.header in'.counts UpToQuestions) (sym c.in_err-append_question.ensures.appended.err)
     c.self.invariant
 
 pub invariant_of-self-2 : goal.invariant_of-self-2
@@ -26,7 +26,7 @@ invariant_of-self-2 g c =
         more_questions w.0 one,
         pushed takes_questions g.T.Compressor.most w.0 one in'.message.state c.append_question.new.message.state
             c.put_header.new.self.state in'.header in'.counts _ c.octets_of.result w.1 c.self.invariant.1
-            c.in_default-append_question.ensures.fits less now_is c.in_default-append_question.ensures.appended.ok
+            c.in_ok-append_question.ensures.fits less now_is c.in_ok-append_question.ensures.appended.ok
             c.octets_of.ensures.octets c.put_header.ensures.state,
       )),
       c.self.invariant.1,
@@ -42,7 +42,7 @@ returns-clause-written g c m is =
     pushed takes_questions g.T.Compressor.most m one in'.message.state c.append_question.new.message.state
     c.put_header.new.self.state in'.header in'.counts _ c.octets_of.result
     (subst (λ v. Writes g.T.Compressor.most m v.state v.header v.counts) (sym c.self.view_is) is) c.self.invariant.1
-    c.in_default-append_question.ensures.fits less now_is c.in_default-append_question.ensures.appended.ok
+    c.in_ok-append_question.ensures.fits less now_is c.in_ok-append_question.ensures.appended.ok
     c.octets_of.ensures.octets c.put_header.ensures.state
 
 pub returns-clause-within : goal.returns-clause-within
@@ -57,5 +57,5 @@ returns-clause-within g c =
           = c.in-Some.qdcount;
     })
     UpToQuestions c.octets_of.result (question_entry one) c.self.invariant
-    c.in_default-append_question.ensures.appended.within
-    c.in_default-append_question.ensures.appended.ok c.octets_of.ensures.octets c.put_header.ensures.state)
+    c.in_ok-append_question.ensures.appended.within
+    c.in_ok-append_question.ensures.appended.ok c.octets_of.ensures.octets c.put_header.ensures.state)

@@ -1,7 +1,7 @@
 use Rattle.std.proofs.Common.{refl, arith}
 use Rattle.octseq.specs.Parser.{window}
 use Rattle.octseq.specs.Window.{rest}
-use Rattle.octseq_dns_data.specs.Data.{HasString}
+use Rattle.octseq_dns_data.specs.Strings.{HasString}
 use Rattle.octseq_dns_data.specs.OneRow.{string_code, string_item}
 use Rattle.octseq_dns_data.proofs.Rows.{reached_none, reached_not, reached_more, reached_then}
 use Rattle.octseq_format.proofs.RowSteps.{fewer}

@@ -3,7 +3,7 @@ use Rattle.std.proofs.lemmas.List.{length-map}
 use Rattle.std.proofs.Math.Bool.{true≢false}
 use Rattle.octseq.specs.Parser.{window}
 use Rattle.octseq.specs.Window.{at, left, rest}
-use Rattle.octseq_dns_data.specs.Data.{HasString, HasStrings}
+use Rattle.octseq_dns_data.specs.Strings.{HasString, HasStrings}
 use Rattle.octseq_dns_data.specs.OneRow.{row_on, string_code, string_item}
 use Rattle.octseq_dns_data.proofs.Rows.{none_of, reached_as}
 use Rattle.octseq_dns_data.proofs.Strings.{IsFound, Taken, same_up_to, taken, no_strings, none_found, some_found}

@@ -1,0 +1,16 @@
+pub mod Addresses
+pub mod Base32hexReading
+pub mod Base32hexTexts
+pub mod Base64Reading
+pub mod Base64Texts
+pub mod Blanks
+pub mod Calendar
+pub mod HexTexts
+pub mod Limits
+pub mod Mades
+pub mod Numerals
+pub mod Spellings
+pub mod StringWords
+pub mod Taken
+pub mod TextReaders
+pub mod WordCodes

@@ -1,0 +1,15 @@
+pub mod Address
+pub mod Base32hex
+pub mod Base32hexPlace
+pub mod Base32hexRead
+pub mod Base64
+pub mod Base64Place
+pub mod Base64Read
+pub mod Hex
+pub mod HexRead
+pub mod Made
+pub mod Spelled
+pub mod TextReader
+pub mod Time
+pub mod Word
+pub mod Words
