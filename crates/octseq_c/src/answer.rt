@@ -1,6 +1,6 @@
 //! Answers to DNS messages: RFC 1035, 4.1.1. The records of an answer are rows that point into octets of the caller.
 ghost use Rattle.std.specs.Prelude.{◌≡◌, ◌≢◌, ◌↔◌, ◌⊎◌, ◌+◌, ◌<◌, ◌≤◌, ℕ, None, List, length, map, IsTrue, IsErr};
-ghost use Rattle.std.specs.Prelude.{IfOk, OnOk};
+ghost use Rattle.std.specs.Prelude.{IfOk, OnErr, OnOk};
 ghost use Rattle.std.specs.List.{AllByRecursion, AllZip};
 ghost use Rattle.octseq_dns.specs.Contents as contents;
 ghost use Rattle.octseq_dns.specs.Contents.{octets_of, record_entry};
@@ -12,7 +12,7 @@ ghost use Rattle.octseq_dns_message.specs.declared.header.Header.{Header as Fiel
 ghost use Rattle.octseq_c.specs.Made.{CanMoveRow, HasRecordsOf, IsAnswer, IsAnswerHeader, IsAnswerOf, IsRecordAt};
 ghost use Rattle.octseq_c.specs.Made.{IsRow};
 ghost use Rattle.octseq_c.specs.Made.{in_section, places_kept, without_records};
-ghost use Rattle.octseq_c.specs.Puts.{Puts};
+ghost use Rattle.octseq_c.specs.Puts.{Copies, Puts};
 ghost use Rattle.octseq_c.specs.Rows.{IsSomeMessage};
 ghost use Rattle.octseq_c.specs.Status.{status_ok, status_no_room, status_malformed, status_immovable};
 ghost use Rattle.octseq_c.specs.Status.{status_too_long, status_bad_row};
@@ -164,9 +164,12 @@ fn answer_within<const N: usize>(
     ensures kept { OnErr result (out.new ≡ out.old) }
 {
     let mut room = Array::<N>::new();
-    let mut table = Table::new();
-    match answer(message, flags, source, rows, &mut room, LentTable::new(&mut table)) {
-        Ok(builder) => Ok(put(builder.as_slice(), out, written)),
+    let mut targets = Table::new();
+    let table = LentTable {
+        table: &mut targets,
+    };
+    match answer(message, flags, source, rows, &mut room, table) {
+        Ok(made) => Ok(put(made.as_slice(), out, written)),
         Err(error) => Err(error),
     }
 }
@@ -180,19 +183,20 @@ fn answer<'a, const N: usize>(
     rows: &[Row],
     room: &'a mut Array<N>,
     table: LentTable<'a>,
-) -> Result<AdditionalBuilder<&'a mut Array<N>, LentTable<'a>>, AppendError>
+) -> Result<&'a mut Array<N>, AppendError>
     requires rows { AllByRecursion (IsRow source.now) rows.now }
     requires most { N ≤ 65535 }
     requires least { 12 ≤ N }
-    ensures made { IfOk result (λ b. (m : contents.Message)
+    ensures made { IfOk result (λ made. (m : contents.Message)
         × IsAnswerOf (header_of message.now) flags (questions_of message.now) source.now rows.now m
-        × (b.state.octets ≡ octets_of places_kept m)) }
+        × (made.now.content ≡ octets_of places_kept m)) }
     ensures short { IsErr result → (m : contents.Message)
         → IsAnswerOf (header_of message.now) flags (questions_of message.now) source.now rows.now m
         → (length rows.now ≤ 65535) → N < length (octets_of places_kept m) }
 {
     let begun = begin_answer(message, flags, room, table)?;
-    push_sections(begun, source, rows)
+    let whole = push_sections(begun, source, rows)?;
+    Ok(whole.finish().0)
 }
 
 /// Begins an answer with its header and its questions.

@@ -1,5 +1,5 @@
 //! A table of the labels that compression pointers can lead to.
-ghost use Rattle.std.specs.Prelude.{◌≡◌, false};
+ghost use Rattle.std.specs.Prelude.{false};
 ghost use Rattle.octseq_dns_compress.specs.Few.{array_few};
 ghost use Rattle.octseq_c.specs.Made.{places_kept};
 
@@ -12,14 +12,8 @@ pub type Table = StaticCompressor<512>;
 /// A table that is lent. A builder that has it moves a pointer, where it moves from stage to stage, and not the table.
 #[derive(Drop)]
 pub struct LentTable<'a> {
-    table: &'a mut Table,
-}
-
-impl<'a> LentTable<'a> {
-    /// A table that is lent.
-    pub fn new(table: &'a mut Table) -> LentTable<'a> {
-        LentTable { table }
-    }
+    /// The table.
+    pub table: &'a mut Table,
 }
 
 impl<'a> Compressor for LentTable<'a> {

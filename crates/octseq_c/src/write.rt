@@ -1,7 +1,9 @@
 //! DNS messages written: RFC 1035, 4.1. They are composed on the stack, and copied to the caller's buffer if they fit.
 //! Room for the longest message takes long to make, so it is made only for a message that needs it.
 ghost use Rattle.std.specs.Prelude.{◌≡◌, ◌≢◌, ◌↔◌, ◌⊎◌, ◌++◌, ◌+◌, ◌<◌, ◌≤◌, ℕ, List, length, IfOk, IfSome, IsOk};
+ghost use Rattle.std.specs.Prelude.{OnErr, Some};
 ghost use Rattle.octseq.specs.Integer.{octets_be};
+ghost use Rattle.octseq.specs.Limit.{IsPast, IsWithin};
 ghost use Rattle.octseq.specs.Refusal.{IsShort, IsMalformed};
 ghost use Rattle.octseq_dns.specs.Contents.{octets_of};
 ghost use Rattle.octseq_dns.specs.Contents as contents;
@@ -10,8 +12,9 @@ ghost use Rattle.octseq_dns.specs.Owned.{owned_labels};
 ghost use Rattle.octseq_dns.specs.Parsed.{records_of};
 ghost use Rattle.octseq_dns.specs.Rewritten.{IsContentsOf, rewrite_error};
 ghost use Rattle.octseq_dns.specs.Wire.{wire};
+ghost use Rattle.octseq_dns_compress.specs.Composed.{message_limit};
 ghost use Rattle.octseq_c.specs.Made.{IsImmovable, IsQuery, IsRewritten, places_kept, query_header};
-ghost use Rattle.octseq_c.specs.Puts.{Puts};
+ghost use Rattle.octseq_c.specs.Puts.{Copies, Puts};
 ghost use Rattle.octseq_c.specs.Rows.{IsSomeMessage};
 ghost use Rattle.octseq_c.specs.Status.{status_ok, status_no_room, status_malformed, status_immovable};
 ghost use Rattle.octseq_c.specs.Status.{status_too_long};
@@ -99,8 +102,11 @@ fn rewrite_within<const N: usize>(
     ensures kept { OnErr result (out.new ≡ out.old) }
 {
     let mut room = Array::<N>::new();
-    let mut table = Table::new();
-    match rewrite(message, &mut room, LentTable::new(&mut table)) {
+    let mut targets = Table::new();
+    let table = LentTable {
+        table: &mut targets,
+    };
+    match rewrite(message, &mut room, table) {
         Ok(builder) => Ok(put(builder.as_slice(), out, written)),
         Err(error) => Err(error),
     }
