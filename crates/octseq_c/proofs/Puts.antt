@@ -90,3 +90,16 @@ pub copied_status : {A : Type 0} {items : List A} {status count : ℕ} {old new 
     → Copies items status old new count → (status ≡ 0) ⊎ (status ≡ 1)
 copied_status {status = 0} copied = inl refl
 copied_status {status = suc n} copied = inr (copied.no_room (λ z. omega (arith, z))).0
+
+-- a copy reports no other status
+pub copied_none : {A : Type 0} {items : List A} {status count : ℕ} {old new : List A} (other : ℕ) → 1 < other
+    → Copies items status old new count → status ≢ other
+copied_none other more copied e = elim (copied_status copied) [
+  | inl ok ↦ absurd (omega (arith, ok, e, more))
+  | inr no_room ↦ absurd (omega (arith, no_room, e, more))
+]
+
+-- and if it doesn't report that it is done, the buffer is unchanged
+pub copied_kept : {A : Type 0} {items : List A} {status count : ℕ} {old new : List A}
+    → Copies items status old new count → status ≢ 0 → new ≡ old
+copied_kept copied not = (copied.no_room not).2
