@@ -1,6 +1,6 @@
 -- What calls report about the items that they write.
 use Rattle.std.specs.Prelude.{◌↔◌, ◌⊎◌, Result, Ok, Err, IsErr, OnErr}
-use Rattle.std.proofs.Common.{◌≡◌, ◌≢◌, ℕ, ◌<◌, ◌≤◌, suc, List, length, inl, inr, refl, subst, arith}
+use Rattle.std.proofs.Common.{◌≡◌, ◌≢◌, ℕ, ◌<◌, ◌≤◌, zero, suc, List, length, inl, inr, refl, subst, arith}
 use Rattle.octseq_c.specs.Puts.{Copies, Fills, Puts}
 
 module _ {A : Type 0} {Is : List A → Type 0} {old new : List A} {count : ℕ}
@@ -88,7 +88,7 @@ puts_copies one items is copied = puts_copied one items is copied.reported copie
 -- a status that a copy reports
 pub copied_status : {A : Type 0} {items : List A} {status count : ℕ} {old new : List A}
     → Copies items status old new count → (status ≡ 0) ⊎ (status ≡ 1)
-copied_status {status = 0} copied = inl refl
+copied_status {status = zero} copied = inl refl
 copied_status {status = suc n} copied = inr (copied.no_room (λ z. omega (arith, z))).0
 
 -- a copy reports no other status

@@ -92,6 +92,7 @@ fn rewrite_within<const N: usize>(
     out: &mut [u8],
     written: &mut usize,
 ) -> Result<u32, RewriteError>
+    requires { N ≤ 65535 }
     ensures made { IfOk result (λ status. (m : contents.Message) × IsContentsOf message.now m
         × IsWithin (message_limit (Some N)) (length (octets_of places_kept m))
         × Copies (octets_of places_kept m) status out.old out.new written.new) }

@@ -10,6 +10,6 @@ returns-in-Ok-clause-made g c =
     let put = c.put.ensures in (
       made.0,
       made.1,
-      omega (arith, ap length content, size),
+      omega (arith, ap length c.as_slice.ensures.content, ap length content, size),
       copies content put.count put.ok put.no_room,
     )

@@ -1,5 +1,6 @@
-use Rattle.std.proofs.Common.{ap, ◌∙◌, length, subst}
+use Rattle.std.proofs.Common.{ap, ◌∙◌, length, subst, Some}
 use Rattle.octseq.specs.Limit.{IsWithin}
+use Rattle.octseq_dns_compress.specs.Composed.{message_limit}
 use Rattle.octseq_c.proofs.Puts.{copies}
 use Rattle.octseq_c.proofs.write.rewrite_within.Goals as goal
 
@@ -11,6 +12,6 @@ returns-in-Ok-clause-made g c =
     let put = c.put.ensures in (
       m,
       is,
-      subst (λ o. IsWithin _ (length o)) octets done.fits,
+      subst (λ o. IsWithin (message_limit (Some g.row.N)) (length o)) octets done.fits,
       copies (c.as_slice.ensures ∙ octets) put.count put.ok put.no_room,
     )
