@@ -1,7 +1,7 @@
 -- An answer with its header and its questions, and its record sections, one after another.
 use Rattle.std.proofs.Common.{◌≡◌, ◌≤◌, ℕ, List, [], ◌∷◌, ◌++◌, length, refl, sym, ap, ◌∙◌, arith, append_assoc}
 use Rattle.std.proofs.Common.{append-nil, ◌<◌, true, false, ◌⊎◌, Option, Some, None, Result, Ok, Err, subst, inl, inr}
-use Rattle.std.specs.Prelude.{IsErr, OnOk}
+use Rattle.std.specs.Prelude.{IsErr, OnOk, min}
 use Rattle.octseq.specs.Limit.{IsPast}
 use Rattle.octseq.specs.Refusal.{IsMemory, IsShort, append_error}
 use Rattle.octseq.specs.declared.AppendError.{AppendError}
@@ -14,6 +14,7 @@ use Rattle.octseq_dns.specs.Sections.{takes_answers, takes_authorities, takes_ad
 use Rattle.octseq_dns.specs.State.{State}
 use Rattle.octseq_dns.specs.Writes.{all_more, more_answers, more_authorities, more_additionals, Writes, least_limit}
 use Rattle.octseq_dns_compress.proofs.Fields.{headed_length}
+use Rattle.octseq_dns_compress.specs.Composed.{message_limit}
 use Rattle.octseq_dns_message.specs.declared.header.Header.{Header}
 use Rattle.octseq_dns_message.specs.declared.header.HeaderCounts.{HeaderCounts}
 use Rattle.octseq_c.specs.Made.{without_records}
@@ -81,9 +82,12 @@ short_alone (Err (AppendError.Short e)) err memory = tt
 short_alone (Err AppendError.Memory) err memory = absurd (elim (memory tt) [ inl asks ↦ cc | inr asks ↦ cc ])
 
 -- if pushes have no limit, the limit of a message is exceeded
-pub past_unlimited : (push_limit : Option ℕ) (n : ℕ) → push_limit ≡ None
-    → IsPast (least_limit push_limit (Some 65535)) n → 65535 < n
-past_unlimited push_limit n none past = subst (λ limit. IsPast (least_limit limit (Some 65535)) n) none past
+pub past_unlimited : (push_limit : Option ℕ) (limit n : ℕ) → push_limit ≡ None → limit ≤ 65535
+    → IsPast (least_limit push_limit (message_limit (Some limit))) n → limit < n
+past_unlimited push_limit limit n none most past =
+    let here : min limit 65535 < n =
+    subst (λ push. IsPast (least_limit push (message_limit (Some limit))) n) none past in
+    omega (arith, here, most)
 
 -- with another header there are as many octets
 same_long : (most : ℕ) (m : Message) (header : Header)
@@ -95,12 +99,12 @@ same_long most m header =
 
 module _ (most : ℕ) (header : Header) (questions : List Question) (m : Message) (are : m.questions ≡ questions) where
   -- so an answer exceeds the limit if its questions do, whatever the header
-  pub begun_past : 65535 < length (octets_of most (of_sections header questions [] [] []))
-      → 65535 < length (octets_of most m)
-  begun_past past =
+  pub begun_past : (limit : ℕ) → limit < length (octets_of most (of_sections header questions [] [] []))
+      → limit < length (octets_of most m)
+  begun_past limit past =
       let other : Message = record m { header = header } in
       let same = same_long most m header in
-      let longer = subst (λ q. 65535 < length (octets_of most (of_sections header q [] [] []))) (sym are) past in
+      let longer = subst (λ q. limit < length (octets_of most (of_sections header q [] [] []))) (sym are) past in
       omega (arith, same, longer, asked_short other most)
 
   -- what was begun is the answer's header and questions

@@ -1,7 +1,8 @@
 -- A message is composed anew in one way.
-use Rattle.std.proofs.Common.{◌≡◌, ℕ, List, [], ◌∷◌, ◌++◌, ◌⊎◌, inl, inr, ap, sym, ◌∙◌, subst}
+use Rattle.std.proofs.Common.{◌≡◌, ℕ, List, [], ◌∷◌, ◌++◌, ◌⊎◌, inl, inr, refl, ap, sym, ◌∙◌, subst}
 use Rattle.octseq_dns.specs.Contents as contents
 use Rattle.octseq_dns.specs.Contents.{octets_of}
+use Rattle.octseq_dns.specs.Message.{IsMessage}
 use Rattle.octseq_dns.specs.Moved.{CanMove}
 use Rattle.octseq.specs.Refusal.{Is, Refusal}
 use Rattle.octseq_dns.specs.Rewritten.{IsMessageOf, rewrite_error}
@@ -41,6 +42,24 @@ pub stable : (records : List Record) → ¬ ¬ CanMove records → CanMove recor
 stable [] nn = tt
 stable (r ∷ records) nn =
     ((λ unknown some names. nn (λ all. all.0 unknown some names)), stable records (λ n. nn (λ all. n all.1)))
+
+-- what is composed from a message that was read is composed from its octets
+pub rewriting_of : {octets : List ℕ} {header : Header} {questions : List Question}
+    {answers authorities additionals : List Record} → IsMessage octets header questions answers authorities additionals
+    → ¬ ¬ CanMove (answers ++ (authorities ++ additionals)) → (m : contents.Message)
+    → IsMessageOf header questions answers authorities additionals m → IsRewritten octets (octets_of places_kept m)
+rewriting_of message can m same = record {
+  header = _;
+  questions = _;
+  answers = _;
+  authorities = _;
+  additionals = _;
+  message = message;
+  moved = stable _ can;
+  contents = m;
+  same = same;
+  made_is = refl;
+}
 
 -- ---- a refusal is never for memory
 

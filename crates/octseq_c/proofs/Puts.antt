@@ -1,7 +1,7 @@
 -- What calls report about the items that they write.
-use Rattle.std.specs.Prelude.{◌↔◌, Result, Ok, Err, IsErr, OnErr}
-use Rattle.std.proofs.Common.{◌≡◌, ◌≢◌, ℕ, ◌<◌, ◌≤◌, List, length, refl, arith}
-use Rattle.octseq_c.specs.Puts.{Fills, Puts}
+use Rattle.std.specs.Prelude.{◌↔◌, ◌⊎◌, Result, Ok, Err, IsErr, OnErr}
+use Rattle.std.proofs.Common.{◌≡◌, ◌≢◌, ℕ, ◌<◌, ◌≤◌, zero, suc, List, length, inl, inr, refl, subst, arith}
+use Rattle.octseq_c.specs.Puts.{Copies, Fills, Puts}
 
 module _ {A : Type 0} {Is : List A → Type 0} {old new : List A} {count : ℕ}
     (one : (items others : List A) → Is items → Is others → items ≡ others) where
@@ -71,3 +71,35 @@ puts_copied one items is reported ok not = record {
   nothing = λ m n. absurd (n (not m).0);
   one = one;
 }
+
+-- a call that copies the same items by another name
+pub copies : {A : Type 0} {items others : List A} {status count : ℕ} {old new : List A} → items ≡ others
+    → count ≡ length items → (status ≡ 0 → (length items ≤ length old) × Fills items old new)
+    → (status ≢ 0 → (status ≡ 1) × (length old < length items) × (new ≡ old)) → Copies others status old new count
+copies {status = status} {count = count} {old = old} {new = new} same is ok not =
+    subst (λ items. Copies items status old new count) same (record { reported = is; ok = ok; no_room = not })
+
+-- what was copied to the front of a buffer was put there
+pub puts_copies : {A : Type 0} {Is : List A → Type 0} {status count : ℕ} {old new : List A}
+    → ((items others : List A) → Is items → Is others → items ≡ others) → (items : List A) → Is items
+    → Copies items status old new count → Puts Is status old new count
+puts_copies one items is copied = puts_copied one items is copied.reported copied.ok copied.no_room
+
+-- a status that a copy reports
+pub copied_status : {A : Type 0} {items : List A} {status count : ℕ} {old new : List A}
+    → Copies items status old new count → (status ≡ 0) ⊎ (status ≡ 1)
+copied_status {status = zero} copied = inl refl
+copied_status {status = suc n} copied = inr (copied.no_room (λ z. omega (arith, z))).0
+
+-- a copy reports no other status
+pub copied_none : {A : Type 0} {items : List A} {status count : ℕ} {old new : List A} (other : ℕ) → 1 < other
+    → Copies items status old new count → status ≢ other
+copied_none other more copied e = elim (copied_status copied) [
+  | inl ok ↦ absurd (omega (arith, ok, e, more))
+  | inr no_room ↦ absurd (omega (arith, no_room, e, more))
+]
+
+-- and if it doesn't report that it is done, the buffer is unchanged
+pub copied_kept : {A : Type 0} {items : List A} {status count : ℕ} {old new : List A}
+    → Copies items status old new count → status ≢ 0 → new ≡ old
+copied_kept copied not = (copied.no_room not).2

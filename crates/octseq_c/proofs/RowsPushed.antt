@@ -74,7 +74,7 @@ module _ {Reaches : HeaderCounts → Type 0} {count : HeaderCounts → ℕ} {cou
       (omega (arith, longer, before, after))
 
   -- or the whole message exceeds the limit, as the message with it does
-  pub left_past : 65535 < length (with_entry places_kept state (record_entry one)).octets
-      → 65535 < length (octets_of places_kept (all_more more m written))
-  left_past past = ahead_past places_kept m written row rows state header counts 0 0 first left one
-      (λ other of. one_record source row other one of is) (Some 65535) takes reaches past
+  pub left_past : (limit : ℕ) → limit < length (with_entry places_kept state (record_entry one)).octets
+      → limit < length (octets_of places_kept (all_more more m written))
+  left_past limit past = ahead_past places_kept m written row rows state header counts 0 0 first left one
+      (λ other of. one_record source row other one of is) (Some limit) takes reaches past

@@ -1,6 +1,6 @@
 //! Answers to DNS messages: RFC 1035, 4.1.1. The records of an answer are rows that point into octets of the caller.
 ghost use Rattle.std.specs.Prelude.{◌≡◌, ◌≢◌, ◌↔◌, ◌⊎◌, ◌+◌, ◌<◌, ◌≤◌, ℕ, None, List, length, map, IsTrue, IsErr};
-ghost use Rattle.std.specs.Prelude.{IfOk, OnOk};
+ghost use Rattle.std.specs.Prelude.{IfOk, OnErr, OnOk};
 ghost use Rattle.std.specs.List.{AllByRecursion, AllZip};
 ghost use Rattle.octseq_dns.specs.Contents as contents;
 ghost use Rattle.octseq_dns.specs.Contents.{octets_of, record_entry};
@@ -12,7 +12,7 @@ ghost use Rattle.octseq_dns_message.specs.declared.header.Header.{Header as Fiel
 ghost use Rattle.octseq_c.specs.Made.{CanMoveRow, HasRecordsOf, IsAnswer, IsAnswerHeader, IsAnswerOf, IsRecordAt};
 ghost use Rattle.octseq_c.specs.Made.{IsRow};
 ghost use Rattle.octseq_c.specs.Made.{in_section, places_kept, without_records};
-ghost use Rattle.octseq_c.specs.Puts.{Puts};
+ghost use Rattle.octseq_c.specs.Puts.{Copies, Puts};
 ghost use Rattle.octseq_c.specs.Rows.{IsSomeMessage};
 ghost use Rattle.octseq_c.specs.Status.{status_ok, status_no_room, status_malformed, status_immovable};
 ghost use Rattle.octseq_c.specs.Status.{status_too_long, status_bad_row};
@@ -24,10 +24,12 @@ use crate::names::name_at;
 use crate::room::put;
 use crate::rows::Row;
 use crate::status::{BAD_ROW, IMMOVABLE, MALFORMED, TOO_LONG};
-use crate::write::{MessageOctets, Table};
-use octseq::AppendError;
+use crate::table::{LentTable, Table};
+use crate::write::FEW;
+use octseq::{AppendError, Array};
 use octseq_dns::builder::section::RecordSection;
 use octseq_dns::builder::{AdditionalBuilder, AnswerBuilder, MessageBuilder, SectionBuilder};
+use octseq_dns::message::MESSAGE_MAX;
 use octseq_dns::moved::data_may_have_names;
 use octseq_dns::{Class, Flags, Header, Malformed, Message, Rtype, Ttl};
 
@@ -58,13 +60,10 @@ pub extern "C" fn octseq_dns_answer(
     let status = match message_of(query) {
         Ok(_) if !are_rows(source, rows) => BAD_ROW,
         Ok(_) if !can_move_rows(source, rows) => IMMOVABLE,
-        Ok(message) => {
-            let mut room = MessageOctets::new();
-            match answer(&message, flags, source, rows, &mut room) {
-                Ok(made) => return put(made.as_slice(), out, written),
-                Err(_) => TOO_LONG,
-            }
-        }
+        Ok(message) => match answer_to(&message, flags, source, rows, out, written) {
+            Ok(status) => return status,
+            Err(_) => TOO_LONG,
+        },
         Err(Malformed) => MALFORMED,
     };
     *written = 0;
@@ -117,44 +116,108 @@ fn can_move_row(source: &[u8], row: &Row) -> bool
     octseq_dns_data_is_typed(source, row.data_at, row.data_len, row.rtype, row.class) == 1
 }
 
-/// Composes an answer in `room`. (The builder holds the room by reference, so its stages move a pointer rather than the
-/// octets.)
-fn answer<'a>(
+/// Composes an answer, and writes it to the front of `out`.
+fn answer_to(
     message: &Message<&[u8]>,
     flags: u16,
     source: &[u8],
     rows: &[Row],
-    room: &'a mut MessageOctets,
-) -> Result<&'a mut MessageOctets, AppendError>
+    out: &mut [u8],
+    written: &mut usize,
+) -> Result<u32, AppendError>
     requires { AllByRecursion (IsRow source.now) rows.now }
+    ensures made { IfOk result (λ status. (m : contents.Message)
+        × IsAnswerOf (header_of message.now) flags (questions_of message.now) source.now rows.now m
+        × (length (octets_of places_kept m) ≤ 65535)
+        × Copies (octets_of places_kept m) status out.old out.new written.new) }
+    ensures short { IsErr result → (m : contents.Message)
+        → IsAnswerOf (header_of message.now) flags (questions_of message.now) source.now rows.now m
+        → (length rows.now ≤ 65535) → 65535 < length (octets_of places_kept m) }
+    ensures kept { OnErr result (out.new ≡ out.old) }
+{
+    match answer_within::<FEW>(message, flags, source, rows, out, written) {
+        Ok(status) => Ok(status),
+        Err(_) => answer_within::<MESSAGE_MAX>(message, flags, source, rows, out, written),
+    }
+}
+
+/// Composes an answer in room for `N` octets, and writes it to the front of `out`.
+#[inline(never)]
+fn answer_within<const N: usize>(
+    message: &Message<&[u8]>,
+    flags: u16,
+    source: &[u8],
+    rows: &[Row],
+    out: &mut [u8],
+    written: &mut usize,
+) -> Result<u32, AppendError>
+    requires rows { AllByRecursion (IsRow source.now) rows.now }
+    requires most { N ≤ 65535 }
+    requires least { 12 ≤ N }
+    ensures made { IfOk result (λ status. (m : contents.Message)
+        × IsAnswerOf (header_of message.now) flags (questions_of message.now) source.now rows.now m
+        × (length (octets_of places_kept m) ≤ N)
+        × Copies (octets_of places_kept m) status out.old out.new written.new) }
+    ensures short { IsErr result → (m : contents.Message)
+        → IsAnswerOf (header_of message.now) flags (questions_of message.now) source.now rows.now m
+        → (length rows.now ≤ 65535) → N < length (octets_of places_kept m) }
+    ensures kept { OnErr result (out.new ≡ out.old) }
+{
+    let mut room = Array::<N>::new();
+    let mut targets = Table::new();
+    let table = LentTable {
+        table: &mut targets,
+    };
+    match answer(message, flags, source, rows, &mut room, table) {
+        Ok(made) => Ok(put(made.as_slice(), out, written)),
+        Err(error) => Err(error),
+    }
+}
+
+/// Composes an answer in `room`. (The builder holds the room and the table by reference, so its stages move pointers
+/// rather than them.)
+fn answer<'a, const N: usize>(
+    message: &Message<&[u8]>,
+    flags: u16,
+    source: &[u8],
+    rows: &[Row],
+    room: &'a mut Array<N>,
+    table: LentTable<'a>,
+) -> Result<&'a mut Array<N>, AppendError>
+    requires rows { AllByRecursion (IsRow source.now) rows.now }
+    requires most { N ≤ 65535 }
+    requires least { 12 ≤ N }
     ensures made { IfOk result (λ made. (m : contents.Message)
         × IsAnswerOf (header_of message.now) flags (questions_of message.now) source.now rows.now m
         × (made.now.content ≡ octets_of places_kept m)) }
     ensures short { IsErr result → (m : contents.Message)
         → IsAnswerOf (header_of message.now) flags (questions_of message.now) source.now rows.now m
-        → (length rows.now ≤ 65535) → 65535 < length (octets_of places_kept m) }
+        → (length rows.now ≤ 65535) → N < length (octets_of places_kept m) }
 {
-    let begun = begin_answer(message, flags, room)?;
+    let begun = begin_answer(message, flags, room, table)?;
     let whole = push_sections(begun, source, rows)?;
     Ok(whole.finish().0)
 }
 
 /// Begins an answer with its header and its questions.
-fn begin_answer<'a>(
+fn begin_answer<'a, const N: usize>(
     message: &Message<&[u8]>,
     flags: u16,
-    room: &'a mut MessageOctets,
-) -> Result<AnswerBuilder<&'a mut MessageOctets, Table>, AppendError>
+    room: &'a mut Array<N>,
+    table: LentTable<'a>,
+) -> Result<AnswerBuilder<&'a mut Array<N>, LentTable<'a>>, AppendError>
+    requires most { N ≤ 65535 }
+    requires least { 12 ≤ N }
     ensures header { OnOk result ((header : Fields) × IsAnswerHeader (header_of message.now) flags header) }
     ensures written { IfOk result (λ b. (m : contents.Message)
         → IsAnswerHeader (header_of message.now) flags m.header → m.questions ≡ map bare (questions_of message.now)
         → Writes places_kept (without_records m) b.state b.header b.counts) }
     ensures unlimited { IfOk result (λ b. b.push_limit ≡ None) }
     ensures short { IsErr result → (m : contents.Message)
-        → m.questions ≡ map bare (questions_of message.now) → 65535 < length (octets_of places_kept m) }
+        → m.questions ≡ map bare (questions_of message.now) → N < length (octets_of places_kept m) }
 {
     let header = answer_header(&message.header(), flags);
-    let begun = MessageBuilder::from_builder(room, Table::new())?;
+    let begun = MessageBuilder::from_builder(room, table)?;
     let mut answers = begun.start_answer(message, header.rcode)?;
     answers.set_header(header);
     Ok(answers)
@@ -178,12 +241,13 @@ fn answer_header(asked: &Header, flags: u16) -> Header
 }
 
 /// Pushes the records of rows, each to its section.
-fn push_sections<'a>(
-    answers: AnswerBuilder<&'a mut MessageOctets, Table>,
+fn push_sections<'a, const N: usize>(
+    answers: AnswerBuilder<&'a mut Array<N>, LentTable<'a>>,
     source: &[u8],
     rows: &[Row],
-) -> Result<AdditionalBuilder<&'a mut MessageOctets, Table>, AppendError>
+) -> Result<AdditionalBuilder<&'a mut Array<N>, LentTable<'a>>, AppendError>
     requires rows { AllByRecursion (IsRow source.now) rows.now }
+    requires most { N ≤ 65535 }
     requires unlimited { answers.push_limit ≡ None }
     ensures records { OnOk result ((m : contents.Message) × HasRecordsOf source.now rows.now m) }
     ensures written { IfOk result (λ b. (m : contents.Message) → HasRecordsOf source.now rows.now m
@@ -191,7 +255,7 @@ fn push_sections<'a>(
         → Writes places_kept m b.state b.header b.counts) }
     ensures short { IsErr result → (m : contents.Message) → HasRecordsOf source.now rows.now m
         → Writes places_kept (without_records m) answers.entry.state answers.entry.header answers.entry.counts
-        → (length rows.now ≤ 65535) → 65535 < length (octets_of places_kept m) }
+        → (length rows.now ≤ 65535) → N < length (octets_of places_kept m) }
 {
     let answered = push_rows(answers, source, rows, 1)?;
     let authorized = push_rows(answered.authority(), source, rows, 2)?;
@@ -199,13 +263,14 @@ fn push_sections<'a>(
 }
 
 /// Pushes the records of the rows of a section.
-fn push_rows<'a, S: RecordSection>(
-    builder: SectionBuilder<&'a mut MessageOctets, Table, S>,
+fn push_rows<'a, const N: usize, S: RecordSection>(
+    builder: SectionBuilder<&'a mut Array<N>, LentTable<'a>, S>,
     source: &[u8],
     rows: &[Row],
     section: u32,
-) -> Result<SectionBuilder<&'a mut MessageOctets, Table, S>, AppendError>
+) -> Result<SectionBuilder<&'a mut Array<N>, LentTable<'a>, S>, AppendError>
     requires rows { AllByRecursion (IsRow source.now) rows.now }
+    requires most { N ≤ 65535 }
     requires unlimited { builder.push_limit ≡ None }
     ensures records { OnOk result ((written : List contents.Record)
         × AllZip (IsRecordAt source.now) (in_section section rows.now) written) }
@@ -218,7 +283,7 @@ fn push_rows<'a, S: RecordSection>(
         → Writes places_kept m builder.entry.state builder.entry.header builder.entry.counts
         → AllZip (IsRecordAt source.now) (in_section section rows.now) written
         → (S.count builder.entry.counts + length rows.now ≤ 65535)
-        → 65535 < length (octets_of places_kept (all_more S.more m written)) }
+        → N < length (octets_of places_kept (all_more S.more m written)) }
 {
     let mut message = builder;
     for row in rows {
@@ -231,18 +296,19 @@ fn push_rows<'a, S: RecordSection>(
 }
 
 /// Pushes the record of a row.
-fn push_row<S: RecordSection>(
-    message: &mut SectionBuilder<&mut MessageOctets, Table, S>,
+fn push_row<const N: usize, S: RecordSection>(
+    message: &mut SectionBuilder<&mut Array<N>, LentTable<'_>, S>,
     source: &[u8],
     row: &Row,
 ) -> Result<(), AppendError>
     requires row { IsRow source.now row.now }
+    requires most { N ≤ 65535 }
     requires unlimited { message.old.push_limit ≡ None }
     ensures pushed { (one : contents.Record) × IsRecordAt source.now row.now one
         × OnOk result ((m : contents.Message)
         → Writes places_kept m message.old.state message.old.header message.old.counts
         → Writes places_kept (S.more m one) message.new.state message.new.header message.new.counts)
-        × (IsErr result → (65535 < length (with_entry places_kept message.old.state (record_entry one)).octets)
+        × (IsErr result → (N < length (with_entry places_kept message.old.state (record_entry one)).octets)
         ⊎ (65535 ≤ S.count message.old.counts)) }
     ensures counts { OnOk result (S.count message.new.counts ≡ S.count message.old.counts + 1) }
     ensures reaches { S.reaches message.old.counts }

@@ -15,6 +15,7 @@ mod rows;
 mod settled;
 mod shown;
 mod status;
+mod table;
 mod text;
 mod utf8;
 mod write;

@@ -1,6 +1,9 @@
 //! DNS messages written: RFC 1035, 4.1. They are composed on the stack, and copied to the caller's buffer if they fit.
+//! Room for the longest message takes long to make, so it is made only for a message that needs it.
 ghost use Rattle.std.specs.Prelude.{◌≡◌, ◌≢◌, ◌↔◌, ◌⊎◌, ◌++◌, ◌+◌, ◌<◌, ◌≤◌, ℕ, List, length, IfOk, IfSome, IsOk};
+ghost use Rattle.std.specs.Prelude.{OnErr, Some};
 ghost use Rattle.octseq.specs.Integer.{octets_be};
+ghost use Rattle.octseq.specs.Limit.{IsPast, IsWithin};
 ghost use Rattle.octseq.specs.Refusal.{IsShort, IsMalformed};
 ghost use Rattle.octseq_dns.specs.Contents.{octets_of};
 ghost use Rattle.octseq_dns.specs.Contents as contents;
@@ -9,8 +12,9 @@ ghost use Rattle.octseq_dns.specs.Owned.{owned_labels};
 ghost use Rattle.octseq_dns.specs.Parsed.{records_of};
 ghost use Rattle.octseq_dns.specs.Rewritten.{IsContentsOf, rewrite_error};
 ghost use Rattle.octseq_dns.specs.Wire.{wire};
+ghost use Rattle.octseq_dns_compress.specs.Composed.{message_limit};
 ghost use Rattle.octseq_c.specs.Made.{IsImmovable, IsQuery, IsRewritten, places_kept, query_header};
-ghost use Rattle.octseq_c.specs.Puts.{Puts};
+ghost use Rattle.octseq_c.specs.Puts.{Copies, Puts};
 ghost use Rattle.octseq_c.specs.Rows.{IsSomeMessage};
 ghost use Rattle.octseq_c.specs.Status.{status_ok, status_no_room, status_malformed, status_immovable};
 ghost use Rattle.octseq_c.specs.Status.{status_too_long};
@@ -20,17 +24,15 @@ use crate::message::message_of;
 use crate::names::spelled;
 use crate::room::put;
 use crate::status::{IMMOVABLE, MALFORMED, TOO_LONG};
+use crate::table::{LentTable, Table};
 use octseq::builder::infallible;
 use octseq::compose::append_u16_be;
 use octseq::{Array, OctetsBuilder};
 use octseq_dns::message::MESSAGE_MAX;
-use octseq_dns::{Malformed, Message, Name, RewriteError, StaticCompressor, rewrite};
+use octseq_dns::{Malformed, Message, Name, RewriteError, rewrite};
 
-/// A table of the places that compression pointers can refer to.
-pub type Table = StaticCompressor<512>;
-
-/// The octets of a message.
-pub type MessageOctets = Array<MESSAGE_MAX>;
+/// The maximum number of octets of most messages.
+pub const FEW: usize = 4096;
 
 /// The maximum number of octets of a message with one question: a header, a name, a type and a class.
 const QUERY_MAX: usize = 271;
@@ -48,36 +50,65 @@ pub extern "C" fn octseq_dns_rewrite(octets: &[u8], out: &mut [u8], written: &mu
     ensures kept { result ≢ status_ok → out.new ≡ out.old }
 {
     let status = match message_of(octets) {
-        Ok(message) => {
-            let mut room = MessageOctets::new();
-            match rewritten(&message, &mut room) {
-                Ok(made) => return put(made.as_slice(), out, written),
-                Err(RewriteError::Immovable) => IMMOVABLE,
-                Err(RewriteError::Short(_)) => TOO_LONG,
-                Err(RewriteError::Memory) => unreachable!(),
-            }
-        }
+        Ok(message) => match rewrite_to(&message, out, written) {
+            Ok(status) => return status,
+            Err(RewriteError::Immovable) => IMMOVABLE,
+            Err(RewriteError::Short(_)) => TOO_LONG,
+            Err(RewriteError::Memory) => unreachable!(),
+        },
         Err(Malformed) => MALFORMED,
     };
     *written = 0;
     status
 }
 
-/// Composes a message anew in `room`. (The builder holds the room by reference, so its stages move a pointer rather
-/// than the octets.)
-fn rewritten<'a>(
+/// Composes a message anew, and writes it to the front of `out`.
+fn rewrite_to(
     message: &Message<&[u8]>,
-    room: &'a mut MessageOctets,
-) -> Result<&'a mut MessageOctets, RewriteError>
-    ensures made { IfOk result (λ made. (m : contents.Message) × IsContentsOf message.now m
-        × (made.now.content ≡ octets_of places_kept m)) }
+    out: &mut [u8],
+    written: &mut usize,
+) -> Result<u32, RewriteError>
+    ensures made { IfOk result (λ status. (m : contents.Message) × IsContentsOf message.now m
+        × (length (octets_of places_kept m) ≤ 65535)
+        × Copies (octets_of places_kept m) status out.old out.new written.new) }
     ensures immovable { IsMalformed rewrite_error result ↔ ¬ CanMove (records_of message.now) }
     ensures short { IsShort rewrite_error result → (m : contents.Message) → IsContentsOf message.now m
         → 65535 < length (octets_of places_kept m) }
     ensures only { IsOk result ⊎ IsMalformed rewrite_error result ⊎ IsShort rewrite_error result }
+    ensures kept { OnErr result (out.new ≡ out.old) }
 {
-    match rewrite(message, room, Table::new()) {
-        Ok(builder) => Ok(builder.finish().0),
+    match rewrite_within::<FEW>(message, out, written) {
+        Ok(status) => Ok(status),
+        Err(RewriteError::Immovable) => Err(RewriteError::Immovable),
+        Err(RewriteError::Short(_)) => rewrite_within::<MESSAGE_MAX>(message, out, written),
+        Err(RewriteError::Memory) => unreachable!(),
+    }
+}
+
+/// Composes a message anew in room for `N` octets, and writes it to the front of `out`.
+#[inline(never)]
+fn rewrite_within<const N: usize>(
+    message: &Message<&[u8]>,
+    out: &mut [u8],
+    written: &mut usize,
+) -> Result<u32, RewriteError>
+    requires { N ≤ 65535 }
+    ensures made { IfOk result (λ status. (m : contents.Message) × IsContentsOf message.now m
+        × IsWithin (message_limit (Some N)) (length (octets_of places_kept m))
+        × Copies (octets_of places_kept m) status out.old out.new written.new) }
+    ensures immovable { IsMalformed rewrite_error result ↔ ¬ CanMove (records_of message.now) }
+    ensures short { IsShort rewrite_error result → (m : contents.Message) → IsContentsOf message.now m
+        → IsPast (message_limit (Some N)) (length (octets_of places_kept m)) }
+    ensures only { IsOk result ⊎ IsMalformed rewrite_error result ⊎ IsShort rewrite_error result }
+    ensures kept { OnErr result (out.new ≡ out.old) }
+{
+    let mut room = Array::<N>::new();
+    let mut targets = Table::new();
+    let table = LentTable {
+        table: &mut targets,
+    };
+    match rewrite(message, &mut room, table) {
+        Ok(builder) => Ok(put(builder.as_slice(), out, written)),
         Err(error) => Err(error),
     }
 }

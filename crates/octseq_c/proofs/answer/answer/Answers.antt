@@ -7,7 +7,7 @@ use Rattle.octseq_c.specs.Made.{HasRecordsOf}
 use Rattle.octseq_c.proofs.answer.answer.Goals as goal
 
 pub returns-clause-made : goal.returns-clause-made
-returns-clause-made c =
+returns-clause-made g c =
     let header = c.in_ok-begun.ensures.header in
     let pushed = c.in_ok-whole.ensures.records in
     let m : Message = of_sections header.0 (map bare (questions_of c.args.message.now)) pushed.0.answers

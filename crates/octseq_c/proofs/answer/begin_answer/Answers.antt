@@ -8,16 +8,16 @@ use Rattle.octseq_c.proofs.OneAnswer.{one_answer_header}
 use Rattle.octseq_c.proofs.answer.begin_answer.Goals as goal
 
 pub returns-in_err-answers-clause-short : goal.returns-in_err-answers-clause-short
-returns-in_err-answers-clause-short c err m are =
+returns-in_err-answers-clause-short g c err m are =
     let message = c.args.message.now in
     let refused = c.in_err-answers.ensures in
     begun_past places_kept (answer_header (header_of message) c.answer_header-header.result.rcode)
-    (map bare (questions_of message)) m are
-    (past_unlimited _ _ c.in_ok-begun.ensures.push_limit
+    (map bare (questions_of message)) m are _
+    (past_unlimited _ _ _ c.in_ok-begun.ensures.push_limit c.requires.most
     (refused.short (short_alone {T = Unit {0}} (Err c.in_err-answers.field-0.0) refl refused.memory)))
 
 pub returns-clause-written : goal.returns-clause-written
-returns-clause-written c m header are =
+returns-clause-written g c m header are =
     let message = c.args.message.now in
     let made = c.answer_header-header in
     begun_written places_kept made.result (map bare (questions_of message)) m are _ _ _

@@ -1,7 +1,7 @@
-use Rattle.std.proofs.Common.{length, ◌∙◌, ap, refl, arith}
+use Rattle.std.proofs.Common.{length, ap, refl, arith}
 use Rattle.octseq_dns.specs.Parsed.{additionals_of, answers_of, authorities_of, header_of, questions_of}
 use Rattle.octseq_c.proofs.OneAnswer.{answer_of, one_answer}
-use Rattle.octseq_c.proofs.Puts.{puts_copied, puts_none}
+use Rattle.octseq_c.proofs.Puts.{copied_kept, puts_copies, puts_none}
 use Rattle.octseq_c.proofs.answer.octseq_dns_answer.Goals as goal
 
 pub returns-in-Ok-clause-puts : goal.returns-in-Ok-clause-puts
@@ -10,17 +10,13 @@ returns-in-Ok-clause-puts c = puts_none 6 (omega arith) (one_answer _ _ _ _)
 pub returns-in-Ok-2-clause-puts : goal.returns-in-Ok-2-clause-puts
 returns-in-Ok-2-clause-puts c = puts_none 4 (omega arith) (one_answer _ _ _ _)
 
-pub returns-in-Err-answer-clause-puts : goal.returns-in-Err-answer-clause-puts
-returns-in-Err-answer-clause-puts c = puts_none 5 (omega arith) (one_answer _ _ _ _)
+pub returns-in-Err-answer_to-clause-puts : goal.returns-in-Err-answer_to-clause-puts
+returns-in-Err-answer_to-clause-puts c = puts_none 5 (omega arith) (one_answer _ _ _ _)
 
-pub returns-in-Ok-answer-clause-puts : goal.returns-in-Ok-answer-clause-puts
-returns-in-Ok-answer-clause-puts c =
-    let made = c.in-Ok-answer.ensures.made in
-    let query = c.args.query.now in
-    let source = c.args.source.now in
-    let rows = c.args.rows.now in
-    puts_copied (one_answer query c.args.flags source rows)
-    c.as_slice.result.now
+pub returns-in-Ok-answer_to-clause-puts : goal.returns-in-Ok-answer_to-clause-puts
+returns-in-Ok-answer_to-clause-puts c =
+    let made = c.in-Ok-answer_to.ensures.made in
+    puts_copies (one_answer c.args.query.now c.args.flags c.args.source.now c.args.rows.now) _
     (record {
       asked = _;
       questions = _;
@@ -30,17 +26,27 @@ returns-in-Ok-answer-clause-puts c =
       message = c.in-Ok.ensures.message;
       contents = made.0;
       is = made.1;
-      made_is = c.as_slice.ensures.content ∙ made.2;
+      made_is = refl;
     })
-    c.put.ensures.count c.put.ensures.ok c.put.ensures.no_room
+    made.3
 
-pub returns-in-Err-answer-clause-too_long : goal.returns-in-Err-answer-clause-too_long
-returns-in-Err-answer-clause-too_long c e few made is =
+pub returns-in-Ok-answer_to-clause-kept : goal.returns-in-Ok-answer_to-clause-kept
+returns-in-Ok-answer_to-clause-kept c = copied_kept c.in-Ok-answer_to.ensures.made.3
+
+pub returns-in-Ok-answer_to-clause-fits : goal.returns-in-Ok-answer_to-clause-fits
+returns-in-Ok-answer_to-clause-fits c =
+    let made = c.in-Ok-answer_to.ensures.made in
+    let short = made.2 in
+    let written = made.3.reported in
+    omega (arith, short, written)
+
+pub returns-in-Err-answer_to-clause-too_long : goal.returns-in-Err-answer_to-clause-too_long
+returns-in-Err-answer_to-clause-too_long c e few made is =
     let message = c.in-Ok.field-0 in
     let m = answer_of (header_of message) c.args.flags (questions_of message) c.args.source.now c.args.rows.now
     c.args.query.now (answers_of message) (authorities_of message) (additionals_of message) made
     c.in-Ok.ensures.message is in
-    let past = c.in-Err-answer.ensures.short refl m.0 m.1 few in
+    let past = c.in-Err-answer_to.ensures.short refl m.0 m.1 few in
     let same = ap length m.2 in
     omega (arith, past, same)
 

@@ -40,7 +40,7 @@ returns-clause-pushed g c =
       },
       c.push_record.ensures.written,
       λ err. elim (went.short (short_alone c.push_record.result err went.memory)) [
-        | inl past ↦ inl (past_unlimited _ _ c.requires.unlimited past)
+        | inl past ↦ inl (past_unlimited _ _ _ c.requires.unlimited c.requires.most past)
         | inr full ↦ inr full
       ],
     )

@@ -56,7 +56,7 @@ returns-in_err-push_row-clause-short g c err m written is are room =
     c.if-row-section.false in
     elim (went.pushed.3 refl) [
       | inl past ↦ left_past g.met.S.RecordSection.takes_records (rw taken at (so_far.left m written is are))
-          went.pushed.0 went.pushed.1 went.reaches past
+          went.pushed.0 went.pushed.1 went.reaches _ past
       | inr full ↦ let few = so_far.room in let within = c.loop-row-test.true in
           absurd (omega (arith, full, few, within, room))
     ]

@@ -7,14 +7,14 @@ use Rattle.octseq_c.proofs.AnswerBegun.{answered_short, authorized_short}
 use Rattle.octseq_c.proofs.answer.push_sections.Goals as goal
 
 pub returns-in_err-answered-clause-short : goal.returns-in_err-answered-clause-short
-returns-in_err-answered-clause-short c err m has w1 few =
+returns-in_err-answered-clause-short g c err m has w1 few =
     let none = ap (λ k. k.ancount) w1.counts_are in
     let past = rw answers_are at
     (c.in_err-answered.ensures.short refl (asked m) m.answers w1 has.answers_are (omega (arith, none, few))) in
     omega (arith, past, answered_short m places_kept)
 
 pub returns-in_err-authorized-clause-short : goal.returns-in_err-authorized-clause-short
-returns-in_err-authorized-clause-short c err m has w1 few =
+returns-in_err-authorized-clause-short g c err m has w1 few =
     let w2 = stage_next places_kept c.in_ok-answered.answered c.authority.result _ (answered m)
     (c.in_ok-answered.ensures.written (asked m) m.answers w1 has.answers_are) (answers_are m) c.authority.ensures in
     let none = ap (λ k. k.nscount) w2.counts_are in
@@ -23,7 +23,7 @@ returns-in_err-authorized-clause-short c err m has w1 few =
     omega (arith, past, authorized_short m places_kept)
 
 pub returns-clause-records : goal.returns-clause-records
-returns-clause-records c =
+returns-clause-records g c =
     let first = c.in_ok-answered.ensures.records in
     let second = c.in_ok-authorized.ensures.records in
     on_ok c.push_rows-3.result (λ third. (
@@ -32,7 +32,7 @@ returns-clause-records c =
     )) c.push_rows-3.ensures.records
 
 pub returns-clause-written : goal.returns-clause-written
-returns-clause-written c =
+returns-clause-written g c =
     IfOk-weaker c.push_rows-3.result _ _ (λ b pushed m has w1.
     let w2 = stage_next places_kept c.in_ok-answered.answered c.authority.result _ (answered m)
     (c.in_ok-answered.ensures.written (asked m) m.answers w1 has.answers_are) (answers_are m) c.authority.ensures in
@@ -43,7 +43,7 @@ returns-clause-written c =
     c.push_rows-3.ensures.written
 
 pub returns-clause-short : goal.returns-clause-short
-returns-clause-short c err m has w1 few =
+returns-clause-short g c err m has w1 few =
     let w2 = stage_next places_kept c.in_ok-answered.answered c.authority.result _ (answered m)
     (c.in_ok-answered.ensures.written (asked m) m.answers w1 has.answers_are) (answers_are m) c.authority.ensures in
     let w3 = stage_next places_kept c.in_ok-authorized.authorized c.additional.result _ (authorized m)

@@ -1,47 +1,51 @@
-use Rattle.std.proofs.Common.{length, arith, ap, sym, ◌∙◌, refl}
+use Rattle.std.proofs.Common.{length, arith, ap, sym, refl, inl, inr}
 use Rattle.octseq_dns_message.proofs.Messages.{said_once}
-use Rattle.octseq_c.specs.Made.{IsRewritten}
-use Rattle.octseq_c.proofs.OneRewriting.{moved_can, moved_contents, no_memory, not_both, one_rewriting, stable}
-use Rattle.octseq_c.proofs.Puts.{not_reported, puts_copied, puts_none}
+use Rattle.octseq_c.proofs.OneRewriting.{moved_can, moved_contents, no_memory, not_both, one_rewriting, rewriting_of}
+use Rattle.octseq_c.proofs.Puts.{copied_kept, copied_none, copied_status, not_reported, puts_copies, puts_none}
 use Rattle.octseq_c.proofs.write.octseq_dns_rewrite.Goals as goal
 
 -- ---- it was written
 
-is_rewritten : (c : goal.After-slice_known-in-Ok-rewritten-1) → IsRewritten c.args.octets.now c.as_slice.result.now
-is_rewritten c =
-    let (contents, same, octets) = c.in-Ok-rewritten.ensures.made in
-    record {
-      header = _;
-      questions = _;
-      answers = _;
-      authorities = _;
-      additionals = _;
-      message = c.in-Ok.ensures.message;
-      moved = stable _ (λ not. c.in-Ok-rewritten.ensures.immovable.1 not);
-      contents = contents;
-      same = same;
-      made_is = c.as_slice.ensures.content ∙ octets;
-    }
+pub returns-in-Ok-rewrite_to-clause-puts : goal.returns-in-Ok-rewrite_to-clause-puts
+returns-in-Ok-rewrite_to-clause-puts c =
+    let made = c.in-Ok-rewrite_to.ensures.made in
+    puts_copies (one_rewriting c.args.octets.now) _
+    (rewriting_of c.in-Ok.ensures.message c.in-Ok-rewrite_to.ensures.immovable.1 made.0 made.1) made.3
 
-pub returns-in-Ok-rewritten-clause-puts : goal.returns-in-Ok-rewritten-clause-puts
-returns-in-Ok-rewritten-clause-puts c =
-    puts_copied (one_rewriting c.args.octets.now) c.as_slice.result.now (is_rewritten c)
-    c.put.ensures.count c.put.ensures.ok c.put.ensures.no_room
+pub returns-in-Ok-rewrite_to-clause-malformed : goal.returns-in-Ok-rewrite_to-clause-malformed
+returns-in-Ok-rewrite_to-clause-malformed c =
+    let made = c.in-Ok-rewrite_to.ensures.made in (
+      λ e. absurd (copied_none 2 (omega arith) made.3 e),
+      λ none. absurd (none (_, _, _, _, _, c.in-Ok.ensures.message)),
+    )
 
-pub returns-in-Ok-rewritten-clause-immovable : goal.returns-in-Ok-rewritten-clause-immovable
-returns-in-Ok-rewritten-clause-immovable c = (
-  λ e. let other = (c.put.ensures.no_room (λ z. omega (arith, e, z))).0 in absurd (omega (arith, e, other)),
-  λ is. absurd (not_both c.args.octets.now c.as_slice.result.now (is_rewritten c) is),
-)
+pub returns-in-Ok-rewrite_to-clause-immovable : goal.returns-in-Ok-rewrite_to-clause-immovable
+returns-in-Ok-rewrite_to-clause-immovable c =
+    let made = c.in-Ok-rewrite_to.ensures.made in (
+      λ e. absurd (copied_none 4 (omega arith) made.3 e),
+      λ is. absurd (not_both c.args.octets.now _
+          (rewriting_of c.in-Ok.ensures.message c.in-Ok-rewrite_to.ensures.immovable.1 made.0 made.1) is),
+    )
 
-pub returns-in-Ok-rewritten-clause-too_long : goal.returns-in-Ok-rewritten-clause-too_long
-returns-in-Ok-rewritten-clause-too_long c = λ made is. (
-  λ e. let other = (c.put.ensures.no_room (λ z. omega (arith, e, z))).0 in absurd (omega (arith, e, other)),
-  λ long.
-      let same = ap length (one_rewriting c.args.octets.now made c.as_slice.result.now is (is_rewritten c)) in
-      let content = ap length c.as_slice.ensures.content in
-      absurd (omega (arith, long, same, content, c.as_slice.ensures.size)),
-)
+pub returns-in-Ok-rewrite_to-clause-too_long : goal.returns-in-Ok-rewrite_to-clause-too_long
+returns-in-Ok-rewrite_to-clause-too_long c = λ other is.
+    let made = c.in-Ok-rewrite_to.ensures.made in (
+      λ e. absurd (copied_none 5 (omega arith) made.3 e),
+      λ long.
+          let same = ap length (one_rewriting c.args.octets.now other _ is
+          (rewriting_of c.in-Ok.ensures.message c.in-Ok-rewrite_to.ensures.immovable.1 made.0 made.1)) in
+          let short = made.2 in
+          absurd (omega (arith, long, same, short)),
+    )
+
+pub returns-in-Ok-rewrite_to-clause-only : goal.returns-in-Ok-rewrite_to-clause-only
+returns-in-Ok-rewrite_to-clause-only c = elim (copied_status c.in-Ok-rewrite_to.ensures.made.3) [
+  | inl ok ↦ inl ok
+  | inr no_room ↦ inr (inl no_room)
+]
+
+pub returns-in-Ok-rewrite_to-clause-kept : goal.returns-in-Ok-rewrite_to-clause-kept
+returns-in-Ok-rewrite_to-clause-kept c = copied_kept c.in-Ok-rewrite_to.ensures.made.3
 
 -- ---- its data can't be moved
 
