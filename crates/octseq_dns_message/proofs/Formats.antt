@@ -1,5 +1,6 @@
 -- Where entries are and where they aren't, and how many octets they take.
 use Rattle.std.proofs.Common.{◌≡◌, ℕ, ◌+◌, ◌≤◌, List, length, refl, sym, ap, ◌∙◌, subst, arith}
+use Rattle.std.specs.Coded.{Coded}
 use Rattle.octseq.specs.Integer.{be}
 use Rattle.octseq.specs.Window.{Window, at, left, whole}
 use Rattle.octseq_dns_data.specs.Format.{IsNumber}
@@ -7,11 +8,12 @@ use Rattle.octseq_dns_message.specs.Entry.{Question, Record, IsQuestion, IsRecor
 use Rattle.octseq_dns_name.specs.Name.{HasName, IsName}
 use Rattle.octseq_dns_name.specs.NameFormat.{one_named, onward_name}
 use Rattle.octseq_format.specs.Fixed.{onward_fixed}
-use Rattle.octseq_format.specs.Laws.{IsOnward, Relation, NoneAt}
+use Rattle.octseq_format.specs.Laws.{IsOne, IsOnward, Relation, NoneAt}
 use Rattle.octseq_format.specs.Pair.{◌then◌, ◌onward_then◌}
 use Rattle.octseq_format.specs.Part.{onward_part}
-use Rattle.octseq_format.specs.Row.{Row, onward_row}
+use Rattle.octseq_format.specs.Row.{Holds, Many, Row, onward_row}
 use Rattle.octseq_format.proofs.Nones.{none_second}
+use Rattle.octseq_format.proofs.RowSteps.{held_as}
 
 -- ---- where there are none
 
@@ -82,3 +84,9 @@ pub next_at : {A : Type 0} {Is : Relation A} {least : ℕ} → IsOnward least Is
     (row : List A) (v : Window) → IsAt octets w → Row Is w row v → IsAt octets v
 next_at {Is = Is} onward octets w row v place is =
     row_at onward (at w.position (whole octets)) row v place.1 (subst (λ w. Row Is w row v) place.0 is)
+
+-- the row that a window holds is the one that is there
+pub held_at : {A : Type 0} (code : Coded A) (Is : Relation A) → IsOne Is → (w u end : Window) → w ≡ u → (count : ℕ)
+    (row : List A) (held : Holds Is u count) → Many count Is w row end → row ≡ held.0
+held_at code Is one w u end same count row held is =
+    held_as code Is one u end count row held (subst (λ w. Many count Is w row end) same is)

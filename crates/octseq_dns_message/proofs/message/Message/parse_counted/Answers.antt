@@ -8,11 +8,11 @@ use Rattle.octseq_dns_message.specs.Parsed.{fields_of}
 use Rattle.octseq_dns_message.specs.OneEntry.{one_question, one_record, question_code, record_code}
 use Rattle.octseq_dns_message.specs.declared.header.Header.{Header}
 use Rattle.octseq_dns_message.specs.declared.header.HeaderCounts.{HeaderCounts}
-use Rattle.octseq_dns_message.proofs.Formats.{IsAt, at_place, next_at, onward_number, onward_question, onward_record, row_at}
+use Rattle.octseq_dns_message.proofs.Formats.{IsAt, at_place, held_at, next_at}
+use Rattle.octseq_dns_message.proofs.Formats.{onward_number, onward_question, onward_record, row_at}
 use Rattle.octseq_dns_message.proofs.Messages.{no_header, no_questions, no_answers, no_authorities, no_additionals}
 use Rattle.octseq_dns_message.proofs.Messages.{some_after, NoHeader}
 use Rattle.octseq_format.specs.Row.{Many, Row}
-use Rattle.octseq_format.proofs.RowSteps.{held_as}
 use Rattle.octseq_dns_message.proofs.message.Message.parse_counted.Goals as goal
 
 pub returns-in_err-header-clause-malformed : goal.returns-in_err-header-clause-malformed
@@ -101,7 +101,6 @@ after_header octets u w h counts same is =
 pub invariant_of-result : goal.invariant_of-result
 invariant_of-result g c =
     let octets = g.R.AsOctets.content c.args.octets in
-    let all = whole octets in
     let counts = c.in_ok-header.header.counts in
     let asked = c.in_ok-pass_questions.ensures.all in
     let answered = c.in_ok-pass_records.ensures.all in
@@ -116,10 +115,10 @@ invariant_of-result g c =
     let p2 = next_at onward_question octets _ asked.0 x p1 asked.1.1 in
     let p3 = next_at onward_record octets _ answered.0 y p2 answered.1.1 in
     let p4 = next_at onward_record octets _ authorized.0 z p3 authorized.1.1 in
-    let e1 = at_place octets _ c.pos.result p1 c.pos.ensures.position in
-    let e2 = at_place octets _ c.pos-2.result p2 c.pos-2.ensures.position in
-    let e3 = at_place octets _ c.pos-3.result p3 c.pos-3.ensures.position in
-    let e4 = at_place octets _ c.pos-4.result p4 c.pos-4.ensures.position in
+    let e1 = at_place octets _ c.pos-questions.result p1 c.pos-questions.ensures.position in
+    let e2 = at_place octets _ c.pos-answers.result p2 c.pos-answers.ensures.position in
+    let e3 = at_place octets _ c.pos-authorities.result p3 c.pos-authorities.ensures.position in
+    let e4 = at_place octets _ c.pos-additionals.result p4 c.pos-additionals.ensures.position in
     record {
       asked = (asked.0, ∣ (x, subst (λ w. Many counts.qdcount IsQuestion w asked.0 x) e1 asked.1) ∣₁);
       answered = (answered.0, ∣ (y, subst (λ w. Many counts.ancount IsRecord w answered.0 y) e2 answered.1) ∣₁);
@@ -131,16 +130,15 @@ invariant_of-result g c =
       past_answers = ∣ subst (λ i. i) (λ i. Many counts.ancount IsRecord (e2 i) answered.0 (e3 i)) answered.1 ∣₁;
       past_authorities =
           ∣ subst (λ i. i) (λ i. Many counts.nscount IsRecord (e3 i) authorized.0 (e4 i)) authorized.1 ∣₁;
-      begun = (let most = p1.1 in omega (arith, most, c.pos.ensures.position));
-      passed_questions = (let most = p2.1 in omega (arith, most, c.pos-2.ensures.position));
-      passed_answers = (let most = p3.1 in omega (arith, most, c.pos-3.ensures.position));
-      passed_authorities = (let most = p4.1 in omega (arith, most, c.pos-4.ensures.position));
+      begun = (let most = p1.1 in omega (arith, most, c.pos-questions.ensures.position));
+      passed_questions = (let most = p2.1 in omega (arith, most, c.pos-answers.ensures.position));
+      passed_answers = (let most = p3.1 in omega (arith, most, c.pos-authorities.ensures.position));
+      passed_authorities = (let most = p4.1 in omega (arith, most, c.pos-additionals.ensures.position));
     }
 
 pub returns-clause-message : goal.returns-clause-message
 returns-clause-message g c =
     let octets = g.R.AsOctets.content c.args.octets in
-    let all = whole octets in
     let h = fields_of c.in_ok-header.header in
     let counts = c.in_ok-header.header.counts in
     let kept = c.result-1.given in
@@ -153,27 +151,23 @@ returns-clause-message g c =
     let p2 = next_at onward_question octets _ asked.0 (window c.pass_questions.new.parser) p1 asked.1.1 in
     let p3 = next_at onward_record octets _ answered.0 (window c.pass_records.new.parser) p2 answered.1.1 in
     let p4 = next_at onward_record octets _ authorized.0 (window c.pass_records-2.new.parser) p3 authorized.1.1 in
-    let e1 = at_place octets _ c.pos.result p1 c.pos.ensures.position in
-    let e2 = at_place octets _ c.pos-2.result p2 c.pos-2.ensures.position in
-    let e3 = at_place octets _ c.pos-3.result p3 c.pos-3.ensures.position in
-    let e4 = at_place octets _ c.pos-4.result p4 c.pos-4.ensures.position in
-    let w = at c.pos.result all in
-    let x = at c.pos-2.result all in
-    let y = at c.pos-3.result all in
-    let z = at c.pos-4.result all in
+    let e1 = at_place octets _ c.pos-questions.result p1 c.pos-questions.ensures.position in
+    let e2 = at_place octets _ c.pos-answers.result p2 c.pos-answers.ensures.position in
+    let e3 = at_place octets _ c.pos-authorities.result p3 c.pos-authorities.ensures.position in
+    let e4 = at_place octets _ c.pos-additionals.result p4 c.pos-additionals.ensures.position in
+    let w = window c.parse.new.parser in
+    let x = window c.pass_questions.new.parser in
+    let y = window c.pass_records.new.parser in
+    let z = window c.pass_records-2.new.parser in
     let end = window c.pass_records-3.new.parser in
-    let asks = subst (λ i. i) (λ i. Many counts.qdcount IsQuestion (e1 i) asked.0 (e2 i)) asked.1 in
-    let answers = subst (λ i. i) (λ i. Many counts.ancount IsRecord (e2 i) answered.0 (e3 i)) answered.1 in
-    let authorizes = subst (λ i. i) (λ i. Many counts.nscount IsRecord (e3 i) authorized.0 (e4 i)) authorized.1 in
-    let adds = subst (λ i. i) (λ i. Many counts.arcount IsRecord (e4 i) added.0 end) added.1 in
-    let q = subst (λ row. Many counts.qdcount IsQuestion w row x) (held_as question_code IsQuestion one_question w x
-    counts.qdcount asked.0 kept.0 asks) asks in
-    let a = subst (λ row. Many counts.ancount IsRecord x row y) (held_as record_code IsRecord one_record x y
-    counts.ancount answered.0 kept.1.0 answers) answers in
-    let b = subst (λ row. Many counts.nscount IsRecord y row z) (held_as record_code IsRecord one_record y z
-    counts.nscount authorized.0 kept.1.1.0 authorizes) authorizes in
-    let d = subst (λ row. Many counts.arcount IsRecord z row end) (held_as record_code IsRecord one_record z end
-    counts.arcount added.0 kept.1.1.1.0 adds) adds in
+    let q = subst (λ row. Many counts.qdcount IsQuestion w row x) (held_at question_code IsQuestion one_question w _ x e1
+    counts.qdcount asked.0 kept.0 asked.1) asked.1 in
+    let a = subst (λ row. Many counts.ancount IsRecord x row y) (held_at record_code IsRecord one_record x _ y e2
+    counts.ancount answered.0 kept.1.0 answered.1) answered.1 in
+    let b = subst (λ row. Many counts.nscount IsRecord y row z) (held_at record_code IsRecord one_record y _ z e3
+    counts.nscount authorized.0 kept.1.1.0 authorized.1) authorized.1 in
+    let d = subst (λ row. Many counts.arcount IsRecord z row end) (held_at record_code IsRecord one_record z _ end e4
+    counts.arcount added.0 kept.1.1.1.0 added.1) added.1 in
     let rest = c.remaining-2.ensures.left in
     let none = c.if-remaining-gt0.false in
     let full = ap left c.from_ref-parser.ensures.window in
@@ -183,8 +177,7 @@ returns-clause-message g c =
       size = omega (arith, full, size, small);
       counts = counts;
       past_header = w;
-      header_is = subst (λ i. i) (λ i. IsHeader (c.from_ref-parser.ensures.window i) h counts (e1 i))
-          c.in_ok-header.ensures.header;
+      header_is = subst (λ u. IsHeader u h counts w) c.from_ref-parser.ensures.window c.in_ok-header.ensures.header;
       past_sections = end;
       sections_are = (x, q, (y, a, (z, b, d)));
       nothing_after = omega (arith, rest, none);
