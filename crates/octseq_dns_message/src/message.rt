@@ -60,14 +60,10 @@ pub struct Message<R: AsOctets> {
     answers: u16,
     authorities: u16,
     additionals: u16,
-    ghost asked: { Holds IsQuestion (at questions (whole (R.content octets))) header.counts.qdcount } by {
-        questions_once _ _ },
-    ghost answered: { Holds IsRecord (at answers (whole (R.content octets))) header.counts.ancount } by {
-        records_once _ _ },
-    ghost authorized: { Holds IsRecord (at authorities (whole (R.content octets))) header.counts.nscount } by {
-        records_once _ _ },
-    ghost added: { Holds IsRecord (at additionals (whole (R.content octets))) header.counts.arcount } by {
-        records_once _ _ },
+    ghost asked: { Holds IsQuestion (at questions (whole (R.content octets))) header.counts.qdcount } by { questions_once _ _ },
+    ghost answered: { Holds IsRecord (at answers (whole (R.content octets))) header.counts.ancount } by { records_once _ _ },
+    ghost authorized: { Holds IsRecord (at authorities (whole (R.content octets))) header.counts.nscount } by { records_once _ _ },
+    ghost added: { Holds IsRecord (at additionals (whole (R.content octets))) header.counts.arcount } by { records_once _ _ },
     ghost past_answers: { ∥ Many header.counts.ancount IsRecord (at answers (whole (R.content octets))) answered.0
         (at authorities (whole (R.content octets))) ∥₁ },
     ghost past_authorities: { ∥ Many header.counts.nscount IsRecord (at authorities (whole (R.content octets)))
@@ -210,7 +206,10 @@ impl<R: AsOctets + Copy> Message<R> {
     pub fn questions(&self) -> Questions<R>
         ensures { questions_left result ≡ questions_of self.now }
     {
-        Questions::at(parser_at(self.octets, self.questions), self.header.counts.qdcount)
+        Questions::at(
+            parser_at(self.octets, self.questions),
+            self.header.counts.qdcount,
+        )
     }
 
     /// Returns an iterator over the answers, from the first one on.
@@ -230,20 +229,29 @@ impl<R: AsOctets + Copy> Message<R> {
     pub fn answers(&self) -> Records<R>
         ensures { records_left result ≡ answers_of self.now }
     {
-        Records::at(parser_at(self.octets, self.answers), self.header.counts.ancount)
+        Records::at(
+            parser_at(self.octets, self.answers),
+            self.header.counts.ancount,
+        )
     }
 
     /// Returns an iterator over the authority records, from the first one on.
     pub fn authorities(&self) -> Records<R>
         ensures { records_left result ≡ authorities_of self.now }
     {
-        Records::at(parser_at(self.octets, self.authorities), self.header.counts.nscount)
+        Records::at(
+            parser_at(self.octets, self.authorities),
+            self.header.counts.nscount,
+        )
     }
 
     /// Returns an iterator over the additional records, from the first one on.
     pub fn additionals(&self) -> Records<R>
         ensures { records_left result ≡ additionals_of self.now }
     {
-        Records::at(parser_at(self.octets, self.additionals), self.header.counts.arcount)
+        Records::at(
+            parser_at(self.octets, self.additionals),
+            self.header.counts.arcount,
+        )
     }
 }
