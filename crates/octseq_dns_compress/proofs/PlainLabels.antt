@@ -1,11 +1,11 @@
 -- Labels with their length octets, and their offsets.
 use Rattle.std.specs.Prelude.{slice_index_or}
 use Rattle.std.proofs.Common.{◌≡◌, ℕ, zero, suc, ◌+◌, ◌-◌, ◌<◌, ◌≤◌, List, [], ◌∷◌, ◌++◌, length, take, drop, refl}
-use Rattle.std.proofs.Common.{sym, ap}
+use Rattle.std.proofs.Common.{sym, ap, subst}
 use Rattle.std.proofs.Common.{◌∙◌, arith, append_assoc, length-append}
-use Rattle.std.proofs.lemmas.List.{drop_more, flat_map_more, get_or-map, length-drop, length-map, length-take}
+use Rattle.std.proofs.lemmas.List.{drop-drop, drop_more, flat_map_more, get_or-map, length-drop, length-map, length-take}
 use Rattle.std.proofs.lemmas.List.{take_more, take-take}
-use Rattle.std.proofs.Math.Seq.{take-append_seam, drop-append_seam, get_or-append_seam}
+use Rattle.std.proofs.Math.Seq.{take-add, take-append_seam, drop-append_seam, get_or-append_seam}
 use Rattle.octseq_dns_name.specs.Name.{wire_length}
 use Rattle.octseq_dns_compress.specs.Key.{label_at, IsWhole}
 use Rattle.octseq_dns_compress.specs.Names.{label_no, prefixed, unrooted}
@@ -125,3 +125,39 @@ fewer_shorter labels few many less =
     let long = ap length both ∙ length-append (unrooted (take few (take many labels))) (unrooted (drop few (take many labels))) in
     let same = ap (λ l. length (unrooted l)) (take-take few many labels less) in
     omega (arith, long, same)
+
+-- ---- labels that lie one after another
+
+-- one more label, which begins where the octets from a start on end
+module _ (octets starts : List ℕ) (start end index : ℕ) (front : List ℕ) (whole : AreWhole octets starts)
+    (inside : index < length (labels_at octets starts)) (here : slice_index_or starts index 0 ≡ end)
+    (ordered : start ≤ end) where
+  -- adds its octets
+  next_taken : take (end - start) (drop start octets) ++ prefixed (label_no (labels_at octets starts) index)
+      ≡ take (end + (1 + slice_index_or octets end 0) - start) (drop start octets)
+  unfolding label_at
+  next_taken =
+      let len = 1 + slice_index_or octets end 0 in
+      let on : start + (end - start) ≡ end = omega (arith, ordered) in
+      let all : end - start + len ≡ end + len - start = omega (arith, ordered) in
+      let label : prefixed (label_no (labels_at octets starts) index) ≡ take len (drop (end - start) (drop start octets)) =
+      sym (label_read octets starts index whole inside) ∙ ap (label_at octets) here
+      ∙ ap (λ n. take len (drop n octets)) (sym on) ∙ ap (take len) (sym (drop-drop (end - start) start octets)) in
+      ap (λ o. take (end - start) (drop start octets) ++ o) label
+      ∙ sym (take-add (end - start) len (drop start octets)) ∙ ap (λ n. take n (drop start octets)) all
+
+  -- to those of the labels before it
+  pub run_more : unrooted (take index (labels_at octets starts)) ≡ front ++ take (end - start) (drop start octets)
+      → unrooted (take (index + 1) (labels_at octets starts))
+      ≡ front ++ take (end + (1 + slice_index_or octets end 0) - start) (drop start octets)
+  run_more is =
+      let labels = labels_at octets starts in
+      one_label_more labels index inside ∙ ap (λ o. o ++ prefixed (label_no labels index)) is
+      ∙ append_assoc front (take (end - start) (drop start octets)) (prefixed (label_no labels index))
+      ∙ ap (λ o. front ++ o) next_taken
+
+  -- it is whole
+  pub run_inside : end + (1 + slice_index_or octets end 0) ≤ length octets
+  run_inside =
+      let size = length-map starts (label_of octets) in
+      subst (IsWhole octets) here (whole index 0 (omega (arith, inside, size)))

@@ -8,6 +8,7 @@ ghost use Rattle.octseq_dns_compress.specs.Fits.{NameFits};
 ghost use Rattle.octseq_dns_compress.specs.Named.{AppendsName};
 ghost use Rattle.octseq_dns_compress.specs.PlainName.{AreWhole, labels_at};
 ghost use Rattle.octseq_dns_compress.specs.Sound.{Message};
+ghost use Rattle.octseq_dns_name.specs.Name.{wire_length};
 ghost use Rattle.octseq_dns_name.specs.Read.{labels_of, place_of};
 
 use crate::encode::append_encoded;
@@ -93,16 +94,19 @@ pub(crate) fn write_over<B: AsOctetsMut>(octets: &mut B, at: usize, slice: &[u8]
     octets.as_mut()[at..at + slice.len()].copy_from_slice(slice);
 }
 
-/// Appends a name whose labels are at these offsets, and keeps its labels in the table. An error leaves both unchanged.
+/// Appends a name whose labels are at these offsets and have `len` octets with their length octets, and keeps its labels
+/// in the table. An error leaves both unchanged.
 fn append_name_at<B: OctetsBuilder + Truncate, T: Compressor, R: AsOctets + Copy>(
     octets: &mut B,
     table: &mut T,
     name: &ParsedName<R>,
     starts: &[usize],
+    len: usize,
     turns: &mut Turns,
 ) -> Result<(), AppendError>
     requires whole { AreWhole (place_of name.now).octets starts.now }
     requires labels { labels_at (place_of name.now).octets starts.now ≡ labels_of name.now }
+    requires len { len + 1 ≡ wire_length (labels_of name.now) }
     requires message { Message T.most (B.content octets.old) (T.held table.old) }
     ensures named { (old : Message T.most (B.content octets.old) (T.held table.old))
         → AppendsName (message_limit B.limit) result (labels_of name.now) old (B.content octets.new)
@@ -118,7 +122,7 @@ fn append_name_at<B: OctetsBuilder + Truncate, T: Compressor, R: AsOctets + Copy
     a_name_has_labels(name);
     let parser = name.parser();
     let source = parser.octets_ref();
-    let plain = PlainName::new(source.as_ref(), starts, name);
+    let plain = PlainName::new(source.as_ref(), starts, len, name);
     let ending = search(octets.as_ref(), table.as_slice(), &plain, turns);
     let start = octets.len();
     if let Err(error) = append_encoded(octets, &plain, ending) {
@@ -153,7 +157,7 @@ fn append_long_name<B: OctetsBuilder + Truncate, T: Compressor, R: AsOctets + Co
 {
     let mut starts = [0; LABELS_MAX];
     match place_labels(&mut starts, name) {
-        Some(count) => append_name_at(octets, table, name, &starts[..count], turns),
+        Some((count, len)) => append_name_at(octets, table, name, &starts[..count], len, turns),
         None => unreachable!(),
     }
 }
@@ -179,7 +183,7 @@ pub(crate) fn append_name<B: OctetsBuilder + Truncate, T: Compressor, R: AsOctet
 {
     let mut starts = [0; LABELS_FEW];
     match place_labels(&mut starts, name) {
-        Some(count) => append_name_at(octets, table, name, &starts[..count], turns),
+        Some((count, len)) => append_name_at(octets, table, name, &starts[..count], len, turns),
         None => append_long_name(octets, table, name, turns),
     }
 }

@@ -12,7 +12,7 @@ use crate::plain::PlainName;
 use crate::search::Ending;
 use octseq::{AppendError, AsOctets, OctetsBuilder, ShortBuf, Truncate};
 
-/// Appends the first labels of a name. There must be room for them. If a request for memory is refused, some of them
+/// Appends the first labels of a name, as many at once as lie one after another. There must be room for them. If a request for memory is refused, some of them
 /// may have been appended.
 fn append_labels<B: OctetsBuilder>(
     octets: &mut B,
@@ -31,10 +31,11 @@ fn append_labels<B: OctetsBuilder>(
 {
     let mut index = 0;
     'labels: while index < count {
-        if let Err(error) = octets.append_slice(name.label(index)) {
+        let (run, after) = name.run(index, count);
+        if let Err(error) = octets.append_slice(run) {
             return Err(error);
         }
-        index += 1;
+        index = after;
     }
     Ok(())
 }

@@ -1,5 +1,6 @@
 //! Names as their labels, without pointers.
-ghost use Rattle.std.specs.Prelude.{◌≡◌, ◌≤◌, ◌<◌, length, take, IfSome, IsNone};
+ghost use Rattle.std.specs.Prelude.{◌≡◌, ◌≤◌, ◌<◌, ◌+◌, ◌++◌, length, take, IfSome, IsNone};
+ghost use Rattle.octseq_dns_name.specs.Name.{wire_length};
 ghost use Rattle.octseq_dns_name.specs.Read.{labels_of, place_of};
 ghost use Rattle.octseq_dns_compress.specs.Names.{unrooted};
 ghost use Rattle.octseq_dns_compress.specs.PlainName.{AreWhole, labels_at, whole_once};
@@ -9,6 +10,9 @@ use octseq_dns_name::ParsedName;
 
 /// The greatest number of labels of a name: of its 255 octets, each label takes at least two, and the root takes one.
 pub(crate) const LABELS_MAX: usize = 127;
+
+/// The greatest number of octets of the labels of a name, with their length octets.
+const UNROOTED_MAX: usize = 254;
 
 /// The labels of a name, by their offsets in the octets that it was read from.
 #[derive(Drop)]
@@ -25,18 +29,25 @@ impl<'a> PlainName<'a> {
     ghost use Rattle.octseq_dns_compress.specs.Names.{label_no, prefixed};
     ghost use Rattle.octseq_dns_compress.specs.PlainNames.{plain_labels};
 
-    /// The labels of a name, whose length octets are at these offsets in the octets that it was read from.
+    /// The labels of a name, whose length octets are at these offsets in the octets that it was read from. They have
+    /// `len` octets with their length octets.
     pub fn new<R: AsOctets + Copy>(
         octets: &'a [u8],
         starts: &'a [usize],
+        len: usize,
         name: &ParsedName<R>,
     ) -> PlainName<'a>
         requires source { octets.now ≡ (place_of name.now).octets }
         requires whole { AreWhole (place_of name.now).octets starts.now }
         requires labels { labels_at (place_of name.now).octets starts.now ≡ labels_of name.now }
+        requires len { len + 1 ≡ wire_length (labels_of name.now) }
         ensures { plain_labels result ≡ labels_of name.now }
     {
-        let len = name.len() - 1;
+        if len > UNROOTED_MAX {
+            // No name is that long, as its own count tells.
+            let _len = name.len();
+            unreachable!();
+        }
         PlainName {
             octets,
             starts,
@@ -68,29 +79,54 @@ impl<'a> PlainName<'a> {
         let len = usize::from(octets[start]);
         &octets[start..start + 1 + len]
     }
+
+    /// Returns the octets of as many labels from an index on as lie one after another, before another index, and the
+    /// index of the label after them.
+    #[inline(always)]
+    pub fn run(&self, from: usize, to: usize) -> (&[u8], usize)
+        requires some { from < to }
+        requires within { to ≤ length (plain_labels self.now) }
+        ensures run { unrooted (take result.1 (plain_labels self.now))
+            ≡ unrooted (take from (plain_labels self.now)) ++ result.0.now }
+        ensures some { from < result.1 }
+        ensures within { result.1 ≤ to }
+    {
+        let (octets, start) = (self.octets, self.starts[from]);
+        let mut end = start + 1 + usize::from(octets[start]);
+        let mut index = from + 1;
+        'labels: while index < to && self.starts[index] == end {
+            end += 1 + usize::from(octets[end]);
+            index += 1;
+        }
+        (&octets[start..end], index)
+    }
 }
 
-/// Writes the offset of each label of a name. Returns their number, or `None` if there is no room for them all.
+/// Writes the offset of each label of a name. Returns their number, and that of their octets with their length octets,
+/// or `None` if there is no room for them all.
 pub(crate) fn place_labels<const N: usize, R: AsOctets + Copy>(
     starts: &mut [usize; N],
     name: &ParsedName<R>,
-) -> Option<usize>
-    ensures most { IfSome result (λ count. count ≤ N) }
-    ensures whole { IfSome result (λ count. AreWhole (place_of name.now).octets (take count starts.new)) }
-    ensures labels { IfSome result (λ count.
-        labels_at (place_of name.now).octets (take count starts.new) ≡ labels_of name.now) }
+) -> Option<(usize, usize)>
+    requires { N ≤ 127 }
+    ensures most { IfSome result (λ found. found.0 ≤ N) }
+    ensures whole { IfSome result (λ found. AreWhole (place_of name.now).octets (take found.0 starts.new)) }
+    ensures labels { IfSome result (λ found.
+        labels_at (place_of name.now).octets (take found.0 starts.new) ≡ labels_of name.now) }
+    ensures len { IfSome result (λ found. found.1 + 1 ≡ wire_length (labels_of name.now)) }
     ensures none { IsNone result → N < 127 }
 {
-    let _len = name.len();
     let parser = name.parser();
     let _end = parser.len();
-    let mut count = 0;
+    let (mut count, mut len) = (0, 0);
     'places: for label in name.labels() {
         if count == N {
+            let _len = name.len();
             return None;
         }
         starts[count] = label.pos() - 1;
+        len += 1 + label.as_slice().len();
         count += 1;
     }
-    Some(count)
+    Some((count, len))
 }

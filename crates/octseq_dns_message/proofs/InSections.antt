@@ -88,3 +88,16 @@ module _ (counts : HeaderCounts) (x y z : Window) (a : Holds IsRecord x counts.a
         ap (map (λ (one : Record × Section). one.0)) same
             ∙ firsts-zip (a.0 ++ (n.0 ++ d.0)) (sections_in counts) (sym (counted counts a.0 n.0 d.0 one two three)),
       )
+
+  -- in a window that is the same
+  pub all_held_at : (w : Window) → w ≡ x → Holds IsRecord w (length (sections_in counts))
+  all_held_at w same = subst (λ w. Holds IsRecord w (length (sections_in counts))) (sym same) all_held
+
+  pub all_listed_at : (w : Window) → w ≡ x → (held : Holds IsRecord w (length (sections_in counts)))
+      → (zip held.0 (sections_in counts) ≡ in_sections a.0 n.0 d.0)
+      × (map (λ (one : Record × Section). one.0) (zip held.0 (sections_in counts)) ≡ a.0 ++ (n.0 ++ d.0))
+  all_listed_at w same =
+      subst (λ w. (held : Holds IsRecord w (length (sections_in counts)))
+      → (zip held.0 (sections_in counts) ≡ in_sections a.0 n.0 d.0)
+      × (map (λ (one : Record × Section). one.0) (zip held.0 (sections_in counts)) ≡ a.0 ++ (n.0 ++ d.0)))
+      (sym same) all_listed

@@ -1,6 +1,7 @@
 //! DNS messages: RFC 1035, 4.1.
-ghost use Rattle.std.specs.Prelude.{◌≡◌, ◌<◌, ℕ, List, ⊤};
+ghost use Rattle.std.specs.Prelude.{◌≡◌, ◌<◌, ◌≤◌, ℕ, List, length, ⊤};
 ghost use Rattle.octseq.specs.Parser.{window};
+ghost use Rattle.octseq.specs.Window.{at, whole};
 ghost use Rattle.octseq_dns_message.specs.Entry as said;
 ghost use Rattle.octseq_dns_message.specs.Entry.{IsQuestion, IsRecord};
 ghost use Rattle.octseq_dns_message.specs.Message.{IsMessage};
@@ -11,6 +12,7 @@ ghost use Rattle.octseq_format.specs.Row.{Holds, Many};
 
 use crate::header::{Header, HeaderCounts, Numbers};
 use crate::message::sections::{pass_questions, pass_records};
+use octseq::builder::infallible;
 use octseq::{AsOctets, Parser, Turns};
 use octseq_dns_name::Malformed;
 use std::alloc::AllocError;
@@ -49,21 +51,38 @@ pub fn one_message()
         → (h ≡ k) × (q ≡ others) × (a ≡ x) × (b ≡ y) × (d ≡ z) }
 {}
 
-/// A message: its header, and where its sections begin. No octet of them is copied.
+/// A message: its octets, its header, and the offsets at which its sections begin. No octet is copied.
 #[derive(Debug)]
 pub struct Message<R: AsOctets> {
+    octets: R,
     header: Numbers,
-    questions: Parser<R>,
-    answers: Parser<R>,
-    authorities: Parser<R>,
-    additionals: Parser<R>,
-    ghost asked: { Holds IsQuestion (window questions) header.counts.qdcount } by { questions_once _ _ },
-    ghost answered: { Holds IsRecord (window answers) header.counts.ancount } by { records_once _ _ },
-    ghost authorized: { Holds IsRecord (window authorities) header.counts.nscount } by { records_once _ _ },
-    ghost added: { Holds IsRecord (window additionals) header.counts.arcount } by { records_once _ _ },
-    ghost past_answers: { ∥ Many header.counts.ancount IsRecord (window answers) answered.0 (window authorities) ∥₁ },
-    ghost past_authorities: { ∥ Many header.counts.nscount IsRecord (window authorities) authorized.0
-        (window additionals) ∥₁ },
+    questions: u16,
+    answers: u16,
+    authorities: u16,
+    additionals: u16,
+    ghost asked: { Holds IsQuestion (at questions (whole (R.content octets))) header.counts.qdcount } by { questions_once _ _ },
+    ghost answered: { Holds IsRecord (at answers (whole (R.content octets))) header.counts.ancount } by { records_once _ _ },
+    ghost authorized: { Holds IsRecord (at authorities (whole (R.content octets))) header.counts.nscount } by { records_once _ _ },
+    ghost added: { Holds IsRecord (at additionals (whole (R.content octets))) header.counts.arcount } by { records_once _ _ },
+    ghost past_answers: { ∥ Many header.counts.ancount IsRecord (at answers (whole (R.content octets))) answered.0
+        (at authorities (whole (R.content octets))) ∥₁ },
+    ghost past_authorities: { ∥ Many header.counts.nscount IsRecord (at authorities (whole (R.content octets)))
+        authorized.0 (at additionals (whole (R.content octets))) ∥₁ },
+    ghost begun: { questions ≤ length (R.content octets) },
+    ghost passed_questions: { answers ≤ length (R.content octets) },
+    ghost passed_answers: { authorities ≤ length (R.content octets) },
+    ghost passed_authorities: { additionals ≤ length (R.content octets) },
+}
+
+/// Returns a parser of octets, at an offset.
+#[inline(always)]
+pub(crate) fn parser_at<R: AsOctets + Copy>(octets: R, offset: u16) -> Parser<R>
+    requires { offset ≤ length (R.content octets) }
+    ensures { window result ≡ at offset (whole (R.content octets)) }
+{
+    let mut parser = Parser::from_ref(octets);
+    infallible(parser.seek(usize::from(offset)));
+    parser
 }
 
 impl<R: AsOctets + Copy> Copy for Message<R> {}
@@ -79,7 +98,7 @@ impl<R: AsOctets + Copy> Clone for Message<R> {
 }
 
 impl<R: AsOctets + Copy> Message<R> {
-    ghost use Rattle.std.specs.Prelude.{◌+◌, ◌*◌, ◌≤◌, length, IsErr, IfOk};
+    ghost use Rattle.std.specs.Prelude.{◌+◌, ◌*◌, IsErr, IfOk};
     ghost use Rattle.octseq_dns_message.specs.Parsed.{header_of, counts_of, questions_of, answers_of};
     ghost use Rattle.octseq_dns_message.specs.Parsed.{authorities_of, additionals_of, message_turns};
     ghost use Rattle.octseq_dns_message.specs.Walk.{questions_left, records_left};
@@ -133,18 +152,19 @@ impl<R: AsOctets + Copy> Message<R> {
             return Err(Malformed);
         }
         let header = Numbers::parse(&mut parser)?;
-        let questions = parser;
+        let questions = parser.pos() as u16;
         pass_questions(&mut parser, header.counts.qdcount, turns)?;
-        let answers = parser;
+        let answers = parser.pos() as u16;
         pass_records(&mut parser, header.counts.ancount, turns)?;
-        let authorities = parser;
+        let authorities = parser.pos() as u16;
         pass_records(&mut parser, header.counts.nscount, turns)?;
-        let additionals = parser;
+        let additionals = parser.pos() as u16;
         pass_records(&mut parser, header.counts.arcount, turns)?;
         if parser.remaining() > 0 {
             return Err(Malformed);
         }
         Ok(Message {
+            octets,
             header,
             questions,
             answers,
@@ -186,7 +206,10 @@ impl<R: AsOctets + Copy> Message<R> {
     pub fn questions(&self) -> Questions<R>
         ensures { questions_left result ≡ questions_of self.now }
     {
-        Questions::at(self.questions, self.header.counts.qdcount)
+        Questions::at(
+            parser_at(self.octets, self.questions),
+            self.header.counts.qdcount,
+        )
     }
 
     /// Returns an iterator over the answers, from the first one on.
@@ -206,20 +229,29 @@ impl<R: AsOctets + Copy> Message<R> {
     pub fn answers(&self) -> Records<R>
         ensures { records_left result ≡ answers_of self.now }
     {
-        Records::at(self.answers, self.header.counts.ancount)
+        Records::at(
+            parser_at(self.octets, self.answers),
+            self.header.counts.ancount,
+        )
     }
 
     /// Returns an iterator over the authority records, from the first one on.
     pub fn authorities(&self) -> Records<R>
         ensures { records_left result ≡ authorities_of self.now }
     {
-        Records::at(self.authorities, self.header.counts.nscount)
+        Records::at(
+            parser_at(self.octets, self.authorities),
+            self.header.counts.nscount,
+        )
     }
 
     /// Returns an iterator over the additional records, from the first one on.
     pub fn additionals(&self) -> Records<R>
         ensures { records_left result ≡ additionals_of self.now }
     {
-        Records::at(self.additionals, self.header.counts.arcount)
+        Records::at(
+            parser_at(self.octets, self.additionals),
+            self.header.counts.arcount,
+        )
     }
 }

@@ -7,7 +7,7 @@ ghost use Rattle.octseq_dns_message.specs.Section.{sections_in};
 ghost use Rattle.octseq_format.specs.Row.{Holds};
 
 use crate::header::HeaderCounts;
-use crate::message::{Message, Record};
+use crate::message::{Message, Record, parser_at};
 use octseq::{AsOctets, Parser};
 use std::alloc::AllocError;
 
@@ -55,7 +55,8 @@ impl<R: AsOctets + Copy> Message<R> {
             ≡ in_sections (answers_of self.now) (authorities_of self.now) (additionals_of self.now) }
         ensures records { records_ahead result ≡ records_of self.now }
     {
-        let (parser, left) = (self.answers, self.header.counts);
+        let parser = parser_at(self.octets, self.answers);
+        let left = self.header.counts;
         AllRecords { parser, left }
     }
 }

@@ -2,7 +2,7 @@ use Rattle.std.proofs.Common.{◌+◌, ◌++◌, ap, ◌∙◌, sym, length, len
 use Rattle.octseq_dns_compress.specs.Names.{unrooted}
 use Rattle.octseq_dns_compress.specs.PlainNames.{plain_labels}
 use Rattle.octseq_dns_compress.proofs.Limits.{within_fewer}
-use Rattle.octseq_dns_compress.proofs.PlainLabels.{one_label_more, one_label_longer, fewer_shorter}
+use Rattle.octseq_dns_compress.proofs.PlainLabels.{fewer_shorter}
 use Rattle.octseq_dns_compress.proofs.encode.append_labels.Goals as goal
 
 pub returns-in-Err-clause-short : goal.returns-in-Err-clause-short
@@ -14,10 +14,10 @@ returns-in-Err-clause-short g c short =
     let count = c.requires.count in
     let long = ap length so_far.content
     ∙ length-append (g.B.AsOctets.content c.args.octets.now) (unrooted (take index labels)) in
-    let read = ap length c.label.ensures in
-    let one = one_label_longer labels index (omega (arith, less, count)) in
-    let few = fewer_shorter labels (index + 1) c.args.count (omega (arith, less)) in
-    within_fewer g.B.AsOctets.limit _ _ c.requires.room (omega (arith, long, read, one, few))
+    let read = ap length c.run-after.ensures.run ∙ length-append (unrooted (take index labels)) c.run-after.result.0.now in
+    let within = c.run-after.ensures.within in
+    let few = fewer_shorter labels c.run-after.result.1 c.args.count within in
+    within_fewer g.B.AsOctets.limit _ _ c.requires.room (omega (arith, long, read, few))
     (c.in-Err.ensures.appended.short.0 short)
 
 pub labels-preserved : goal.labels-preserved
@@ -25,14 +25,11 @@ labels-preserved g c =
     let so_far = c.labels.invariant in
     let labels = plain_labels c.args.name.now in
     let index = c.labels.index in
-    let less = c.labels-test.true in
-    let count = c.requires.count in
     let old = g.B.AsOctets.content c.args.octets.now in
     let first = unrooted (take index labels) in
     record {
-      within = omega (arith, less);
-      content = c.in_default.ensures.appended.ok ∙ ap (λ o. o ++ c.label.result.now) so_far.content
-          ∙ append_assoc old first c.label.result.now ∙ ap (λ o. old ++ (first ++ o)) c.label.ensures
-          ∙ ap (λ o. old ++ o) (sym (one_label_more labels index (omega (arith, less, count))));
+      within = c.run-after.ensures.within;
+      content = c.in_default.ensures.appended.ok ∙ ap (λ o. o ++ c.run-after.result.0.now) so_far.content
+          ∙ append_assoc old first c.run-after.result.0.now ∙ ap (λ o. old ++ o) (sym c.run-after.ensures.run);
       borrows = c.in_default.ensures.borrows ∙ so_far.borrows;
     }

@@ -47,6 +47,9 @@ places-preserved g c =
     (let few = so_far.within in let room = so_far.room in omega (arith, few, room, c.if-count.false)) in
     record {
       few = omega (arith, few, wire, some);
+      summed = (let summed = so_far.summed in let size = ap length c.as_slice.ensures.octets in
+          omega (arith, summed, wire, size));
+      most = (let most = so_far.most in let size = c.as_slice.ensures.most in omega (arith, most, size));
       within = (let few = so_far.within in omega (arith, few, c.if-count.false));
       room = length-set c.places.starts c.places.count (c.pos.result - 1) ∙ so_far.room;
       same = it.octets ∙ same;

@@ -8,7 +8,9 @@ use Rattle.octseq_dns_compress.proofs.plain.place_labels.Given as goal
 
 abbrev pub invariant-places : goal.invariant-places
 invariant-places g l = record {
-  few : 2 * l.count + wire_length (labels_left l.label-iterator) ≤ 255;
+  few : 2 * l.count + wire_length (labels_left l.label-iterator) ≤ wire_length (labels_of l.name);
+  summed : l.len + wire_length (labels_left l.label-iterator) ≡ wire_length (labels_of l.name);
+  most : l.len ≤ 64 * l.count;
   within : l.count ≤ g.row.N;
   room : length l.starts ≡ g.row.N;
   same : (ahead_of l.label-iterator).octets ≡ (place_of l.name).octets;

@@ -10,8 +10,8 @@ invariant_of-result g c =
     let same = ap (λ o. labels_at o c.args.starts.now) c.requires.source ∙ c.requires.labels in
     let size = ap (λ labels. length (unrooted labels)) same in
     let wire = wire_of_unrooted (labels_of c.args.name.now) in
-    let len = c.len-len.ensures.len in
-    let most = c.len-len.ensures.most in
+    let len = c.requires.len in
+    let most = c.if-len-gt-UNROOTED_MAX.false in
     record {
       whole = subst (λ o. AreWhole o c.args.starts.now) (sym c.requires.source) c.requires.whole;
       measured = omega (arith, len, wire, size);
@@ -20,3 +20,11 @@ invariant_of-result g c =
 
 pub returns : goal.returns
 returns g c = ap (λ o. labels_at o c.args.starts.now) c.requires.source ∙ c.requires.labels
+
+pub unreachable-requires : goal.unreachable-requires
+unreachable-requires g c =
+    let long = c.if-len-gt-UNROOTED_MAX.true in
+    let len = c.requires.len in
+    let counted = c.len-len.ensures.len in
+    let most = c.len-len.ensures.most in
+    absurd (omega (arith, long, len, counted, most))

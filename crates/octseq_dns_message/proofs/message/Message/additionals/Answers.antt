@@ -1,4 +1,16 @@
+use Rattle.std.proofs.Common.{◌≡◌, subst, sym}
+use Rattle.octseq_dns_message.specs.Entry.{IsRecord}
+use Rattle.octseq_dns_message.specs.Walk.{records_left}
+use Rattle.octseq_format.specs.Row.{Holds}
 use Rattle.octseq_dns_message.proofs.message.Message.additionals.Goals as goal
 
+pub at-requires : goal.at-requires
+at-requires g c =
+    let self = c.args.self.now in
+    subst (λ w. Holds IsRecord w self.header.counts.arcount) (sym c.parser_at.ensures) self.added
+
 pub returns : goal.returns
-returns g c = c.at.ensures c.args.self.now.added
+returns g c =
+    let self = c.args.self.now in
+    subst (λ w. (held : Holds IsRecord w self.header.counts.arcount) → records_left c.at.result ≡ held.0) c.parser_at.ensures
+    c.at.ensures self.added
