@@ -94,8 +94,8 @@ pub(crate) fn write_over<B: AsOctetsMut>(octets: &mut B, at: usize, slice: &[u8]
     octets.as_mut()[at..at + slice.len()].copy_from_slice(slice);
 }
 
-/// Appends a name whose labels are at these offsets and have `len` octets with their length octets, and keeps its labels
-/// in the table. An error leaves both unchanged.
+/// Appends a name whose labels are at these offsets and have `len` octets with their length octets, and keeps its
+/// labels in the table. An error leaves both unchanged.
 fn append_name_at<B: OctetsBuilder + Truncate, T: Compressor, R: AsOctets + Copy>(
     octets: &mut B,
     table: &mut T,

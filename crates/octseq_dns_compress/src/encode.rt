@@ -12,8 +12,8 @@ use crate::plain::PlainName;
 use crate::search::Ending;
 use octseq::{AppendError, AsOctets, OctetsBuilder, ShortBuf, Truncate};
 
-/// Appends the first labels of a name, as many at once as lie one after another. There must be room for them. If a request for memory is refused, some of them
-/// may have been appended.
+/// Appends the first labels of a name, as many at once as lie one after another. There must be room for them. If a
+/// request for memory is refused, some of them may have been appended.
 fn append_labels<B: OctetsBuilder>(
     octets: &mut B,
     name: &PlainName<'_>,

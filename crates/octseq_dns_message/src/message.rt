@@ -60,10 +60,14 @@ pub struct Message<R: AsOctets> {
     answers: u16,
     authorities: u16,
     additionals: u16,
-    ghost asked: { Holds IsQuestion (at questions (whole (R.content octets))) header.counts.qdcount } by { questions_once _ _ },
-    ghost answered: { Holds IsRecord (at answers (whole (R.content octets))) header.counts.ancount } by { records_once _ _ },
-    ghost authorized: { Holds IsRecord (at authorities (whole (R.content octets))) header.counts.nscount } by { records_once _ _ },
-    ghost added: { Holds IsRecord (at additionals (whole (R.content octets))) header.counts.arcount } by { records_once _ _ },
+    ghost asked: { Holds IsQuestion (at questions (whole (R.content octets)))
+        header.counts.qdcount } by { questions_once _ _ },
+    ghost answered: { Holds IsRecord (at answers (whole (R.content octets)))
+        header.counts.ancount } by { records_once _ _ },
+    ghost authorized: { Holds IsRecord (at authorities (whole (R.content octets)))
+        header.counts.nscount } by { records_once _ _ },
+    ghost added: { Holds IsRecord (at additionals (whole (R.content octets)))
+        header.counts.arcount } by { records_once _ _ },
     ghost past_answers: { ∥ Many header.counts.ancount IsRecord (at answers (whole (R.content octets))) answered.0
         (at authorities (whole (R.content octets))) ∥₁ },
     ghost past_authorities: { ∥ Many header.counts.nscount IsRecord (at authorities (whole (R.content octets)))
