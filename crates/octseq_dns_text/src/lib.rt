@@ -1,0 +1,6 @@
+//! The data of DNS records, read from the words of a line of a zone file: RFC 1035, 5.1, and RFC 3597, 5.
+#![tactic(auto)]
+
+pub mod error;
+
+pub use error::ScanError;
