@@ -1,35 +1,27 @@
 //! Octets that are appended to a content as far as they fit.
+ghost use Rattle.std.specs.Prelude.{◌≡◌, Bool, true, false, ◌++◌, take, length, IfOk, IfErr, OnOk, OnErr};
+ghost use Rattle.octseq_dns_text.specs.Output.{Adds, Grows};
 
 use crate::error::ScanError;
 use octseq::{AppendError, OctetsBuilder, Truncate};
 
-/// Appends octets to a content that may be full: past its limit. Returns whether it is then full.
+/// Appends octets to a content that may be full. Returns whether it is then full: with them it would exceed its limit.
 pub(crate) fn append<B: OctetsBuilder>(
     target: &mut B,
     octets: &[u8],
     full: bool,
-) -> Result<bool, ScanError> {
+) -> Result<bool, ScanError>
+    ensures ok { IfOk result (λ past. Adds B.limit full (B.content target.old) past (B.content target.new)
+        octets.now) }
+    ensures memory { IfErr result (λ error. error ≡ ScanError.Memory) }
+    ensures asks { OnErr result (B.asks ≡ true) }
+    ensures grows { Grows (B.content target.old) (B.content target.new) }
+    ensures borrows { B.borrows target.new ≡ B.borrows target.old }
+{
     match target.append_slice(octets) {
         Ok(()) => Ok(full),
         Err(AppendError::Short(_)) => Ok(true),
         Err(AppendError::Memory) => Err(ScanError::Memory),
-    }
-}
-
-/// Says that a text was read, unless the content is full.
-pub(crate) fn unless_full(full: bool) -> Result<(), ScanError> {
-    if full {
-        return Err(ScanError::Short);
-    }
-    Ok(())
-}
-
-/// Says whether a content is full after a text was read.
-pub(crate) fn is_full(scanned: Result<(), ScanError>, full: bool) -> Result<bool, ScanError> {
-    match scanned {
-        Ok(()) => Ok(full),
-        Err(ScanError::Short) => Ok(true),
-        Err(error) => Err(error),
     }
 }
 
@@ -38,7 +30,12 @@ pub(crate) fn kept<B: OctetsBuilder + Truncate>(
     target: &mut B,
     before: usize,
     scanned: Result<(), ScanError>,
-) -> Result<(), ScanError> {
+) -> Result<(), ScanError>
+    ensures same { result ≡ scanned }
+    ensures ok { OnOk scanned (B.content target.new ≡ B.content target.old) }
+    ensures err { OnErr scanned (B.content target.new ≡ take before (B.content target.old)) }
+    ensures borrows { B.borrows target.new ≡ B.borrows target.old }
+{
     if scanned.is_err() {
         target.truncate(before);
     }
