@@ -1,5 +1,8 @@
 pub mod Appended
 pub mod ReaderLengths
 pub mod ReadTexts
-pub mod TakeTexts
 pub mod RunTexts
+pub mod TakeTexts
+pub mod SomeTexts
+pub mod StringTexts
+pub mod WordTexts

@@ -5,3 +5,5 @@ pub mod Scans
 pub mod Shown
 pub mod SizedHex
 pub mod SizedHexLaws
+pub mod Tails
+pub mod Words

@@ -1,6 +1,6 @@
 -- Texts that are read word by word into octets, and what a reader of them says. `Is words octets`: the words are a text
 -- of these octets.
-use Rattle.std.specs.Prelude.{◌≡◌, ℕ, ◌+◌, Bool, true, Option, List, [], ◌∷◌, ◌++◌, length}
+use Rattle.std.specs.Prelude.{◌≡◌, ℕ, ◌+◌, ◌≤◌, Bool, true, Option, List, [], ◌∷◌, ◌++◌, length}
 use Rattle.std.specs.Prelude.{Result, OnOk, OnErr, IsErrOf}
 use Rattle.octseq.specs.Limit.{IsPast}
 use Rattle.octseq_dns_scan.specs.Word.{TakesWord, AreWords}
@@ -9,6 +9,10 @@ use Rattle.octseq_dns_text.specs.declared.error.ScanError.{ScanError}
 -- some text begins with these words
 abbrev pub Goes : (List (List ℕ) → List ℕ → Type 0) → List (List ℕ) → Type 0
 Goes Is front = (more : List (List ℕ)) × (octets : List ℕ) × Is (front ++ more) octets
+
+-- there are one or more words
+abbrev pub AreSome : (List (List ℕ) → List ℕ → Type 0) → List (List ℕ) → List ℕ → Type 0
+AreSome Is words octets = (1 ≤ length words) × Is words octets
 
 -- a text is these words with the blanks after each, followed by what is left
 abbrev pub BeginsWithWords : List (List ℕ) → List ℕ → List ℕ → Type 0

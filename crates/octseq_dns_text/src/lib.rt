@@ -4,5 +4,7 @@
 pub mod error;
 mod output;
 mod runs;
+mod tail;
+mod word;
 
 pub use error::ScanError;

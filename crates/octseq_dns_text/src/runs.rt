@@ -8,7 +8,8 @@ ghost use Rattle.octseq_dns_scan.specs.TextReader.{NoText, Reads};
 ghost use Rattle.octseq_dns_scan.specs.Words.{ahead_of, offset_of};
 ghost use Rattle.octseq_dns_text.specs.Output.{Adds, Grows};
 ghost use Rattle.octseq_dns_text.specs.Reached.{ReadsText};
-ghost use Rattle.octseq_dns_text.specs.Runs.{AreRuns, AreSomeRuns};
+ghost use Rattle.octseq_dns_text.specs.Runs.{AreRuns};
+ghost use Rattle.octseq_dns_text.specs.Scans.{AreSome};
 
 use crate::error::ScanError;
 use crate::output::append;
@@ -153,7 +154,7 @@ pub(crate) fn scan_some_runs<R: RunReader, B: OctetsBuilder>(
     target: &mut B,
 ) -> Result<(), ScanError>
     requires { R.has_read reader reader [] [] }
-    ensures reads { ReadsText (AreSomeRuns (R.is_text reader)) B.limit B.asks result (ahead_of words.entry)
+    ensures reads { ReadsText (AreSome (AreRuns (R.is_text reader))) B.limit B.asks result (ahead_of words.entry)
         (offset_of words.entry) (B.content target.old) (B.content target.new) }
     ensures grows { Grows (B.content target.old) (B.content target.new) }
     ensures borrows { B.borrows target.new ≡ B.borrows target.old }
