@@ -1,8 +1,11 @@
 pub mod Appended
+pub mod DataTexts
+pub mod LayoutTexts
 pub mod ReaderLengths
 pub mod ReadTexts
+pub mod RtypeTexts
 pub mod RunTexts
-pub mod TakeTexts
 pub mod SomeTexts
 pub mod StringTexts
+pub mod TakeTexts
 pub mod WordTexts

@@ -1,7 +1,8 @@
 -- How far a text was read, and what its reader says.
 use Rattle.std.proofs.Common.{◌≡◌, ℕ, ◌+◌, Bool, true, false, List, [], ◌∷◌, ◌++◌, length, refl, sym, ap, ◌∙◌, subst}
-use Rattle.std.proofs.Common.{append_assoc, length-append, Option, Result, Ok, Err, arith}
+use Rattle.std.proofs.Common.{append_assoc, length-append, Option, Result, Ok, Err, OnOk, OnErr, take, arith}
 use Rattle.std.proofs.lemmas.List.{append-nil}
+use Rattle.std.proofs.Math.Seq.{take-append_seam}
 use Rattle.octseq.specs.Limit.{IsPast}
 use Rattle.octseq_dns_scan.proofs.Taken.{word_once}
 use Rattle.octseq_dns_scan.specs.Word.{TakesWord, AreWords}
@@ -102,6 +103,67 @@ reads_ok Is limit asks ahead start old new words octets are is same = record {
   fault = λ other is_err. absurd (cc);
   short = λ is_err. absurd (cc);
   memory = λ is_err. absurd (cc);
+}
+
+-- a word comes before what is read
+after_word_fault : (Is After : List (List ℕ) → List ℕ → Type 0) (word ahead rest : List ℕ) (start place : ℕ)
+    → TakesWord word ahead rest → place + length rest ≡ start + length ahead
+    → ((words : List (List ℕ)) (octets : List ℕ) → After words octets → Is (word ∷ words) octets)
+    → ((words : List (List ℕ)) (octets : List ℕ) → Is (word ∷ words) octets → After words octets) → (offset : ℕ)
+    → IsFault After rest place offset → IsFault Is ahead start offset
+after_word_fault Is After word ahead rest start place taken same to from offset fault = record {
+  front = word ∷ fault.front;
+  rest = fault.rest;
+  begins = (rest, taken, fault.begins);
+  place = fault.place ∙ same;
+  goes = let (more, octets, is) = fault.goes in (more, octets, to (fault.front ++ more) octets is);
+  stops = λ next left takes (more, octets, is). fault.stops next left takes
+      (more, octets, from ((fault.front ++ next ∷ []) ++ more) octets is);
+  ends = λ none octets is. fault.ends none octets (from fault.front octets is);
+}
+
+pub after_word : (Is After : List (List ℕ) → List ℕ → Type 0) (limit : Option ℕ) (asks : Bool)
+    (result : Result (Unit {0}) ScanError) (word ahead rest : List ℕ) (start place : ℕ) (old new : List ℕ)
+    → TakesWord word ahead rest → place + length rest ≡ start + length ahead
+    → ((words : List (List ℕ)) (octets : List ℕ) → After words octets → Is (word ∷ words) octets)
+    → ((words : List (List ℕ)) (octets : List ℕ) → Is (word ∷ words) octets → After words octets)
+    → ReadsText After limit asks result rest place old new → ReadsText Is limit asks result ahead start old new
+after_word Is After limit asks (Ok value) word ahead rest start place old new taken same to from reads =
+    let (words, octets, are, is, made) = reads.ok in record {
+      ok = (word ∷ words, octets, (rest, taken, are), to words octets is, made);
+      fault = λ offset is_err. absurd (cc);
+      short = λ is_err. absurd (cc);
+      memory = reads.memory;
+    }
+after_word Is After limit asks (Err e) word ahead rest start place old new taken same to from reads = record {
+  ok = tt;
+  fault = λ offset is_err. after_word_fault Is After word ahead rest start place taken same to from offset
+      (reads.fault offset is_err);
+  short = λ is_err.
+      let (words, octets, are, is, past) = reads.short is_err in
+      (word ∷ words, octets, (rest, taken, are), to words octets is, past);
+  memory = reads.memory;
+}
+
+-- the content is cut to what it was, if the text is refused
+pub scans : (Is : List (List ℕ) → List ℕ → Type 0) (limit : Option ℕ) (asks : Bool)
+    (result : Result (Unit {0}) ScanError) (ahead : List ℕ) (start : ℕ) (old middle new : List ℕ)
+    → ReadsText Is limit asks result ahead start old middle → Grows old middle → OnOk result (new ≡ middle)
+    → OnErr result (new ≡ take (length old) middle) → Scans Is limit asks result ahead start old new
+scans Is limit asks (Ok value) ahead start old middle new reads grows same cut =
+    let (words, octets, are, is, made) = reads.ok in record {
+      ok = (words, octets, are, is, same ∙ made);
+      fault = reads.fault;
+      short = reads.short;
+      memory = reads.memory;
+      kept = tt;
+    }
+scans Is limit asks (Err e) ahead start old middle new reads grows same cut = record {
+  ok = tt;
+  fault = reads.fault;
+  short = reads.short;
+  memory = reads.memory;
+  kept = cut ∙ ap (take (length old)) grows.1 ∙ take-append_seam old grows.0;
 }
 
 -- ---- how far it was read

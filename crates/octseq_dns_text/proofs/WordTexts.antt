@@ -58,7 +58,7 @@ refused Is HasRead reader word old new read empty fits WriteError.Memory feeds o
 
 -- ---- hexadecimal
 
-hex_text_length : (word octets : List ℕ) → IsHexText word octets → length word ≡ 2 * length octets
+pub hex_text_length : (word octets : List ℕ) → IsHexText word octets → length word ≡ 2 * length octets
 hex_text_length word octets is =
     let lengths = ap length is in
     omega (arith, lengths, length-map {B = ℕ} word to_ascii_lowercase, even octets)

@@ -1,3 +1,6 @@
+pub mod DataText
+pub mod Fields
+pub mod Layouts
 pub mod Output
 pub mod Reached
 pub mod Runs

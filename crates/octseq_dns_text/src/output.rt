@@ -1,6 +1,6 @@
 //! Octets that are appended to a content as far as they fit.
 ghost use Rattle.std.specs.Prelude.{◌≡◌, Bool, true, false, ◌++◌, take, length, IfOk, IfErr, OnOk, OnErr};
-ghost use Rattle.octseq_dns_text.specs.Output.{Adds, Grows};
+ghost use Rattle.octseq_dns_text.specs.Output.{Adds, Grows, unless_full};
 
 use crate::error::ScanError;
 use octseq::{AppendError, OctetsBuilder, Truncate};
@@ -22,6 +22,21 @@ pub(crate) fn append<B: OctetsBuilder>(
         Ok(()) => Ok(full),
         Err(AppendError::Short(_)) => Ok(true),
         Err(AppendError::Memory) => Err(ScanError::Memory),
+    }
+}
+
+/// Says that a text was read, unless the content was full before its end.
+pub(crate) fn unless_full(full: bool, scanned: Result<(), ScanError>) -> Result<(), ScanError>
+    ensures { result ≡ unless_full full scanned }
+{
+    match scanned {
+        Ok(()) => {
+            if full {
+                return Err(ScanError::Short);
+            }
+            Ok(())
+        }
+        Err(error) => Err(error),
     }
 }
 
