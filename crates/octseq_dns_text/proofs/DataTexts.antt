@@ -21,8 +21,7 @@ use Rattle.octseq_dns_text.specs.declared.error.ScanError.{ScanError}
 
 pub sized_goes : Goes IsSizedText []
 sized_goes =
-    let value = shown_value 0 (omega arith) in
-    (
+    let value = shown_value 0 (omega arith) in (
       decimal 0 ∷ [],
       [],
       (decimal 0, [], refl, shown_digits 0 (omega arith), omega (arith, value), sym value, (tt, refl)),
@@ -123,13 +122,14 @@ goes_data : (origin : Option (List (List ℕ))) (rtype class : ℕ) (layout : Te
     (rest : List ℕ) → BeginsWithWords front ahead rest → Goes (IsLayoutText origin layout.fields layout.tail) front
     → Goes (IsDataText origin rtype class) front
 goes_data origin rtype class layout known ahead none [] rest begins goes = opaque_goes origin rtype class
-goes_data origin rtype class layout known ahead none (word ∷ front) rest (next, takes, begins) (more, octets, is) =
-    (
-      more,
-      octets,
-      inr (λ after same. let first : word ≡ opaque_word = cc in other_word ahead word next none takes first,
-      (layout, known, is)),
-    )
+goes_data origin rtype class layout known ahead none (word ∷ front) rest (next, takes, begins) (more, octets, is) = (
+  more,
+  octets,
+  inr (
+    λ after same. let first : word ≡ opaque_word = cc in other_word ahead word next none takes first,
+    (layout, known, is),
+  ),
+)
 
 layout_fault : (origin : Option (List (List ℕ))) (rtype class : ℕ) (layout : TextLayout)
     → layout_of rtype class ≡ Some layout → (ahead : List ℕ) (start : ℕ) → NoneOpaque ahead → (offset : ℕ)
@@ -145,7 +145,7 @@ layout_fault origin rtype class layout known ahead start none offset fault = rec
     more,
     octets,
     typed_from origin rtype class layout known ((fault.front ++ word ∷ []) ++ more) octets
-    (next_not_opaque ahead none fault.front fault.rest word left fault.begins takes more) is,
+        (next_not_opaque ahead none fault.front fault.rest word left fault.begins takes more) is,
   );
   ends = λ same octets is. fault.ends same octets (typed_from origin rtype class layout known fault.front octets
       (front_not_opaque ahead none fault.front fault.rest fault.begins) is);

@@ -53,8 +53,7 @@ field_sample origin field.U32 =
     (decimal 0, octets_be 4 (digits_value 10 (decimal 0)), (shown_digits 0 (omega arith), omega (arith, value), refl))
 field_sample origin field.Rtype = (rtype_text 1, octets_be 2 1, (1, reads_a, refl))
 field_sample origin field.Time =
-    let value = shown_value 0 (omega arith) in
-    (
+    let value = shown_value 0 (omega arith) in (
       decimal 0,
       octets_be 4 (digits_value 10 (decimal 0)),
       (
@@ -106,17 +105,16 @@ pub fields_join : (origin : Option (List (List ℕ))) (done rest : List Field) (
 fields_join origin [] rest it front words made octets (no_words, none) is =
     subst (λ all. IsLayoutText origin rest it (all ++ words) (made ++ octets)) (sym no_words)
     (subst (λ all. IsLayoutText origin rest it words (all ++ octets)) (sym none) is)
-fields_join origin (one ∷ done) rest it front words made octets (word, more, first, left, split, is_one, are, same) is =
-    (
-      word,
-      more ++ words,
-      first,
-      left ++ octets,
-      ap (λ all. all ++ words) split,
-      is_one,
-      fields_join origin done rest it more words left octets are is,
-      ap (λ all. all ++ octets) same ∙ append_assoc first left octets,
-    )
+fields_join origin (one ∷ done) rest it front words made octets (word, more, first, left, split, is_one, are, same) is = (
+  word,
+  more ++ words,
+  first,
+  left ++ octets,
+  ap (λ all. all ++ words) split,
+  is_one,
+  fields_join origin done rest it more words left octets are is,
+  ap (λ all. all ++ octets) same ∙ append_assoc first left octets,
+)
 
 pub fields_drop : (origin : Option (List (List ℕ))) (done rest : List Field) (it : Tail) (front words : List (List ℕ))
     (made octets : List ℕ) → IsLayoutText origin done tail.Nothing front made
@@ -192,7 +190,7 @@ tail_fault origin fields it ahead start limit base rest place full content reach
     let made = reached.made in
     let are = reached.is_front in
     let after : (words : List (List ℕ)) (octets : List ℕ) → IsLayoutText origin fields it (front ++ words) octets
-        → (left : List ℕ) × IsTailText it words left =
+    → (left : List ℕ) × IsTailText it words left =
     λ words octets is. fields_drop origin fields [] it front words made octets are
     (unwhole origin fields it (front ++ words) octets is) in
     record {
@@ -201,14 +199,13 @@ tail_fault origin fields it ahead start limit base rest place full content reach
       begins = begins_more front fault.front ahead rest fault.rest reached.begins fault.begins;
       place = fault.place ∙ reached.same_end;
       goes =
-          let (words, octets, is) = fault.goes in
-          (
+          let (words, octets, is) = fault.goes in (
             words,
             made ++ octets,
             subst (λ all. IsLayoutText origin fields it all (made ++ octets))
-            (sym (append_assoc front fault.front words))
-            (whole origin fields it (front ++ (fault.front ++ words)) (made ++ octets)
-            (fields_join origin fields [] it front (fault.front ++ words) made octets are is)),
+                (sym (append_assoc front fault.front words))
+                (whole origin fields it (front ++ (fault.front ++ words)) (made ++ octets)
+                (fields_join origin fields [] it front (fault.front ++ words) made octets are is)),
           );
       stops = λ word left takes (words, octets, is).
           let regrouped : ((front ++ fault.front) ++ word ∷ []) ++ words

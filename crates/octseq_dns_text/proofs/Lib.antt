@@ -1,6 +1,7 @@
 pub mod Appended
 pub mod DataTexts
 pub mod LayoutTexts
+pub mod OneReading
 pub mod ReaderLengths
 pub mod ReadTexts
 pub mod RtypeTexts

@@ -201,13 +201,13 @@ pub reached_word : (IsFront IsLonger : List (List ℕ) → List ℕ → Type 0) 
     → Adds limit full content past new more → Reached IsLonger ahead start limit base after next past new
 reached_word IsFront IsLonger ahead start limit base rest after place next full past content new word more reached takes
     same longer adds = record {
-  front = reached.front ++ word ∷ [];
-  made = reached.made ++ more;
-  begins = begins_word reached.front word ahead rest after reached.begins takes;
-  same_end = same ∙ reached.same_end;
-  is_front = longer reached.front reached.made reached.is_front;
-  holds = adds base reached.made reached.holds;
-}
+      front = reached.front ++ word ∷ [];
+      made = reached.made ++ more;
+      begins = begins_word reached.front word ahead rest after reached.begins takes;
+      same_end = same ∙ reached.same_end;
+      is_front = longer reached.front reached.made reached.is_front;
+      holds = adds base reached.made reached.holds;
+    }
 
 -- no text goes on with what comes next
 pub reached_fault : (IsFront Is : List (List ℕ) → List ℕ → Type 0) (ahead : List ℕ) (start : ℕ) (limit : Option ℕ)
@@ -215,7 +215,7 @@ pub reached_fault : (IsFront Is : List (List ℕ) → List ℕ → Type 0) (ahea
     → Reached IsFront ahead start limit base rest place full content
     → ((front : List (List ℕ)) (made : List ℕ) → IsFront front made → Goes Is front)
     → ((front : List (List ℕ)) (made word left : List ℕ) → IsFront front made → TakesWord word rest left
-        → ¬ Goes Is (front ++ word ∷ []))
+    → ¬ Goes Is (front ++ word ∷ []))
     → ((front : List (List ℕ)) (made octets : List ℕ) → IsFront front made → rest ≡ [] → ¬ Is front octets)
     → IsFault Is ahead start place
 reached_fault IsFront Is ahead start limit base rest place full content reached goes stops ends = record {

@@ -53,8 +53,7 @@ unfolding small_test
 letters_small [] word same are = tt
 letters_small (a ∷ text) [] same are = absurd (cc)
 letters_small (a ∷ text) (b ∷ word) same are =
-    let parts = both (nat_lt b 128) (small_test word) are in
-    (
+    let parts = both (nat_lt b 128) (small_test word) are in (
       lower_small a b (ap (λ octets. get_or octets 0 0) same) (small_octet b parts.0),
       letters_small text word (ap (drop 1) same) parts.1,
     )

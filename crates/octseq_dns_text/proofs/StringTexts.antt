@@ -75,14 +75,13 @@ pub strings_word : (front : List (List ℕ)) (made word octets : List ℕ) → A
     → IsStringWord word octets → AreStrings (front ++ word ∷ []) (made ++ octets)
 strings_word [] made word octets none is =
     (octets, [], is, refl, ap (λ front. front ++ octets) none ∙ sym (append-nil octets))
-strings_word (first ∷ front) made word octets (head, rest, is_first, are, same) is =
-    (
-      head,
-      rest ++ octets,
-      is_first,
-      strings_word front rest word octets are is,
-      ap (λ all. all ++ octets) same ∙ append_assoc head rest octets,
-    )
+strings_word (first ∷ front) made word octets (head, rest, is_first, are, same) is = (
+  head,
+  rest ++ octets,
+  is_first,
+  strings_word front rest word octets are is,
+  ap (λ all. all ++ octets) same ∙ append_assoc head rest octets,
+)
 
 stops : (front : List (List ℕ)) (word : List ℕ) (more : List (List ℕ)) (octets : List ℕ)
     → ((one : List ℕ) → ¬ IsStringWord word one) → ¬ AreStrings ((front ++ word ∷ []) ++ more) octets

@@ -70,8 +70,7 @@ sized_goes_on None digits half text octets small are same total left whole =
     let of_text = length-map {B = ℕ} text to_ascii_lowercase in
     let of_octets = length-append (flat_map hex_text octets) [] in
     let doubled : length text ≡ 2 * length octets = omega (arith, lengths, of_text, of_octets, even octets) in
-    let all_digits = length-append text (zeros k) in
-    (
+    let all_digits = length-append text (zeros k) in (
       zeros k,
       octets ++ nulls k,
       octets_then octets k are,
@@ -87,8 +86,7 @@ sized_goes_on (Some value) digits half text octets small are same total left who
     let all_digits = length-append text (48 ∷ zeros k) in
     let now = then_zeros k (text ++ 48 ∷ []) (octets ++ octet ∷ []) (closed text octets value same small) in
     let regrouped : map to_ascii_lowercase (text ++ 48 ∷ zeros k) ≡ flat_map hex_text ((octets ++ octet ∷ []) ++ nulls k) =
-      ap (map to_ascii_lowercase) (sym (append_assoc text (48 ∷ []) (zeros k))) ∙ now in
-    (
+    ap (map to_ascii_lowercase) (sym (append_assoc text (48 ∷ []) (zeros k))) ∙ now in (
       48 ∷ zeros k,
       (octets ++ octet ∷ []) ++ nulls k,
       octets_then (octets ++ octet ∷ []) k (one_more octets octet are (omega (arith, small))),

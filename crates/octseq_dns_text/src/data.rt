@@ -1,5 +1,5 @@
 //! The data of a record.
-ghost use Rattle.std.specs.Prelude.{◌≡◌, ◌+◌, true, ℕ, List, length, option_map, IsNone, IfSome, IfOk, IfErr, OnErr, IsErrOf};
+ghost use Rattle.std.specs.Prelude.{◌≡◌, ◌+◌, true, ℕ, Option, List, length, option_map, IsNone, IfSome, IfOk, IfErr, OnErr, IsErrOf};
 ghost use Rattle.octseq_dns_name.specs.Read.{labels_of};
 ghost use Rattle.octseq_dns_scan.specs.Word.{TakesWord};
 ghost use Rattle.octseq_dns_scan.specs.Words.{ahead_of, offset_of};
@@ -21,6 +21,14 @@ use octseq::{AsOctets, OctetsBuilder, ReadError, Truncate};
 use octseq_dns_data::{Class, Rtype};
 use octseq_dns_name::ParsedName;
 use octseq_dns_scan::{Words, scan_u16};
+
+/// Words are one data of a type and a class at most.
+///
+/// It does nothing. Calling it brings the law into the caller's proof.
+pub fn one_reading_of_data_text()
+    ensures { (origin : Option (List (List ℕ))) (rtype class : ℕ) (words : List (List ℕ)) (octets other : List ℕ)
+        → IsDataText origin rtype class words octets → IsDataText origin rtype class words other → octets ≡ other }
+{}
 
 /// Reads the data of a record from the words that are left of its line, and appends its octets in wire form, with names
 /// in plain form: RFC 1035, 5.1. Data of any type may be opaque: `\#`, the number of its octets, and the octets in
@@ -137,7 +145,7 @@ fn append_fields<R: AsOctets + Copy, B: OctetsBuilder>(
         (ahead_of words.new) (offset_of words.new) full (B.content target.new)) }
     ensures fault { (offset : ℕ) → IsErrOf result (ScanError.Malformed offset) → (tail : Tail)
         → IsFault (IsLayoutText (option_map (λ name. labels_of name.now) origin.entry) fields.now tail)
-            (ahead_of words.old) (offset_of words.old) offset }
+        (ahead_of words.old) (offset_of words.old) offset }
     ensures short { ¬ IsErrOf result ScanError.Short }
     ensures memory { IsErrOf result ScanError.Memory → B.asks ≡ true }
     ensures grows { Grows (B.content target.old) (B.content target.new) }

@@ -10,5 +10,5 @@ mod runs;
 mod tail;
 mod word;
 
-pub use data::scan_data;
+pub use data::{one_reading_of_data_text, scan_data};
 pub use error::ScanError;

@@ -11,9 +11,7 @@ use crate::output::append;
 use crate::runs::scan_some_runs;
 use crate::word::string_octets;
 use octseq::{OctetsBuilder, Truncate};
-use octseq_dns_scan::{
-    Base64Reader, HexReader, StringError, Words, scan_string, string_len,
-};
+use octseq_dns_scan::{Base64Reader, HexReader, StringError, Words, scan_string, string_len};
 
 /// What comes after the fields, up to the end of the text.
 #[derive(Clone, Copy, Debug, PartialEq, Eq)]

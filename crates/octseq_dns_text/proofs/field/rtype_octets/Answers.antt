@@ -8,8 +8,7 @@ use Rattle.octseq_dns_text.proofs.field.rtype_octets.Goals as goal
 pub returns-in-Ok-parse-clause-some : goal.returns-in-Ok-parse-clause-some
 returns-in-Ok-parse-clause-some c =
     let rtype = c.in-Ok-parse.rtype in
-    let text : c.in-Ok.text.now ≡ c.args.word.now = search rules in
-    (
+    let text : c.in-Ok.text.now ≡ c.args.word.now = search rules in (
       rtype,
       subst (λ t. ReadsRtype t rtype) text c.in-Ok-parse.ensures.value,
       c.held.ensures.content ∙ c.to_be_bytes.ensures ∙ made_be_2 c.to_int.result ∙ ap (octets_be 2) c.to_int.ensures,
