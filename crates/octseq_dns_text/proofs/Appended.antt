@@ -1,5 +1,6 @@
 -- Octets that are appended to a content as far as they fit.
-use Rattle.std.proofs.Common.{◌≡◌, ℕ, ◌+◌, ◌<◌, ◌↔◌, Bool, true, false, List, [], ◌++◌, length, refl, sym, ap, ◌∙◌, subst}
+use Rattle.std.proofs.Common.{◌≡◌, ℕ, ◌+◌, ◌<◌, ◌↔◌, Bool, true, false, List, [], ◌++◌, length, refl, sym, ap, ◌∙◌}
+use Rattle.std.proofs.Common.{subst}
 use Rattle.std.proofs.Common.{append_assoc, length-append, Option, Some, None, arith}
 use Rattle.std.proofs.lemmas.List.{append-nil}
 use Rattle.octseq.specs.Limit.{IsPast}
@@ -12,7 +13,8 @@ past_more None n m k same past = past
 pub adds_none : (limit : Option ℕ) (full : Bool) (content : List ℕ) → Adds limit full content full content []
 adds_none limit full content base made held = record {
   fits = λ not_full. held.fits not_full ∙ ap (λ more. base ++ more) (sym (append-nil made));
-  past = λ is_full. past_more limit (length base + length made) _ 0 (omega (arith, length-append made [])) (held.past is_full);
+  past = λ is_full. past_more limit (length base + length made) _ 0 (omega (arith, length-append made []))
+      (held.past is_full);
 }
 
 pub adds_more : (limit : Option ℕ) (a b c : Bool) (old middle new front rest : List ℕ) → Adds limit a old b middle front
@@ -26,7 +28,10 @@ pub adds_fit : (limit : Option ℕ) (full : Bool) (old new octets : List ℕ) �
     → Adds limit full old full new octets
 adds_fit limit full old new octets same base made held = record {
   fits = λ not_full. same ∙ ap (λ front. front ++ octets) (held.fits not_full) ∙ append_assoc base made octets;
-  past = λ is_full. past_more limit (length base + length made) _ (length octets) (omega (arith, length-append made octets))
+  past = λ is_full. past_more limit (length base + length made) _ (length octets) (omega (
+    arith,
+    length-append made octets,
+  ))
       (held.past is_full);
 }
 
@@ -41,7 +46,10 @@ adds_past limit false old octets past base made held = record {
 }
 adds_past limit true old octets past base made held = record {
   fits = λ not_full. absurd (cc);
-  past = λ is_full. past_more limit (length base + length made) _ (length octets) (omega (arith, length-append made octets))
+  past = λ is_full. past_more limit (length base + length made) _ (length octets) (omega (
+    arith,
+    length-append made octets,
+  ))
       (held.past refl);
 }
 

@@ -1,6 +1,7 @@
 -- Fields, and what comes after them.
 use Rattle.std.proofs.Common.{◌≡◌, ℕ, ◌+◌, ◌≤◌, ◌<◌, Bool, true, false, List, [], ◌∷◌, ◌++◌, length, refl, sym, ap, ◌∙◌}
-use Rattle.std.proofs.Common.{subst, append_assoc, arith, Option, Some, None, Result, Ok, Err, codes, decimal, inl, length-append, rules}
+use Rattle.std.proofs.Common.{subst, append_assoc, arith, Option, Some, None, Result, Ok, Err, codes, decimal, inl}
+use Rattle.std.proofs.Common.{length-append, rules}
 use Rattle.std.proofs.lemmas.List.{append-nil}
 use Rattle.std.specs.Str.Parse.{digits_value}
 use Rattle.octseq.proofs.WrittenBack.{AreOctets}
@@ -22,6 +23,7 @@ use Rattle.octseq_dns_text.proofs.ReadTexts.{begins_more, words_more, reached_fa
 use Rattle.octseq_dns_text.proofs.ReadTexts.{reads_ok, reads_short}
 use Rattle.octseq_dns_text.proofs.RunTexts.{some_runs_go}
 use Rattle.octseq_dns_text.proofs.StringTexts.{value_goes, some_strings_go, string_a}
+use Rattle.octseq_dns_text.proofs.TypesTexts.{none_distinct, types_go}
 use Rattle.octseq_dns_text.specs.Fields.{IsFieldText}
 use Rattle.octseq_dns_text.specs.Layouts.{IsLayoutText}
 use Rattle.octseq_dns_text.specs.Output.{Holds, unless_full}
@@ -75,8 +77,16 @@ field_sample origin field.Ipv6 =
 field_sample None field.Name = (46 ∷ [], wire [], ([], refl, (refl, tt, omega arith)))
 field_sample (Some origin) field.Name = (46 ∷ [], wire [], ([], inl refl, (refl, tt, omega arith)))
 field_sample origin field.String = (97 ∷ [], 1 ∷ 97 ∷ [], string_a)
-field_sample origin field.Tag =
-    (97 ∷ [], 1 ∷ 97 ∷ [], (97 ∷ [], (refl, record { some = λ never. absurd (cc); alphanumeric = search rules }), omega arith, refl))
+field_sample origin field.Tag = (
+  97 ∷ [],
+  1 ∷ 97 ∷ [],
+  (
+    97 ∷ [],
+    (refl, record { some = λ never. absurd (cc); alphanumeric = search rules }),
+    omega arith,
+    refl,
+  ),
+)
 field_sample origin field.Salt = (45 ∷ [], 0 ∷ [], ([], inl (refl, refl), omega arith, refl))
 field_sample origin field.OwnerHash =
     (48 ∷ 48 ∷ [], 1 ∷ 0 ∷ [], (0 ∷ [], (omega arith, (omega arith, tt), refl), omega arith, refl))
@@ -87,6 +97,18 @@ tail_goes tail.Value = value_goes 0 (omega arith)
 tail_goes tail.Target = value_goes 1 (omega arith)
 tail_goes tail.Strings = some_strings_go
 tail_goes tail.Hex = some_runs_go IsHexText (48 ∷ 48 ∷ [], 0 ∷ [], (omega arith, tt), refl)
+tail_goes tail.Types = types_go [] [] tt none_distinct
+tail_goes tail.Params = (
+  [],
+  [],
+  record {
+    said = [];
+    each = tt;
+    sorted = [];
+    moved = search rules;
+    are = search rules;
+  },
+)
 tail_goes tail.Base64 = some_runs_go IsBase64Text (codes "AA==", 0 ∷ [], (omega arith, tt), refl)
 
 pub layout_sample : (origin : Option (List (List ℕ))) (fields : List Field) (it : Tail)
@@ -105,7 +127,16 @@ pub fields_join : (origin : Option (List (List ℕ))) (done rest : List Field) (
 fields_join origin [] rest it front words made octets (no_words, none) is =
     subst (λ all. IsLayoutText origin rest it (all ++ words) (made ++ octets)) (sym no_words)
     (subst (λ all. IsLayoutText origin rest it words (all ++ octets)) (sym none) is)
-fields_join origin (one ∷ done) rest it front words made octets (word, more, first, left, split, is_one, are, same) is = (
+fields_join origin (one ∷ done) rest it front words made octets (
+  word,
+  more,
+  first,
+  left,
+  split,
+  is_one,
+  are,
+  same,
+) is = (
   word,
   more ++ words,
   first,
@@ -258,12 +289,15 @@ after_tail origin fields it ahead start limit asks base rest place true content 
 after_tail origin fields it ahead start limit asks base rest place full content new (Err (ScanError.Malformed offset))
     reached reads =
     reads_malformed (IsLayoutText origin fields it) limit asks ahead start offset base new
-    (tail_fault origin fields it ahead start limit base rest place full content reached offset (reads.fault offset refl))
-after_tail origin fields it ahead start limit asks base rest place full content new (Err ScanError.Short) reached reads =
+    (tail_fault origin fields it ahead start limit base rest place full content reached offset
+    (reads.fault offset refl))
+after_tail origin fields it ahead start limit asks base rest place full content new
+    (Err ScanError.Short) reached reads =
     let (words, octets, are, is, past) = reads.short refl in
     reads_short (IsLayoutText origin fields it) limit asks ahead start base new (reached.front ++ words)
     (reached.made ++ octets) (words_more reached.front words ahead rest reached.begins are)
     (joined origin fields it reached.front words reached.made octets reached.is_front is)
     (past_all limit base reached.made content full octets reached.holds past)
-after_tail origin fields it ahead start limit asks base rest place full content new (Err ScanError.Memory) reached reads =
+after_tail origin fields it ahead start limit asks base rest place full content new
+    (Err ScanError.Memory) reached reads =
     reads_memory (IsLayoutText origin fields it) limit asks ahead start base new (reads.memory refl)

@@ -16,6 +16,8 @@ use Rattle.octseq_dns_scan.proofs.HexTexts.{hex_same}
 use Rattle.octseq_dns_scan.proofs.Spellings.{string_once}
 use Rattle.octseq_dns_scan.specs.Hex.{IsHexText}
 use Rattle.octseq_dns_scan.specs.Spelled.{SpellsString}
+use Rattle.octseq_dns_text.proofs.ParamsTexts.{params_once}
+use Rattle.octseq_dns_text.proofs.TypesTexts.{types_once}
 use Rattle.octseq_dns_text.proofs.WordTexts.{hex_text_length}
 use Rattle.octseq_dns_text.specs.DataText.{IsSizedText, opaque_word, IsDataText}
 use Rattle.octseq_dns_text.specs.Fields.{SpellsAt, IsNameWord, IsTagWord, IsFieldText}
@@ -110,6 +112,8 @@ tail_one tail.Target words octets other is also = value_one 1 words octets other
 tail_one tail.Strings words octets other (some, are) (too, also) = strings_one words octets other are also
 tail_one tail.Hex words octets other (some, (are, is)) (too, (also, equal)) =
     hex_same octets other are also (sym is ∙ equal)
+tail_one tail.Types words octets other is also = types_once words octets other is also
+tail_one tail.Params words octets other is also = params_once words octets other is also
 tail_one tail.Base64 words octets other (some, (are, is)) (too, (also, equal)) =
     base64_same octets other are also (sym is ∙ equal)
 

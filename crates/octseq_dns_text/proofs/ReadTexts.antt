@@ -1,5 +1,6 @@
 -- How far a text was read, and what its reader says.
-use Rattle.std.proofs.Common.{◌≡◌, ℕ, ◌+◌, Bool, true, false, List, [], ◌∷◌, ◌++◌, length, refl, sym, ap, ◌∙◌, subst}
+use Rattle.std.proofs.Common.{◌≡◌, ℕ, ◌+◌, Bool, true, false, ◌||◌, List, [], ◌∷◌, ◌++◌, length, refl, sym, ap, ◌∙◌}
+use Rattle.std.proofs.Common.{subst}
 use Rattle.std.proofs.Common.{append_assoc, length-append, Option, Result, Ok, Err, OnOk, OnErr, take, arith}
 use Rattle.std.proofs.lemmas.List.{append-nil}
 use Rattle.std.proofs.Math.Seq.{take-append_seam}
@@ -104,6 +105,50 @@ reads_ok Is limit asks ahead start old new words octets are is same = record {
   short = λ is_err. absurd (cc);
   memory = λ is_err. absurd (cc);
 }
+
+-- fewer may request memory
+pub reads_asks : (Is : List (List ℕ) → List ℕ → Type 0) (limit : Option ℕ) (asks may : Bool)
+    (result : Result (Unit {0}) ScanError) (ahead : List ℕ) (start : ℕ) (old new : List ℕ) → (asks ≡ true → may ≡ true)
+    → ReadsText Is limit asks result ahead start old new → ReadsText Is limit may result ahead start old new
+reads_asks Is limit asks may result ahead start old new more reads = record {
+  ok = reads.ok;
+  fault = reads.fault;
+  short = reads.short;
+  memory = λ is_err. more (reads.memory is_err);
+}
+
+pub or_left : (a b : Bool) → a ≡ true → (a || b) ≡ true
+or_left true b is = refl
+or_left false b is = absurd (cc)
+
+or_true : (a : Bool) → (a || true) ≡ true
+or_true true = refl
+or_true false = refl
+
+pub reads_or : (Is : List (List ℕ) → List ℕ → Type 0) (limit : Option ℕ) (asks list : Bool)
+    (result : Result (Unit {0}) ScanError) (ahead : List ℕ) (start : ℕ) (old new : List ℕ)
+    → ReadsText Is limit asks result ahead start old new → ReadsText Is limit (asks || list) result ahead start old new
+reads_or Is limit asks list result ahead start old new =
+    reads_asks Is limit asks (asks || list) result ahead start old new (or_left asks list)
+
+-- what a reader says that cuts the content itself
+pub of_scans : (Is : List (List ℕ) → List ℕ → Type 0) (limit : Option ℕ) (asks : Bool)
+    (result : Result (Unit {0}) ScanError) (ahead : List ℕ) (start : ℕ) (old new : List ℕ)
+    → Scans Is limit true result ahead start old new → ReadsText Is limit (asks || true) result ahead start old new
+of_scans Is limit asks result ahead start old new scanned = record {
+  ok = scanned.ok;
+  fault = scanned.fault;
+  short = scanned.short;
+  memory = λ is_err. or_true asks;
+}
+
+pub scans_grow : (Is : List (List ℕ) → List ℕ → Type 0) (limit : Option ℕ) (asks : Bool)
+    (result : Result (Unit {0}) ScanError) (ahead : List ℕ) (start : ℕ) (old new : List ℕ)
+    → Scans Is limit asks result ahead start old new → Grows old new
+scans_grow Is limit asks (Ok value) ahead start old new scanned =
+    let (words, octets, are, is, same) = scanned.ok in
+    (octets, same)
+scans_grow Is limit asks (Err e) ahead start old new scanned = ([], scanned.kept ∙ sym (append-nil old))
 
 -- a word comes before what is read
 after_word_fault : (Is After : List (List ℕ) → List ℕ → Type 0) (word ahead rest : List ℕ) (start place : ℕ)

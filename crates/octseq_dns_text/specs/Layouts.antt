@@ -6,9 +6,10 @@ use Rattle.octseq_dns_text.specs.Fields.{IsFieldText}
 use Rattle.octseq_dns_text.specs.Tails.{IsTailText}
 use Rattle.octseq_dns_text.specs.declared.field.Field.{Field}
 use Rattle.octseq_dns_text.specs.declared.field.Field.TheVariants.{U8, U16, U32, Rtype, Time, Ipv4, Ipv6, Name, String}
-use Rattle.octseq_dns_text.specs.declared.field.Field.TheVariants.{Tag, Salt}
+use Rattle.octseq_dns_text.specs.declared.field.Field.TheVariants.{Tag, Salt, OwnerHash}
 use Rattle.octseq_dns_text.specs.declared.tail.Tail.{Tail}
-use Rattle.octseq_dns_text.specs.declared.tail.Tail.TheVariants.{Nothing, Value, Target, Strings, Hex, Base64}
+use Rattle.octseq_dns_text.specs.declared.tail.Tail.TheVariants.{Nothing, Value, Target, Strings, Hex, Base64, Types}
+use Rattle.octseq_dns_text.specs.declared.tail.Tail.TheVariants.{Params}
 
 -- Fields, and what comes after them.
 pub record TextLayout : Type 0 where
@@ -41,19 +42,25 @@ layouts =
     ∷ row types.srv (U16 ∷ U16 ∷ U16 ∷ Name ∷ []) Nothing
     ∷ row types.naptr (U16 ∷ U16 ∷ String ∷ String ∷ String ∷ Name ∷ []) Nothing
     ∷ row types.dname (Name ∷ []) Nothing
-    -- RFC 4034, 5.3; RFC 4255, 3.2; RFC 4034, 3.2 and 2.2; RFC 4701, 3.2; RFC 5155, 4.3
+    -- RFC 4034, 5.3; RFC 4255, 3.2; RFC 4034, 3.2, 4.2 and 2.2; RFC 4701, 3.2; RFC 5155, 3.3 and 4.3
     ∷ row types.ds (U16 ∷ U8 ∷ U8 ∷ []) Hex
     ∷ row types.sshfp (U8 ∷ U8 ∷ []) Hex
     ∷ row types.rrsig (Rtype ∷ U8 ∷ U8 ∷ U32 ∷ Time ∷ Time ∷ U16 ∷ Name ∷ []) Base64
+    ∷ row types.nsec (Name ∷ []) Types
     ∷ row types.dnskey (U16 ∷ U8 ∷ U8 ∷ []) Base64
     ∷ row types.dhcid [] Base64
+    ∷ row types.nsec3 (U8 ∷ U8 ∷ U16 ∷ Salt ∷ OwnerHash ∷ []) Types
     ∷ row types.nsec3param (U8 ∷ U8 ∷ U16 ∷ Salt ∷ []) Nothing
-    -- RFC 6698, 2.2; RFC 8162, 2; RFC 7344, 3; RFC 7929, 2.3; RFC 7553, 4.5; RFC 8659, 4.1.1
+    -- RFC 6698, 2.2; RFC 8162, 2; RFC 7344, 3; RFC 7929, 2.3; RFC 7477, 2.2; RFC 9460, 2.1; RFC 7553, 4.5; RFC 8659,
+    -- 4.1.1
     ∷ row types.tlsa (U8 ∷ U8 ∷ U8 ∷ []) Hex
     ∷ row types.smimea (U8 ∷ U8 ∷ U8 ∷ []) Hex
     ∷ row types.cds (U16 ∷ U8 ∷ U8 ∷ []) Hex
     ∷ row types.cdnskey (U16 ∷ U8 ∷ U8 ∷ []) Base64
     ∷ row types.openpgpkey [] Base64
+    ∷ row types.csync (U32 ∷ U16 ∷ []) Types
+    ∷ row types.svcb (U16 ∷ Name ∷ []) Params
+    ∷ row types.https (U16 ∷ Name ∷ []) Params
     ∷ row types.uri (U16 ∷ U16 ∷ []) Target
     ∷ row types.caa (U8 ∷ Tag ∷ []) Value
     ∷ []
@@ -69,7 +76,7 @@ layout_in_class = layout_among layouts
 -- whether a type has a layout in class IN alone
 unfoldable pub is_of_class_in : ℕ → Bool
 is_of_class_in rtype = nat_eq rtype types.a || nat_eq rtype types.aaaa || nat_eq rtype types.srv
-    || nat_eq rtype types.naptr || nat_eq rtype types.dhcid
+    || nat_eq rtype types.naptr || nat_eq rtype types.dhcid || nat_eq rtype types.svcb || nat_eq rtype types.https
 
 -- the layout of a type and a class, if it has one
 abbrev pub layout_of : ℕ → ℕ → Option TextLayout

@@ -35,8 +35,8 @@ pub record IsFault (Is : List (List ℕ) → List ℕ → Type 0) (ahead : List 
   -- none ends there, if it is the end
   pub ends : rest ≡ [] → (octets : List ℕ) → ¬ Is front octets
 
--- What is left of a text is read into octets, which are appended to a content. So a text is refused as malformed exactly
--- if it is none, and as short exactly if the content would exceed its limit, memory aside.
+-- What is left of a text is read into octets, which are appended to a content. So, memory aside, it is refused as
+-- malformed exactly if it is no text, and as short exactly if the content would exceed its limit.
 pub record Scans (Is : List (List ℕ) → List ℕ → Type 0) (limit : Option ℕ) (asks : Bool)
     (result : Result (Unit {0}) ScanError) (ahead : List ℕ) (start : ℕ) (old new : List ℕ) : Type 0 where
   -- it is read

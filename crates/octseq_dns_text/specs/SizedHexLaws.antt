@@ -1,5 +1,6 @@
 -- Some text goes on from what a reader of hexadecimal of a known number of digits has read.
-use Rattle.std.proofs.Common.{◌≡◌, ℕ, zero, suc, ◌+◌, ◌-◌, ◌*◌, ◌/◌, ◌%◌, ◌<◌, List, [], ◌∷◌, ◌++◌, map, length, refl, sym}
+use Rattle.std.proofs.Common.{◌≡◌, ℕ, zero, suc, ◌+◌, ◌-◌, ◌*◌, ◌/◌, ◌%◌, ◌<◌, List, [], ◌∷◌, ◌++◌, map, length, refl}
+use Rattle.std.proofs.Common.{sym}
 use Rattle.std.proofs.Common.{ap, ◌∙◌, append_assoc, arith, length-append, Option, Some, None, unwrap_or}
 use Rattle.std.proofs.lemmas.List.{append-nil, map-append, length-map}
 use Rattle.std.proofs.lemmas.List.Concat.{flat_map-append}
@@ -38,7 +39,8 @@ octets_then [] (suc n) are = (omega arith, octets_then [] n tt)
 octets_then (x ∷ octets) n are = (are.0, octets_then octets n are.1)
 
 then_zeros : (n : ℕ) (text octets : List ℕ) → IsHexText text octets → IsHexText (text ++ zeros n) (octets ++ nulls n)
-then_zeros n text octets is = map-append to_ascii_lowercase text (zeros n) ∙ ap (λ front. front ++ map to_ascii_lowercase (zeros n)) is
+then_zeros n text octets is = map-append to_ascii_lowercase text (zeros n) ∙ ap
+    (λ front. front ++ map to_ascii_lowercase (zeros n)) is
     ∙ ap (λ more. flat_map hex_text octets ++ more) (null_digits n) ∙ sym (flat_map-append hex_text octets (nulls n))
 
 even : (octets : List ℕ) → length (flat_map hex_text octets) ≡ 2 * length octets
@@ -46,7 +48,8 @@ even [] = refl
 even (x ∷ octets) = omega (arith, even octets)
 
 -- an open digit is closed by a zero
-closed : (text octets : List ℕ) (value : ℕ) → map to_ascii_lowercase text ≡ flat_map hex_text octets ++ digit_char value ∷ []
+closed : (text octets : List ℕ) (value : ℕ) → map to_ascii_lowercase text ≡ flat_map hex_text octets ++ digit_char
+    value ∷ []
     → value < 16 → IsHexText (text ++ 48 ∷ []) (octets ++ (value * 16) ∷ [])
 closed text octets value same small =
     let high : value ≡ (value * 16) / 16 = omega arith in
@@ -74,7 +77,14 @@ sized_goes_on None digits half text octets small are same total left whole =
       zeros k,
       octets ++ nulls k,
       octets_then octets k are,
-      (then_zeros k text octets (same ∙ append-nil (flat_map hex_text octets)), omega (arith, all_digits, length_zeros k)),
+      (
+        then_zeros k text octets (same ∙ append-nil (flat_map hex_text octets)),
+        omega (
+          arith,
+          all_digits,
+          length_zeros k,
+        ),
+      ),
     )
 sized_goes_on (Some value) digits half text octets small are same total left whole =
     let k = half - length octets - 1 in
@@ -85,7 +95,8 @@ sized_goes_on (Some value) digits half text octets small are same total left who
     let doubled : length text ≡ (2 * length octets) + 1 = omega (arith, lengths, of_text, of_octets, even octets) in
     let all_digits = length-append text (48 ∷ zeros k) in
     let now = then_zeros k (text ++ 48 ∷ []) (octets ++ octet ∷ []) (closed text octets value same small) in
-    let regrouped : map to_ascii_lowercase (text ++ 48 ∷ zeros k) ≡ flat_map hex_text ((octets ++ octet ∷ []) ++ nulls k) =
+    let regrouped : map to_ascii_lowercase (text ++ 48 ∷ zeros k) ≡ flat_map hex_text
+    ((octets ++ octet ∷ []) ++ nulls k) =
     ap (map to_ascii_lowercase) (sym (append_assoc text (48 ∷ []) (zeros k))) ∙ now in (
       48 ∷ zeros k,
       (octets ++ octet ∷ []) ++ nulls k,

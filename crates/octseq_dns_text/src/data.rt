@@ -1,14 +1,16 @@
 //! The data of a record.
-ghost use Rattle.std.specs.Prelude.{◌≡◌, ◌+◌, true, ℕ, Option, List, length, option_map, IsNone, IfSome, IfOk, IfErr, OnErr, IsErrOf};
+ghost use Rattle.std.specs.Prelude.{◌≡◌, ◌+◌, ◌||◌, true, ℕ, Option, List, length, option_map, IsNone, IfSome, IfOk};
+ghost use Rattle.std.specs.Prelude.{IfErr, OnErr, IsErrOf};
 ghost use Rattle.octseq_dns_name.specs.Read.{labels_of};
 ghost use Rattle.octseq_dns_scan.specs.Word.{TakesWord};
 ghost use Rattle.octseq_dns_scan.specs.Words.{ahead_of, offset_of};
-ghost use Rattle.octseq_dns_text.specs.DataText.{IsSizedText, opaque_word, IsDataText};
+ghost use Rattle.octseq_dns_text.specs.DataText.{IsSizedText, opaque_word, ends_in_list, IsDataText};
 ghost use Rattle.octseq_dns_text.specs.Fields.{IsFieldText};
-ghost use Rattle.octseq_dns_text.specs.Layouts.{IsLayoutText};
+ghost use Rattle.octseq_dns_text.specs.Layouts.{layout_of, IsLayoutText};
 ghost use Rattle.octseq_dns_text.specs.Output.{Adds, Grows, unless_full};
 ghost use Rattle.octseq_dns_text.specs.Reached.{Reached, ReadsText};
 ghost use Rattle.octseq_dns_text.specs.Scans.{Scans, IsFault};
+ghost use Rattle.octseq_dns_text.specs.Tails.{has_list};
 ghost use Rattle.octseq_dns_text.specs.declared.tail.Tail.{Tail};
 
 use crate::error::ScanError;
@@ -21,6 +23,7 @@ use octseq::{AsOctets, OctetsBuilder, ReadError, Truncate};
 use octseq_dns_data::{Class, Rtype};
 use octseq_dns_name::ParsedName;
 use octseq_dns_scan::{Words, scan_u16};
+use std::alloc::Global;
 
 /// Words are one data of a type and a class at most.
 ///
@@ -38,8 +41,10 @@ pub fn one_reading_of_data_text()
 ///
 /// `Malformed` if the words aren't data of the type and the class, with the offset of the first word that isn't what
 /// has to come there; the end of the text counts as a word. `Short` if the content would exceed the limit of its type.
-/// Otherwise `Memory` if a request for memory was refused. The content is then unchanged.
+/// Otherwise `Memory` if a request for memory was refused, which a set of types and service parameters make for a list.
+/// The content is then unchanged.
 pub fn scan_data<R: AsOctets + Copy, B: OctetsBuilder + Truncate>(
+    alloc: Global,
     words: Words,
     rtype: Rtype,
     class: Class,
@@ -47,16 +52,18 @@ pub fn scan_data<R: AsOctets + Copy, B: OctetsBuilder + Truncate>(
     target: &mut B,
 ) -> Result<(), ScanError>
     ensures scanned { Scans (IsDataText (option_map (λ name. labels_of name.now) origin.entry) rtype class) B.limit
-        B.asks result (ahead_of words.entry) (offset_of words.entry) (B.content target.old) (B.content target.new) }
+        (B.asks || ends_in_list (layout_of rtype class)) result (ahead_of words.entry) (offset_of words.entry)
+        (B.content target.old) (B.content target.new) }
     ensures borrows { B.borrows target.new ≡ B.borrows target.old }
 {
     let before = target.len();
-    let scanned = append_data(words, rtype, class, origin, target);
+    let scanned = append_data(alloc, words, rtype, class, origin, target);
     kept(target, before, scanned)
 }
 
 /// Appends the data that the words are. If they aren't, some of it may be appended.
 fn append_data<R: AsOctets + Copy, B: OctetsBuilder + Truncate>(
+    alloc: Global,
     words: Words,
     rtype: Rtype,
     class: Class,
@@ -64,14 +71,15 @@ fn append_data<R: AsOctets + Copy, B: OctetsBuilder + Truncate>(
     target: &mut B,
 ) -> Result<(), ScanError>
     ensures reads { ReadsText (IsDataText (option_map (λ name. labels_of name.now) origin.entry) rtype class) B.limit
-        B.asks result (ahead_of words.entry) (offset_of words.entry) (B.content target.old) (B.content target.new) }
+        (B.asks || ends_in_list (layout_of rtype class)) result (ahead_of words.entry) (offset_of words.entry)
+        (B.content target.old) (B.content target.new) }
     ensures grows { Grows (B.content target.old) (B.content target.new) }
     ensures borrows { B.borrows target.new ≡ B.borrows target.old }
 {
     match after_opaque_word(words) {
         Some(after) => append_opaque(after, target),
         None => match layout_of(rtype, class) {
-            Some(layout) => append_layout(words, layout, origin, target),
+            Some(layout) => append_layout(alloc, words, layout, origin, target),
             None => Err(ScanError::Malformed(words.offset())),
         },
     }
@@ -115,20 +123,21 @@ fn append_opaque<B: OctetsBuilder>(words: Words, target: &mut B) -> Result<(), S
 
 /// Appends the data with a layout that the words are. If they aren't, some of it may be appended.
 fn append_layout<R: AsOctets + Copy, B: OctetsBuilder + Truncate>(
+    alloc: Global,
     words: Words,
     layout: Layout,
     origin: Option<&ParsedName<R>>,
     target: &mut B,
 ) -> Result<(), ScanError>
     ensures reads { ReadsText (IsLayoutText (option_map (λ name. labels_of name.now) origin.entry)
-        layout.fields.now layout.tail) B.limit B.asks result (ahead_of words.entry) (offset_of words.entry)
-        (B.content target.old) (B.content target.new) }
+        layout.fields.now layout.tail) B.limit (B.asks || has_list layout.tail) result (ahead_of words.entry)
+        (offset_of words.entry) (B.content target.old) (B.content target.new) }
     ensures grows { Grows (B.content target.old) (B.content target.new) }
     ensures borrows { B.borrows target.new ≡ B.borrows target.old }
 {
     let mut ahead = words;
     match append_fields(&mut ahead, layout.fields, origin, target) {
-        Ok(full) => unless_full(full, scan_tail(ahead, layout.tail, target)),
+        Ok(full) => unless_full(full, scan_tail(alloc, ahead, layout.tail, target)),
         Err(error) => Err(error),
     }
 }

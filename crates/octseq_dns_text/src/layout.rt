@@ -30,7 +30,13 @@ fn is_of_class_in(rtype: Rtype) -> bool
 {
     matches!(
         rtype,
-        Rtype::A | Rtype::AAAA | Rtype::SRV | Rtype::NAPTR | Rtype::DHCID
+        Rtype::A
+            | Rtype::AAAA
+            | Rtype::SRV
+            | Rtype::NAPTR
+            | Rtype::DHCID
+            | Rtype::SVCB
+            | Rtype::HTTPS
     )
 }
 
@@ -55,14 +61,19 @@ fn layout_in_class(rtype: Rtype) -> Option<Layout>
         Rtype::DS => with_tail(&[Field::U16, Field::U8, Field::U8], Tail::Hex),
         Rtype::SSHFP => with_tail(&[Field::U8, Field::U8], Tail::Hex),
         Rtype::RRSIG => with_tail(&RRSIG, Tail::Base64),
+        Rtype::NSEC => with_tail(&[Field::Name], Tail::Types),
         Rtype::DNSKEY => with_tail(&[Field::U16, Field::U8, Field::U8], Tail::Base64),
         Rtype::DHCID => with_tail(&[], Tail::Base64),
+        Rtype::NSEC3 => with_tail(&NSEC3, Tail::Types),
         Rtype::NSEC3PARAM => alone(&[Field::U8, Field::U8, Field::U16, Field::Salt]),
         Rtype::TLSA => with_tail(&[Field::U8, Field::U8, Field::U8], Tail::Hex),
         Rtype::SMIMEA => with_tail(&[Field::U8, Field::U8, Field::U8], Tail::Hex),
         Rtype::CDS => with_tail(&[Field::U16, Field::U8, Field::U8], Tail::Hex),
         Rtype::CDNSKEY => with_tail(&[Field::U16, Field::U8, Field::U8], Tail::Base64),
         Rtype::OPENPGPKEY => with_tail(&[], Tail::Base64),
+        Rtype::CSYNC => with_tail(&[Field::U32, Field::U16], Tail::Types),
+        Rtype::SVCB => with_tail(&[Field::U16, Field::Name], Tail::Params),
+        Rtype::HTTPS => with_tail(&[Field::U16, Field::Name], Tail::Params),
         Rtype::URI => with_tail(&[Field::U16, Field::U16], Tail::Target),
         Rtype::CAA => with_tail(&[Field::U8, Field::Tag], Tail::Value),
         _ => None,
@@ -116,4 +127,13 @@ static RRSIG: [Field; 8] = [
     Field::Time,
     Field::U16,
     Field::Name,
+];
+
+/// A next hashed owner name: RFC 5155, 3.3.
+static NSEC3: [Field; 5] = [
+    Field::U8,
+    Field::U8,
+    Field::U16,
+    Field::Salt,
+    Field::OwnerHash,
 ];

@@ -1,17 +1,20 @@
 //! Tails: what comes after the fields of data.
-ghost use Rattle.std.specs.Prelude.{◌≡◌, ◌≤◌, ℕ};
+ghost use Rattle.std.specs.Prelude.{◌≡◌, ◌≤◌, ◌||◌, ℕ};
 ghost use Rattle.octseq_dns_scan.specs.Words.{ahead_of, offset_of};
 ghost use Rattle.octseq_dns_text.specs.Output.{Grows};
 ghost use Rattle.octseq_dns_text.specs.Reached.{ReadsText};
 ghost use Rattle.octseq_dns_text.specs.Scans.{AreSome};
-ghost use Rattle.octseq_dns_text.specs.Tails.{IsNothing, IsValue, AreStrings, IsTailText};
+ghost use Rattle.octseq_dns_text.specs.Tails.{IsNothing, IsValue, AreStrings, IsTailText, has_list};
 
 use crate::error::ScanError;
 use crate::output::append;
+use crate::params::scan_params;
 use crate::runs::scan_some_runs;
+use crate::types::scan_types;
 use crate::word::string_octets;
 use octseq::{OctetsBuilder, Truncate};
 use octseq_dns_scan::{Base64Reader, HexReader, StringError, Words, scan_string, string_len};
+use std::alloc::Global;
 
 /// What comes after the fields, up to the end of the text.
 #[derive(Clone, Copy, Debug, PartialEq, Eq)]
@@ -28,16 +31,21 @@ pub(crate) enum Tail {
     Hex,
     /// Octets in base 64, in one or more runs.
     Base64,
+    /// A set of record types.
+    Types,
+    /// Service parameters.
+    Params,
 }
 
 /// Appends the octets of all words, which are a tail. If they aren't, some may be appended.
 pub(crate) fn scan_tail<B: OctetsBuilder + Truncate>(
+    alloc: Global,
     words: Words,
     tail: Tail,
     target: &mut B,
 ) -> Result<(), ScanError>
-    ensures reads { ReadsText (IsTailText tail) B.limit B.asks result (ahead_of words.entry) (offset_of words.entry)
-        (B.content target.old) (B.content target.new) }
+    ensures reads { ReadsText (IsTailText tail) B.limit (B.asks || has_list tail) result (ahead_of words.entry)
+        (offset_of words.entry) (B.content target.old) (B.content target.new) }
     ensures grows { Grows (B.content target.old) (B.content target.new) }
     ensures borrows { B.borrows target.new ≡ B.borrows target.old }
 {
@@ -48,6 +56,8 @@ pub(crate) fn scan_tail<B: OctetsBuilder + Truncate>(
         Tail::Strings => scan_some_strings(words, target),
         Tail::Hex => scan_some_runs(words, HexReader::new(), target),
         Tail::Base64 => scan_some_runs(words, Base64Reader::new(), target),
+        Tail::Types => scan_types(alloc, words, target),
+        Tail::Params => scan_params(alloc, words, target),
     }
 }
 

@@ -7,6 +7,16 @@ fn equal<T: PartialEq + Debug + Drop>(rt: &impl Abort, what: &str, left: T, righ
     assert_eq!(rt; left, right, "{what}");
 }
 
+/// Returns the value of a result, or ends the test with its error.
+fn unwrap<T, E: Debug + Drop>(rt: &impl Abort, made: Result<T, E>) -> T {
+    match made {
+        Ok(value) => value,
+        Err(error) => panic!(rt; "error: {error:?}"),
+    }
+}
+
 mod data;
+mod params;
 mod refused;
 mod rows;
+mod types;

@@ -7,14 +7,16 @@ use octseq_dns_data::{Class, Rtype};
 use octseq_dns_name::{Name, ParsedName};
 use octseq_dns_scan::Words;
 use octseq_dns_text::{ScanError, scan_data};
+use std::alloc::{AllocGlobal, Global};
 use std::process::Abort;
 use std::test::Fail;
 
 /// Reads texts, and compares their octets.
-fn read_rows(rt: &impl Abort, rows: &[Row]) {
+fn read_rows(rt: &(impl Abort + AllocGlobal), rows: &[Row]) {
     for row in rows {
-        let mut target = Array::<64>::new();
+        let mut target = Array::<128>::new();
         let read = scan_data::<&[u8], _>(
+            rt.alloc(),
             Words::new(row.text),
             Rtype::from_int(row.rtype),
             Class::from_int(row.class),
@@ -42,9 +44,14 @@ fn data_may_be_spelled_in_other_ways(rt: HostRuntime) {
 }
 
 /// Reads an MX record's data with an origin.
-fn read_mx(text: &[u8], origin: &ParsedName<&[u8]>) -> (Result<(), ScanError>, Array<32>) {
+fn read_mx(
+    alloc: Global,
+    text: &[u8],
+    origin: &ParsedName<&[u8]>,
+) -> (Result<(), ScanError>, Array<32>) {
     let mut target = Array::<32>::new();
     let read = scan_data(
+        alloc,
         Words::new(text),
         Rtype::MX,
         Class::IN,
@@ -58,47 +65,63 @@ fn read_mx(text: &[u8], origin: &ParsedName<&[u8]>) -> (Result<(), ScanError>, A
 fn a_name_may_be_relative_to_an_origin(rt: HostRuntime) -> Result<(), Fail> {
     let origin = Name::from_text("example.com.")?;
     let parsed = origin.parsed();
-    let (relative, octets) = read_mx(b"10 a", &parsed);
+    let (relative, octets) = read_mx(rt.alloc(), b"10 a", &parsed);
     assert_equal!(&rt, relative, Ok(()));
     assert_equal!(
         &rt,
         octets.as_slice(),
         b"\0\x0a\x01a\x07example\x03com\0".as_slice()
     );
-    let (same, octets) = read_mx(b"10 @", &parsed);
+    let (same, octets) = read_mx(rt.alloc(), b"10 @", &parsed);
     assert_equal!(&rt, same, Ok(()));
     assert_equal!(
         &rt,
         octets.as_slice(),
         b"\0\x0a\x07example\x03com\0".as_slice()
     );
-    let (whole, octets) = read_mx(b"10 a.", &parsed);
+    let (whole, octets) = read_mx(rt.alloc(), b"10 a.", &parsed);
     assert_equal!(&rt, whole, Ok(()));
     assert_equal!(&rt, octets.as_slice(), b"\0\x0a\x01a\0".as_slice());
     Ok(())
 }
 
 /// Appends a text's data to two octets, in room for five.
-fn append_in_five(rtype: Rtype, text: &[u8]) -> (Result<(), ScanError>, Array<5>) {
+fn append_in_five(
+    alloc: Global,
+    rtype: Rtype,
+    text: &[u8],
+) -> (Result<(), ScanError>, Array<5>) {
     let mut target = Array::<5>::new();
     drop(target.append_slice(b"\x01\x02"));
-    let read = scan_data::<&[u8], _>(Words::new(text), rtype, Class::IN, None, &mut target);
+    let read = scan_data::<&[u8], _>(
+        alloc,
+        Words::new(text),
+        rtype,
+        Class::IN,
+        None,
+        &mut target,
+    );
     (read, target)
 }
 
 #[test]
 fn a_limit_is_kept(rt: HostRuntime) {
-    let (read, octets) = append_in_five(Rtype::TXT, b"a \"\"");
+    let (read, octets) = append_in_five(rt.alloc(), Rtype::TXT, b"a \"\"");
     assert_equal!(&rt, read, Ok(()));
     assert_equal!(&rt, octets.as_slice(), b"\x01\x02\x01a\0".as_slice());
-    let (read, octets) = append_in_five(Rtype::TXT, b"a b");
+    let (read, octets) = append_in_five(rt.alloc(), Rtype::TXT, b"a b");
     assert_equal!(&rt, read, Err(ScanError::Short));
     assert_equal!(&rt, octets.as_slice(), b"\x01\x02".as_slice());
-    let (read, _) = append_in_five(Rtype::TXT, b"a b \"");
+    let (read, _) = append_in_five(rt.alloc(), Rtype::TXT, b"a b \"");
     assert_equal!(&rt, read, Err(ScanError::Malformed(4)));
-    let (read, _) = append_in_five(Rtype::DS, b"1 1 1 ff");
+    let (read, _) = append_in_five(rt.alloc(), Rtype::DS, b"1 1 1 ff");
     assert_equal!(&rt, read, Err(ScanError::Short));
-    let (read, _) = append_in_five(Rtype::DS, b"1 1 1 fff");
+    let (read, octets) = append_in_five(rt.alloc(), Rtype::NSEC, b"a. A");
+    assert_equal!(&rt, read, Err(ScanError::Short));
+    assert_equal!(&rt, octets.as_slice(), b"\x01\x02".as_slice());
+    let (read, _) = append_in_five(rt.alloc(), Rtype::NSEC, b"a. A NS FOO");
+    assert_equal!(&rt, read, Err(ScanError::Malformed(8)));
+    let (read, _) = append_in_five(rt.alloc(), Rtype::DS, b"1 1 1 fff");
     assert_equal!(&rt, read, Err(ScanError::Malformed(9)));
 }
 
@@ -107,12 +130,12 @@ fn a_string_has_255_octets(rt: HostRuntime) {
     let mut text = [b'a'; 256];
     let mut target = Array::<256>::new();
     let words = Words::new(&text[..255]);
-    let read = scan_data::<&[u8], _>(words, Rtype::TXT, Class::IN, None, &mut target);
+    let read = scan_data::<&[u8], _>(rt.alloc(), words, Rtype::TXT, Class::IN, None, &mut target);
     assert_equal!(&rt, read, Ok(()));
     assert_equal!(&rt, target.len(), 256);
     text[0] = b'b';
     let words = Words::new(&text);
-    let read = scan_data::<&[u8], _>(words, Rtype::TXT, Class::IN, None, &mut target);
+    let read = scan_data::<&[u8], _>(rt.alloc(), words, Rtype::TXT, Class::IN, None, &mut target);
     assert_equal!(&rt, read, Err(ScanError::Malformed(0)));
 }
 

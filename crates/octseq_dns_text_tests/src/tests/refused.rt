@@ -6,7 +6,7 @@ use octseq_dns_scan::Words;
 use octseq_dns_text::{ScanError, scan_data};
 
 /// A type, a class, a text, and the offset.
-static REFUSED: [(u16, u16, &[u8], usize); 38] = [
+static REFUSED: [(u16, u16, &[u8], usize); 44] = [
     (48, 1, b"1 256 1 AQ==", 2),
     (15, 1, b"65536 .", 0),
     (15, 1, b"10", 2),
@@ -37,6 +37,12 @@ static REFUSED: [(u16, u16, &[u8], usize); 38] = [
     (257, 1, b"0 a \"\" \"\"", 7),
     (256, 1, b"1 1 \"\"", 4),
     (61, 1, b"A", 1),
+    (47, 1, b". A A", 4),
+    (50, 1, b"1 0 10 - -", 9),
+    (50, 1, b"1 0 10 - ", 9),
+    (64, 1, b"1 . port=\"65536\"", 4),
+    (65, 1, b"1 . port=\"1\" port=\"1\"", 13),
+    (65, 3, b"1 .", 0),
     (1, 1, b"\\#", 2),
     (1, 1, b"\\# 65536", 3),
     (1, 1, b"\\# 0 00", 5),
@@ -52,6 +58,7 @@ fn a_text_that_is_none_is_refused(rt: HostRuntime) {
     for (rtype, class, text, offset) in REFUSED {
         let mut target = Array::<64>::new();
         let read = scan_data::<&[u8], _>(
+            rt.alloc(),
             Words::new(text),
             Rtype::from_int(rtype),
             Class::from_int(class),

@@ -9,7 +9,7 @@ pub struct Row {
 }
 
 /// Data as dnspython shows it.
-pub static SHOWN: [Row; 45] = [
+pub static SHOWN: [Row; 63] = [
     Row {
         rtype: 1,
         class: 1,
@@ -80,7 +80,9 @@ pub static SHOWN: [Row; 45] = [
         rtype: 6,
         class: 1,
         text: b"ns.example.com. adm.example.com. 1 3600 600 604800 4294967295",
-        octets: b"\x02\x6e\x73\x07\x65\x78\x61\x6d\x70\x6c\x65\x03\x63\x6f\x6d\x00\x03\x61\x64\x6d\x07\x65\x78\x61\x6d\x70\x6c\x65\x03\x63\x6f\x6d\x00\x00\x00\x00\x01\x00\x00\x0e\x10\x00\x00\x02\x58\x00\x09\x3a\x80\xff\xff\xff\xff",
+        octets: b"\x02\x6e\x73\x07\x65\x78\x61\x6d\x70\x6c\x65\x03\x63\x6f\x6d\x00\x03\x61\x64\x6d\x07\x65\
+            \x78\x61\x6d\x70\x6c\x65\x03\x63\x6f\x6d\x00\x00\x00\x00\x01\x00\x00\x0e\x10\x00\x00\x02\
+            \x58\x00\x09\x3a\x80\xff\xff\xff\xff",
     },
     Row {
         rtype: 16,
@@ -128,7 +130,8 @@ pub static SHOWN: [Row; 45] = [
         rtype: 35,
         class: 1,
         text: b"100 10 \"s\" \"\" \"!\\\\\\\"\" example.com.",
-        octets: b"\x00\x64\x00\x0a\x01\x73\x00\x03\x21\x5c\x22\x07\x65\x78\x61\x6d\x70\x6c\x65\x03\x63\x6f\x6d\x00",
+        octets: b"\x00\x64\x00\x0a\x01\x73\x00\x03\x21\x5c\x22\x07\x65\x78\x61\x6d\x70\x6c\x65\x03\x63\x6f\
+            \x6d\x00",
     },
     Row {
         rtype: 257,
@@ -170,13 +173,38 @@ pub static SHOWN: [Row; 45] = [
         rtype: 46,
         class: 1,
         text: b"A 5 2 300 4294967295 0 7 foo. AQ==",
-        octets: b"\x00\x01\x05\x02\x00\x00\x01\x2c\xff\xff\xff\xff\x00\x00\x00\x00\x00\x07\x03\x66\x6f\x6f\x00\x01",
+        octets: b"\x00\x01\x05\x02\x00\x00\x01\x2c\xff\xff\xff\xff\x00\x00\x00\x00\x00\x07\x03\x66\x6f\x6f\
+            \x00\x01",
     },
     Row {
         rtype: 46,
         class: 1,
         text: b"TYPE1234 5 2 300 0 0 7 . AQ==",
         octets: b"\x04\xd2\x05\x02\x00\x00\x01\x2c\x00\x00\x00\x00\x00\x00\x00\x00\x00\x07\x00\x01",
+    },
+    Row {
+        rtype: 47,
+        class: 1,
+        text: b". A MX RRSIG NSEC CAA",
+        octets: b"\x00\x00\x06\x40\x01\x00\x00\x00\x03\x01\x01\x40",
+    },
+    Row {
+        rtype: 47,
+        class: 1,
+        text: b"a.",
+        octets: b"\x01\x61\x00",
+    },
+    Row {
+        rtype: 50,
+        class: 1,
+        text: b"1 0 10 - 0110 A",
+        octets: b"\x01\x00\x00\x0a\x00\x02\x00\x42\x00\x01\x40",
+    },
+    Row {
+        rtype: 50,
+        class: 1,
+        text: b"1 1 0 abcd vs",
+        octets: b"\x01\x01\x00\x00\x02\xab\xcd\x01\xff",
     },
     Row {
         rtype: 51,
@@ -215,16 +243,106 @@ pub static SHOWN: [Row; 45] = [
         octets: b"\x00\x0a\x00\x01\x61\x22\x5c\xff",
     },
     Row {
+        rtype: 64,
+        class: 1,
+        text: b"0 .",
+        octets: b"\x00\x00\x00",
+    },
+    Row {
+        rtype: 64,
+        class: 1,
+        text: b"0 . port=\"53\"",
+        octets: b"\x00\x00\x00\x00\x03\x00\x02\x00\x35",
+    },
+    Row {
+        rtype: 64,
+        class: 1,
+        text: b"1 . no-default-alpn",
+        octets: b"\x00\x01\x00\x00\x02\x00\x00",
+    },
+    Row {
+        rtype: 64,
+        class: 1,
+        text: b"1 . mandatory=\"port\"",
+        octets: b"\x00\x01\x00\x00\x00\x00\x02\x00\x03",
+    },
+    Row {
+        rtype: 64,
+        class: 1,
+        text: b"1 . ech",
+        octets: b"\x00\x01\x00\x00\x05\x00\x00",
+    },
+    Row {
+        rtype: 64,
+        class: 1,
+        text: b"1 . alpn=\"a\\\\\\\\b\\\\,c\\\"\\000\"",
+        octets: b"\x00\x01\x00\x00\x01\x00\x08\x07\x61\x5c\x62\x2c\x63\x22\x00",
+    },
+    Row {
+        rtype: 65,
+        class: 1,
+        text: b"1 foo. mandatory=\"alpn,port\" alpn=\"h2,h3\" port=\"443\" ipv4hint=\"1.2.3.4,5.6.7.8\" ech=\"A\
+            A==\" ipv6hint=\"2001:db8::1\" key7 key667=\"\\\"\\000\"",
+        octets: b"\x00\x01\x03\x66\x6f\x6f\x00\x00\x00\x00\x04\x00\x01\x00\x03\x00\x01\x00\x06\x02\x68\x32\
+            \x02\x68\x33\x00\x03\x00\x02\x01\xbb\x00\x04\x00\x08\x01\x02\x03\x04\x05\x06\x07\x08\x00\
+            \x05\x00\x01\x00\x00\x06\x00\x10\x20\x01\x0d\xb8\x00\x00\x00\x00\x00\x00\x00\x00\x00\x00\
+            \x00\x01\x00\x07\x00\x00\x02\x9b\x00\x02\x22\x00",
+    },
+    Row {
         rtype: 39,
         class: 1,
         text: b".",
         octets: b"\x00",
     },
     Row {
+        rtype: 50,
+        class: 1,
+        text: b"1 0 0 - 00",
+        octets: b"\x01\x00\x00\x00\x00\x01\x00",
+    },
+    Row {
+        rtype: 47,
+        class: 1,
+        text: b". ANY",
+        octets: b"\x00\x00\x20\x00\x00\x00\x00\x00\x00\x00\x00\x00\x00\x00\x00\x00\x00\x00\x00\x00\x00\x00\
+            \x00\x00\x00\x00\x00\x00\x00\x00\x00\x00\x00\x00\x01",
+    },
+    Row {
+        rtype: 47,
+        class: 1,
+        text: b". TYPE65535",
+        octets: b"\x00\xff\x20\x00\x00\x00\x00\x00\x00\x00\x00\x00\x00\x00\x00\x00\x00\x00\x00\x00\x00\x00\
+            \x00\x00\x00\x00\x00\x00\x00\x00\x00\x00\x00\x00\x01",
+    },
+    Row {
+        rtype: 47,
+        class: 1,
+        text: b". TYPE0",
+        octets: b"\x00\x00\x01\x80",
+    },
+    Row {
+        rtype: 65,
+        class: 1,
+        text: b"0 . port=\"53\"",
+        octets: b"\x00\x00\x00\x00\x03\x00\x02\x00\x35",
+    },
+    Row {
+        rtype: 65,
+        class: 1,
+        text: b"1 . alpn=\"a\\\\\\\\b\\\\,c\\\"\\000\"",
+        octets: b"\x00\x01\x00\x00\x01\x00\x08\x07\x61\x5c\x62\x2c\x63\x22\x00",
+    },
+    Row {
         rtype: 46,
         class: 1,
         text: b"TYPE1234 5 2 300 4294967295 0 7 . AQ==",
         octets: b"\x04\xd2\x05\x02\x00\x00\x01\x2c\xff\xff\xff\xff\x00\x00\x00\x00\x00\x07\x00\x01",
+    },
+    Row {
+        rtype: 64,
+        class: 1,
+        text: b"1 . key65535",
+        octets: b"\x00\x01\x00\xff\xff\x00\x00",
     },
     Row {
         rtype: 1,

@@ -10,7 +10,8 @@ use Rattle.octseq_dns_text.proofs.tail.scan_some_strings.Goals as goal
 pub returns-then-is_at_end-clause-reads : goal.returns-then-is_at_end-clause-reads
 returns-then-is_at_end-clause-reads g c =
     let none : ahead_of c.args.words ≡ [] = search rules in
-    rw c.offset.ensures (reads_malformed (AreSome AreStrings) g.B.AsOctets.limit g.B.AsOctets.asks (ahead_of c.args.words)
+    rw c.offset.ensures (reads_malformed (AreSome AreStrings) g.B.AsOctets.limit g.B.AsOctets.asks
+    (ahead_of c.args.words)
     (offset_of c.args.words) (offset_of c.args.words) (g.B.AsOctets.content c.args.target.now)
     (g.B.AsOctets.content c.args.target.now)
     (some_end AreStrings (ahead_of c.args.words) (offset_of c.args.words) none some_strings_go))
@@ -21,4 +22,5 @@ returns-clause-reads g c =
     let some : ¬ (ahead ≡ []) = search rules in
     reads_less AreStrings (AreSome AreStrings) g.B.AsOctets.limit g.B.AsOctets.asks c.scan_strings.result ahead
     (offset_of c.args.words) (g.B.AsOctets.content c.args.target.now) (g.B.AsOctets.content c.scan_strings.new.target)
-    (some_words AreStrings ahead some) (some_fault AreStrings ahead (offset_of c.args.words) some_strings_go) c.scan_strings.ensures.reads
+    (some_words AreStrings ahead some) (some_fault AreStrings ahead
+    (offset_of c.args.words) some_strings_go) c.scan_strings.ensures.reads

@@ -64,8 +64,13 @@ returns-in-Ok-clause-reads g c =
     let enough : c.args.least ≤ c.in-Some-string_len.len = c.if-len-least.false in
     reads_ok (IsValue c.args.least) g.B.AsOctets.limit g.B.AsOctets.asks (ahead_of c.args.words)
     (offset_of c.args.words) (g.B.AsOctets.content c.args.target.now) (g.B.AsOctets.content c.scan_string.new.target)
-    (word ∷ []) other (rest, c.in-Some.ensures.some, none)
-    (word, refl, within.0, value_long c.args.least c.in-Some-string_len.len word octets other enough spells long within.0)
+    (word ∷ []) other (rest, c.in-Some.ensures.some, none) (
+      word,
+      refl,
+      within.0,
+      value_long c.args.least c.in-Some-string_len.len word octets other enough spells long
+          within.0,
+    )
     made
 
 pub returns-in-Err-Short-clause-reads : goal.returns-in-Err-Short-clause-reads
@@ -79,6 +84,11 @@ returns-in-Err-Short-clause-reads g c =
     let enough : c.args.least ≤ c.in-Some-string_len.len = c.if-len-least.false in
     reads_short (IsValue c.args.least) g.B.AsOctets.limit g.B.AsOctets.asks (ahead_of c.args.words)
     (offset_of c.args.words) (g.B.AsOctets.content c.args.target.now) (g.B.AsOctets.content c.scan_string.new.target)
-    (word ∷ []) other (rest, c.in-Some.ensures.some, none)
-    (word, refl, within.0, value_long c.args.least c.in-Some-string_len.len word octets other enough spells long within.0)
+    (word ∷ []) other (rest, c.in-Some.ensures.some, none) (
+      word,
+      refl,
+      within.0,
+      value_long c.args.least c.in-Some-string_len.len word octets other enough spells long
+          within.0,
+    )
     past

@@ -41,5 +41,6 @@ returns-in-Err-finish-clause-none c = λ none octets few is.
 pub returns-in-Err-clause-none : goal.returns-in-Err-clause-none
 returns-in-Err-clause-none c = λ none octets few is.
     let empty : length c.new-octets.result.content ≡ 0 = search rules in
-    base32hex_refused c.new.result c.args.word.now c.new-octets.result.content c.feed.new.target.content c.new.ensures empty
+    base32hex_refused c.new.result c.args.word.now c.new-octets.result.content c.feed.new.target.content
+    c.new.ensures empty
     c.in-Err.field-0 c.in-Err.ensures octets few is.1 is.2
