@@ -86,21 +86,10 @@ fn a_name_may_be_relative_to_an_origin(rt: HostRuntime) -> Result<(), Fail> {
 }
 
 /// Appends a text's data to two octets, in room for five.
-fn append_in_five(
-    alloc: Global,
-    rtype: Rtype,
-    text: &[u8],
-) -> (Result<(), ScanError>, Array<5>) {
+fn append_in_five(alloc: Global, rtype: Rtype, text: &[u8]) -> (Result<(), ScanError>, Array<5>) {
     let mut target = Array::<5>::new();
     drop(target.append_slice(b"\x01\x02"));
-    let read = scan_data::<&[u8], _>(
-        alloc,
-        Words::new(text),
-        rtype,
-        Class::IN,
-        None,
-        &mut target,
-    );
+    let read = scan_data::<&[u8], _>(alloc, Words::new(text), rtype, Class::IN, None, &mut target);
     (read, target)
 }
 
