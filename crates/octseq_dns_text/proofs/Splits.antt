@@ -4,6 +4,7 @@ use Rattle.std.proofs.Common.{refl, sym, ap, ◌∙◌, subst, arith, add-one, O
 use Rattle.std.specs.Prelude.{◌==◌, if◌then◌else◌}
 use Rattle.std.specs.List.{onto_first, position_from, position, slice_split}
 use Rattle.std.proofs.lemmas.Iterator.Adapters.{position_from-zero}
+use Rattle.std.proofs.lemmas.List.{take_all, length-drop}
 use Rattle.octseq_dns_text.specs.Split.{octets_before, octets_after, items_of}
 
 abbrev Finds : ℕ → ℕ → ℕ → List ℕ → Type 0
@@ -32,13 +33,15 @@ found_from at k i (x ∷ xs) is = found_here at k i x xs (x == at) is (found_fro
 
 -- the octets before the first such octet, and those after it
 pub split_found : (at i : ℕ) (xs : List ℕ) → position (λ octet. octet == at) xs ≡ Some i
-    → (i < length xs) × (octets_before at xs ≡ take i xs) × (octets_after at xs ≡ Some (drop (i + 1) xs))
+    → (i < length xs) × (octets_before at xs ≡ take i xs)
+        × (octets_after at xs ≡ Some (take (length xs - (i + 1)) (drop (i + 1) xs)))
 split_found at i xs is =
     let found = found_from at 0 i xs (sym (position_from-zero (λ octet. octet == at) xs) ∙ is) in
     let same : found.0 ≡ i = omega (arith, found.1) in (
       omega (arith, same, found.2),
       found.3 ∙ ap (λ m. take m xs) same,
-      found.4 ∙ ap (λ m. Some (drop (m + 1) xs)) same,
+      found.4 ∙ ap (λ m. Some (drop (m + 1) xs)) same
+          ∙ ap Some (sym (take_all (length xs - (i + 1)) (drop (i + 1) xs) (omega (arith, length-drop (i + 1) xs)))),
     )
 
 missing_here : (at k x : ℕ) (xs : List ℕ) (here : Bool)

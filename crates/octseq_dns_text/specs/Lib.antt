@@ -2,6 +2,7 @@ pub mod IdsText
 pub mod KeyText
 pub mod ParamText
 pub mod ParamsText
+pub mod Reading
 pub mod Scans
 pub mod Shown
 pub mod Split
