@@ -5,6 +5,8 @@ use Rattle.std.specs.Prelude.{if◌then◌else◌}
 use Rattle.std.specs.List.{flat_map}
 use Rattle.std.proofs.Math.Bool.{true≢false}
 use Rattle.std.proofs.lemmas.List.{append-nil}
+use Rattle.std.proofs.lemmas.Grind.{flat_map-append}
+use Rattle.octseq.specs.Part.{part_of}
 use Rattle.octseq_dns_data.specs.SvcParamsText.{is_listed_quoted, listed_octet}
 use Rattle.octseq_dns_scan.proofs.Mades.{head, tail}
 use Rattle.octseq_dns_text.specs.IdsText.{listed_id, listed_ids, IsStuck}
@@ -180,3 +182,10 @@ pub stuck_after : (list after : List ℕ) → list ≡ 92 ∷ after
     → ((octet : ℕ) (rest : List ℕ) → after ≡ octet ∷ rest → is_listed_quoted octet ≡ false) → IsStuck list
 stuck_after list after begins plain octet more same =
     after_apart octet after more (is_listed_quoted octet) refl plain (sym begins ∙ same)
+
+-- one more part
+pub parts_more : (done : List (List ℕ)) (id : List ℕ)
+    → flat_map (part_of 1) (done ++ id ∷ []) ≡ flat_map (part_of 1) done ++ part_of 1 id
+parts_more done id =
+    flat_map-append (part_of 1) done (id ∷ [])
+    ∙ ap (λ l. flat_map (part_of 1) done ++ l) (append-nil (part_of 1 id))

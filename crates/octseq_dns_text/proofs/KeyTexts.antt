@@ -12,6 +12,9 @@ use Rattle.octseq_dns_data.specs.Mnemonic.{Names}
 use Rattle.octseq_dns_data.specs.SvcParamsText.{key_names}
 use Rattle.octseq_dns_text.specs.KeyText.{IsKeyText, IsNumberedKey, key_named}
 
+number : {x y : ℕ × List ℕ} → x ≡ y → x.0 ≡ y.0
+number same = ap (λ (x : ℕ × List ℕ). x.0) same
+
 abbrev Names_key : ℕ × List ℕ → Type 0
 Names_key named = key_named key_names named.1 ≡ Some named.0
 
@@ -42,6 +45,21 @@ key_once name a b (inr one) (inl two) =
     let here = numbered_unnamed name a one in let there = among_named b name two in absurd (cc)
 key_once name a b (inr one) (inr two) = numbered_once name a b one two
 
+small_among : (key : ℕ) (name : List ℕ) → IsAmong key_names (key, name) → key < 65536
+small_among key name (zero, (less, same)) = let e = number same in omega (arith, e)
+small_among key name (suc zero, (less, same)) = let e = number same in omega (arith, e)
+small_among key name (suc (suc zero), (less, same)) = let e = number same in omega (arith, e)
+small_among key name (suc (suc (suc zero)), (less, same)) = let e = number same in omega (arith, e)
+small_among key name (suc (suc (suc (suc zero))), (less, same)) = let e = number same in omega (arith, e)
+small_among key name (suc (suc (suc (suc (suc zero)))), (less, same)) = let e = number same in omega (arith, e)
+small_among key name (suc (suc (suc (suc (suc (suc zero))))), (less, same)) = let e = number same in omega (arith, e)
+small_among key name (suc (suc (suc (suc (suc (suc (suc i)))))), (less, same)) = absurd (omega (arith, less))
+
+-- a key is a number of 16 bits
+pub key_bits : (name : List ℕ) (key : ℕ) → IsKeyText name key → key < 65536
+key_bits name key (inl named) = small_among key name named
+key_bits name key (inr numbered) = numbered.bits
+
 -- ---- a name among names
 
 pair : (named : ℕ × List ℕ) (key : ℕ) (name : List ℕ) → named.0 ≡ key → named.1 ≡ name → named ≡ (key, name)
@@ -49,7 +67,7 @@ pair named key name number spelled =
     let first : named ≡ (key, named.1) = ap (λ (k : ℕ). (k, named.1)) number in
     first ∙ ap (λ (n : List ℕ). (key, n)) spelled
 
-first_or_later : (x y : ℕ × List ℕ) (xs : Names) → IsAmong (x ∷ xs) y → (y ≡ x) ⊎ IsAmong xs y
+pub first_or_later : (x y : ℕ × List ℕ) (xs : Names) → IsAmong (x ∷ xs) y → (y ≡ x) ⊎ IsAmong xs y
 first_or_later x y xs (zero, (less, same)) = inl same
 first_or_later x y xs (suc i, (less, same)) = inr (i, (omega (arith, less), same))
 

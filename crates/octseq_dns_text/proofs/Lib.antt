@@ -3,6 +3,11 @@ pub mod Fronts
 pub mod IdsTexts
 pub mod Items
 pub mod KeyTexts
+pub mod MandatoryTexts
+pub mod Maps
+pub mod Outcomes
+pub mod ParamsTexts
 pub mod Sortings
 pub mod Splits
+pub mod TypesTexts
 pub mod ValueTexts

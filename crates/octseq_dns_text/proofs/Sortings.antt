@@ -4,8 +4,8 @@ use Rattle.std.proofs.Common.{length, refl, sym, ap, ◌∙◌, subst, arith, No
 use Rattle.std.specs.Prelude.{◌||◌, if◌then◌else◌}
 use Rattle.std.specs.BTreeMap.{insert_entry, is_at}
 use Rattle.std.specs.BTreeSet.{insert_key}
-use Rattle.std.specs.Cmp.{IsEquivalence}
-use Rattle.std.specs.List.{AllByRecursion, Contains, IsDistinct, list_any}
+use Rattle.std.specs.Cmp.{IsEquivalence, unsigned_tied}
+use Rattle.std.specs.List.{All, AllByRecursion, Contains, IsDistinct, list_any}
 use Rattle.std.specs.List.Sorted.{IsPermutation, IsStrictlyIncreasing, IsStrictlySortedBy}
 use Rattle.std.specs.Map.{keys_of, lookup}
 use Rattle.std.specs.Ordering.{eq_by_cmp, nat_cmp, match_ordering, is_eq}
@@ -14,6 +14,8 @@ use Rattle.std.specs.declared.cmp.Ordering.TheVariants.{Less, Equal, Greater}
 use Rattle.std.proofs.Math.Bool.{true≢false}
 use Rattle.std.proofs.lemmas.Cmp.{nat_cmp_total, eq_by_cmp_equiv, ranked}
 use Rattle.std.proofs.lemmas.List.{map-append}
+use Rattle.std.proofs.lemmas.List.Elements.{recursion_from_All}
+use Rattle.std.proofs.lemmas.Bool.Decides.{Decides-eqb}
 use Rattle.std.proofs.lemmas.List.Sorted.{IsPermutation-refl, IsPermutation-cons, IsPermutation-trans}
 use Rattle.std.proofs.lemmas.List.Sorted.{IsPermutation-middle, IsPermutation-map, IsPermutation-sym}
 use Rattle.std.proofs.lemmas.List.Sorted.{Contains-permutation}
@@ -89,9 +91,12 @@ all_at P (y ∷ xs) x each is = elim (contains_cases y xs x is) [
   | inr more ↦ all_at P xs x each.1 more
 ]
 
-all_middle : {X : Type 0} (P : X → Type 0) (xs : List X) (y : X) (ys : List X) → AllByRecursion P (xs ++ y ∷ ys) → P y
+pub all_middle : {X : Type 0} (P : X → Type 0) (xs : List X) (y : X) (ys : List X) → AllByRecursion P (xs ++ y ∷ ys) → P y
 all_middle P [] y ys each = each.0
 all_middle P (x ∷ xs) y ys each = all_middle P xs y ys each.1
+
+pub all_mid : {X : Type 0} (P : X → Type 0) (xs : List X) (y : X) (ys : List X) → All P (xs ++ y ∷ ys) → P y
+all_mid P xs y ys each = all_middle P xs y ys (recursion_from_All P (xs ++ y ∷ ys) each)
 
 -- of distinct values none comes twice
 pub distinct_front : {X : Type 0} (e : X → X → Bool) → ((x : X) → e x x ≡ true) → (xs : List X) (y : X) (ys : List X)
@@ -110,18 +115,21 @@ tied = eq_by_cmp nat_cmp
 tied_laws : IsEquivalence tied
 tied_laws = eq_by_cmp_equiv nat_cmp_total
 
+-- numbers in another order, in which they ascend, have none twice
+pub apart_said : (said sorted : List ℕ) → IsPermutation said sorted → IsStrictlyIncreasing sorted
+    → (before : List ℕ) (z : ℕ) (after : List ℕ) → said ≡ before ++ z ∷ after → ¬ Contains before z
+apart_said said sorted moved ascend before z after same =
+    let apart = IsDistinct-from_sorted nat_cmp sorted (sorted_from_strictly_increasing sorted ascend) in
+    let said_apart = IsDistinct-IsPermutation tied tied_laws.symm sorted said (IsPermutation-sym said sorted moved) apart in
+    distinct_front tied tied_laws.refl before z after (subst (IsDistinct tied) same said_apart)
+
 -- values in another order, in which their keys ascend, have no key twice
 pub twice : {X : Type 0} (key : X → ℕ) (said sorted : List X) → IsPermutation said sorted
     → IsStrictlyIncreasing (map key sorted) → (before : List X) (z : X) (after : List X) → said ≡ before ++ z ∷ after
     → ¬ Contains (map key before) (key z)
 twice key said sorted moved ascend before z after same =
-    let keys = IsPermutation-map key said sorted moved in
-    let apart = IsDistinct-from_sorted nat_cmp (map key sorted) (sorted_from_strictly_increasing _ ascend) in
-    let said_apart = IsDistinct-IsPermutation tied tied_laws.symm (map key sorted) (map key said)
-    (IsPermutation-sym _ _ keys) apart in
-    let spelled = subst (λ l. IsDistinct tied (map key l)) same said_apart in
-    distinct_front tied tied_laws.refl (map key before) (key z) (map key after)
-    (subst (IsDistinct tied) (map-append key before (z ∷ after)) spelled)
+    apart_said (map key said) (map key sorted) (IsPermutation-map key said sorted moved) ascend (map key before) (key z)
+    (map key after) (ap (map key) same ∙ map-append key before (z ∷ after))
 
 -- ---- one order
 
@@ -183,3 +191,30 @@ sorted_once key said xs ys one two ascend other =
     sorted_same key xs ys (sorted_from_strictly_increasing _ ascend) (sorted_from_strictly_increasing _ other)
     (λ x is. Contains-permutation xs ys x same is)
     (λ x is. Contains-permutation ys xs x (IsPermutation-sym xs ys same) is)
+
+-- ---- the keys that are there
+
+key_at : (k x : ℕ) → is_at (nat_cmp k) x ≡ true → k ≡ x
+key_at k x here = (Decides-eqb k x).0 (sym (unsigned_tied k x) ∙ here)
+
+key_there_step : (k x : ℕ) (ks : List ℕ) (here : Bool) → (here ≡ true → k ≡ x)
+    → (here || list_any (is_at (nat_cmp k)) ks) ≡ true → (list_any (is_at (nat_cmp k)) ks ≡ true → Contains ks k)
+    → Contains (x ∷ ks) k
+key_there_step k x ks true same any later = (0, omega arith, sym (same refl))
+key_there_step k x ks false same any later = contains_later x ks k (later any)
+
+pub key_there : (ks : List ℕ) (k : ℕ) → list_any (is_at (nat_cmp k)) ks ≡ true → Contains ks k
+key_there [] k any = absurd (true≢false (sym any))
+key_there (x ∷ ks) k any = key_there_step k x ks (is_at (nat_cmp k) x) (key_at k x) any (key_there ks k)
+
+entry_there_step : {X : Type 0} (k : ℕ) (v : X) (e : ℕ × X) (es : List (ℕ × X)) (here : Bool) → (here ≡ true → k ≡ e.0)
+    → (if here then Some e.1 else lookup (is_at (nat_cmp k)) es) ≡ Some v
+    → (lookup (is_at (nat_cmp k)) es ≡ Some v → Contains (keys_of es) k) → Contains (e.0 ∷ keys_of es) k
+entry_there_step k v e es true same found later = (0, omega arith, sym (same refl))
+entry_there_step k v e es false same found later = contains_later e.0 (keys_of es) k (later found)
+
+pub entry_there : {X : Type 0} (es : List (ℕ × X)) (k : ℕ) (v : X) → lookup (is_at (nat_cmp k)) es ≡ Some v
+    → Contains (keys_of es) k
+entry_there [] k v found = absurd (cc)
+entry_there (e ∷ es) k v found =
+    entry_there_step k v e es (is_at (nat_cmp k) e.0) (key_at k e.0) found (entry_there es k v)

@@ -86,3 +86,8 @@ value_once (suc (suc (suc (suc (suc (suc zero)))))) said a b one two =
     addresses_once IsIpv6Word 16 ipv6_once said a b (one.ipv6hint refl) (two.ipv6hint refl)
 value_once (suc (suc (suc (suc (suc (suc (suc key))))))) said a b one two =
     one.other (omega arith) ∙ sym (two.other (omega arith))
+
+pub value_at : (key other : ℕ) (said more value : List ℕ) → key ≡ other → said ≡ more → IsValueText key said value
+    → IsValueText other more value
+value_at key other said more value keys same is =
+    subst (λ s. IsValueText other s value) same (subst (λ k. IsValueText k said value) keys is)

@@ -2,6 +2,7 @@ use Rattle.std.proofs.Common.{◌≡◌, [], ◌∷◌, ◌++◌, None, Some, op
 use Rattle.octseq_dns_scan.specs.Address.{IsIpv4Word}
 use Rattle.octseq_dns_text.specs.ParamText.{IsAddressText}
 use Rattle.octseq_dns_text.proofs.AddressTexts.{addresses_last, addresses_refused, concat_more}
+use Rattle.octseq_dns_text.proofs.Outcomes.{if_ok, none_is}
 use Rattle.octseq_dns_text.proofs.Items.{Next, items_more, items_none}
 use Rattle.octseq_dns_text.proofs.Splits.{after_shortens}
 use Rattle.octseq_dns_text.proofs.params.addresses.scan_ipv4_hints.Goals as goal
@@ -21,13 +22,13 @@ returns-in-Err-clause-malformed c = λ malformed.
     addresses_refused IsIpv4Word 4 c.args.said.now c.hints.list.now _ _ so_far.addresses so_far.reads next
     (c.in-Err.ensures.malformed malformed)
 
-pub returns-in_default-clause-ok : goal.returns-in_default-clause-ok
-returns-in_default-clause-ok c =
+pub returns-in_default-rest-clause-ok : goal.returns-in_default-rest-clause-ok
+returns-in_default-rest-clause-ok c =
     let so_far = c.hints.invariant in
     let next : Next c.hints.list.now c.split_first.result.0.now (option_copied c.split_first.result.1) =
     record { item_is = c.split_first.ensures.before; rest_is = c.split_first.ensures.after } in
-    let end : option_copied c.split_first.result.1 ≡ None = search rules in
-    let made = c.append_ipv4.ensures.ok in
+    let end = ap option_copied (none_is c.split_first.result.1 (search rules)) in
+    let made = if_ok c.append_ipv4.result _ c.append_ipv4.ensures.ok (search rules) in
     addresses_last IsIpv4Word 4 c.args.said.now c.hints.list.now _ _ so_far.addresses c.hints.value.items made.0 _
     so_far.reads next end made.1 so_far.octets made.2
 
@@ -41,7 +42,7 @@ hints-preserved c =
     let so_far = c.hints.invariant in
     let next : Next c.hints.list.now c.split_first.result.0.now (option_copied c.split_first.result.1) =
     record { item_is = c.split_first.ensures.before; rest_is = c.split_first.ensures.after } in
-    let made = c.append_ipv4.ensures.ok in
+    let made = if_ok c.append_ipv4.result _ c.append_ipv4.ensures.ok (search rules) in
     record {
       addresses = so_far.addresses ++ made.0 ∷ [];
       reads = items_more (IsAddressText IsIpv4Word 4) c.args.said.now c.hints.list.now _ c.in-Some.next.now _
