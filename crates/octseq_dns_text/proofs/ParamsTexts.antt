@@ -81,7 +81,7 @@ params_form (word ∷ words) (param ∷ said) each =
 
 -- ---- a word is one parameter at most
 
-param_once : (word : List ℕ) (a b : Param) → IsParamText word a → IsParamText word b → a ≡ b
+pub param_once : (word : List ℕ) (a b : Param) → IsParamText word a → IsParamText word b → a ≡ b
 param_once word a b one two =
     let key : a.0 ≡ b.0 = key_once (octets_before 61 word) a.0 b.0 one.key two.key in
     let said = says_once (octets_after 61 word) one.said two.said one.says two.says in
