@@ -25,7 +25,8 @@ addresses_last Is size said list item rest addresses value octets made so_far ne
 
 pub addresses_refused : (Is : List ℕ → List ℕ → Type 0) (size : ℕ) (said list item : List ℕ) (rest : Option (List ℕ))
     (addresses : List (List ℕ)) → ReadsItems (IsAddressText Is size) said list addresses → Next list item rest
-    → ((octets : List ℕ) → ¬ IsAddressText Is size item octets) → (value : List ℕ) → ¬ AreAddressTexts Is size said value
+    → ((octets : List ℕ) → ¬ IsAddressText Is size item octets) → (value : List ℕ)
+    → ¬ AreAddressTexts Is size said value
 addresses_refused Is size said list item rest addresses so_far next none value is =
     let part = items_next (IsAddressText Is size) said list item rest addresses is.addresses so_far next is.each in
     none part.1 part.5

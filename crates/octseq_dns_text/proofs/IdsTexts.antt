@@ -48,7 +48,8 @@ after_stuck [] = end_stuck
 after_stuck (id ∷ ids) = comma_stuck (listed_id id ++ listed_after ids)
 
 -- an id is read in one way
-pub id_once : (id other rest left : List ℕ) → IsStuck rest → IsStuck left → listed_id id ++ rest ≡ listed_id other ++ left
+pub id_once : (id other rest left : List ℕ) → IsStuck rest → IsStuck left
+    → listed_id id ++ rest ≡ listed_id other ++ left
     → (id ≡ other) × (rest ≡ left)
 id_once [] [] rest left stuck ends same = (refl, same)
 id_once [] (b ∷ other) rest left stuck ends same =
@@ -58,15 +59,16 @@ id_once (a ∷ id) [] rest left stuck ends same =
 id_once (a ∷ id) (b ∷ other) rest left stuck ends same =
     let spelled = sym (append_assoc (listed_octet a) (listed_id id) rest) ∙ same
     ∙ append_assoc (listed_octet b) (listed_id other) left in
-    let first = octet_once a b (listed_id id ++ rest) (listed_id other ++ left) (is_listed_quoted a) (is_listed_quoted b) refl
-    refl spelled in
+    let first = octet_once a b (listed_id id ++ rest) (listed_id other ++ left) (is_listed_quoted a)
+    (is_listed_quoted b) refl refl spelled in
     let more = id_once id other rest left stuck ends first.1 in
     (ap (λ o. o ∷ id) first.0 ∙ ap (λ l. b ∷ l) more.0, more.1)
 
 pub listed_more : (id : List ℕ) (octet : ℕ) → listed_id (id ++ octet ∷ []) ≡ listed_id id ++ listed_octet octet
 listed_more [] octet = append-nil (listed_octet octet)
 listed_more (a ∷ id) octet =
-    ap (λ l. listed_octet a ++ l) (listed_more id octet) ∙ sym (append_assoc (listed_octet a) (listed_id id) (listed_octet octet))
+    ap (λ l. listed_octet a ++ l) (listed_more id octet)
+    ∙ sym (append_assoc (listed_octet a) (listed_id id) (listed_octet octet))
 
 -- ---- ids
 

@@ -50,7 +50,7 @@ items_last R said list item rest values value so_far next end one =
 pub items_next : {B : Type 0} (R : List ℕ → B → Type 0) (said list item : List ℕ) (rest : Option (List ℕ))
     (values zs : List B) (so_far : ReadsItems R said list values) → Next list item rest → AllZip R (items_of said) zs
     → (before : List B) × (z : B) × (after : List B) × (zs ≡ before ++ z ∷ after) × AllZip R so_far.front before
-        × R item z
+    × R item z
 items_next R said list item rest values zs so_far next each =
     zip_part R so_far.front item (items_after rest) zs
     (subst (λ l. AllZip R l zs) (split_next said list item rest so_far.front next so_far.items) each)

@@ -82,7 +82,8 @@ named_step named more name key false same is later =
     let found = later is in (suc found.0, (omega (arith, found.1.0), found.1.1))
 
 -- the key of a name
-pub named_among : (names : Names) (name : List ℕ) (key : ℕ) → key_named names name ≡ Some key → IsAmong names (key, name)
+pub named_among : (names : Names) (name : List ℕ) (key : ℕ) → key_named names name ≡ Some key
+    → IsAmong names (key, name)
 named_among [] name key is = absurd (cc)
 named_among (named ∷ more) name key is =
     named_step named more name key (bytes_eq named.1 name) refl is (named_among more name key)

@@ -47,7 +47,8 @@ keys_refused said list item rest named keys so_far next moved refused value is =
     let key = part.1 in
     elim (refused key part.5) [
       | inl zero ↦
-          let all = All-permutation IsListed is.sorted is.keys (IsPermutation-sym is.keys is.sorted is.moved) is.are.each in
+          let back = IsPermutation-sym is.keys is.sorted is.moved in
+          let all = All-permutation IsListed is.sorted is.keys back is.are.each in
           let listed = all_mid IsListed part.0 key part.2 (subst (All IsListed) part.3 all) in
           omega (arith, zero, listed.0)
       | inr there ↦

@@ -15,7 +15,8 @@ keys_in (e ∷ es) = ap (λ l. e.0 ∷ l) (keys_in es)
 
 pub keys_ascend : {Z : Type 0} (es : List (ℕ × Vec ℕ Z)) → IsStrictlySortedBy nat_cmp (keys_of es)
     → IsStrictlyIncreasing (map key_of (map entry_param es))
-keys_ascend es ordered = subst IsStrictlyIncreasing (sym (keys_in es)) (IsStrictlyIncreasing-from_sorted (keys_of es) ordered)
+keys_ascend es ordered =
+    subst IsStrictlyIncreasing (sym (keys_in es)) (IsStrictlyIncreasing-from_sorted (keys_of es) ordered)
 
 pub keys_contain : {Z : Type 0} (es : List (ℕ × Vec ℕ Z)) (key : ℕ) → Contains (keys_of es) key
     → Contains (map key_of (map entry_param es)) key

@@ -117,8 +117,9 @@ params_text front params read ascending = record {
 pub params_go : (front : List (List ℕ)) (params : List Param) → AreReadParams front params
     → IsStrictlyIncreasing (map key_of params) → Goes IsParamsText front
 params_go front params read ascending =
+    let octets = flat_map param_octets params in
     let is = params_text front params read ascending in
-    ([], flat_map param_octets params, subst (λ ws. IsParamsText ws (flat_map param_octets params)) (sym (append-nil front)) is)
+    ([], octets, subst (λ ws. IsParamsText ws octets) (sym (append-nil front)) is)
 
 -- no text goes on with a word that is no parameter, or has one of the keys so far
 pub params_stop : (front : List (List ℕ)) (params : List Param) (word : List ℕ) → AreReadParams front params
@@ -147,7 +148,8 @@ pub params_once : (words : List (List ℕ)) (a b : List ℕ) → IsParamsText wo
 params_once words a b one two =
     let said = zip_once IsParamText param_once words one.said two.said one.each two.each in
     let moved = subst (λ l. IsPermutation l two.sorted) (sym said) two.moved in
-    let sorted = sorted_once key_of one.said one.sorted two.sorted one.moved moved one.are.ascending two.are.ascending in
+    let sorted = sorted_once key_of one.said one.sorted two.sorted one.moved moved one.are.ascending
+    two.are.ascending in
     one.are.spelled ∙ ap (flat_map param_octets) sorted ∙ sym two.are.spelled
 
 pub params_svc : (words : List (List ℕ)) (octets : List ℕ) → IsParamsText words octets → IsSvcParams octets

@@ -91,7 +91,8 @@ all_at P (y ∷ xs) x each is = elim (contains_cases y xs x is) [
   | inr more ↦ all_at P xs x each.1 more
 ]
 
-pub all_middle : {X : Type 0} (P : X → Type 0) (xs : List X) (y : X) (ys : List X) → AllByRecursion P (xs ++ y ∷ ys) → P y
+pub all_middle : {X : Type 0} (P : X → Type 0) (xs : List X) (y : X) (ys : List X)
+    → AllByRecursion P (xs ++ y ∷ ys) → P y
 all_middle P [] y ys each = each.0
 all_middle P (x ∷ xs) y ys each = all_middle P xs y ys each.1
 
@@ -120,7 +121,8 @@ pub apart_said : (said sorted : List ℕ) → IsPermutation said sorted → IsSt
     → (before : List ℕ) (z : ℕ) (after : List ℕ) → said ≡ before ++ z ∷ after → ¬ Contains before z
 apart_said said sorted moved ascend before z after same =
     let apart = IsDistinct-from_sorted nat_cmp sorted (sorted_from_strictly_increasing sorted ascend) in
-    let said_apart = IsDistinct-IsPermutation tied tied_laws.symm sorted said (IsPermutation-sym said sorted moved) apart in
+    let back = IsPermutation-sym said sorted moved in
+    let said_apart = IsDistinct-IsPermutation tied tied_laws.symm sorted said back apart in
     distinct_front tied tied_laws.refl before z after (subst (IsDistinct tied) same said_apart)
 
 -- values in another order, in which their keys ascend, have no key twice

@@ -76,11 +76,13 @@ pub type_utf8 : (word : List ℕ) (rtype : ℕ) → ReadsRtype word rtype → Is
 unfolding ReadsRtype
 type_utf8 word rtype reads = IsUtf8-from_ascii word (elim reads [
   | inl named ↦
-      ascii_from word (small_spelled word named.name named.spelled (small_among rtype_names rtype named.name refl named.named))
+      ascii_from word
+      (small_spelled word named.name named.spelled (small_among rtype_names rtype named.name refl named.named))
   | inr numbered ↦
       subst IsAscii (sym numbered.parts)
       (IsAscii-append numbered.letters numbered.digits
-      (ascii_from numbered.letters (small_spelled numbered.letters (codes "TYPE") numbered.spelled (small_from (codes "TYPE") refl)))
+      (ascii_from numbered.letters
+      (small_spelled numbered.letters (codes "TYPE") numbered.spelled (small_from (codes "TYPE") refl)))
       (IsAscii-from_digits numbered.digits numbered.numeral.1))
 ])
 
@@ -106,12 +108,16 @@ none_distinct = tt
 -- the types so far are a text
 pub types_go : (front : List (List ℕ)) (rtypes : List ℕ) → AllZip ReadsRtype front rtypes → IsDistinct nat_eq rtypes
     → Goes IsTypesText front
-types_go front rtypes each once = ([], bitmap_of rtypes, record {
-  rtypes = rtypes;
-  each = zip_nil ReadsRtype front rtypes each;
-  once = once;
-  bitmap = refl;
-})
+types_go front rtypes each once = (
+  [],
+  bitmap_of rtypes,
+  record {
+    rtypes = rtypes;
+    each = zip_nil ReadsRtype front rtypes each;
+    once = once;
+    bitmap = refl;
+  },
+)
 
 -- no text goes on with a word that is no type, or one of the types so far
 pub types_stop : (front : List (List ℕ)) (rtypes : List ℕ) (word : List ℕ) → AllZip ReadsRtype front rtypes

@@ -1,6 +1,6 @@
 -- What is said of a value determines its octets.
-use Rattle.std.proofs.Common.{◌≡◌, ◌≤◌, ℕ, zero, suc, List, [], ◌∷◌, ◌++◌, length, map, Option, None, Some, refl, sym, ap, ◌∙◌}
-use Rattle.std.proofs.Common.{subst, arith}
+use Rattle.std.proofs.Common.{◌≡◌, ◌≤◌, ℕ, zero, suc, List, [], ◌∷◌, length, Option, None, Some, refl, sym, ap}
+use Rattle.std.proofs.Common.{◌∙◌, subst, arith}
 use Rattle.std.specs.List.{AllZip, concat, flat_map}
 use Rattle.std.specs.List.Sorted.{IsPermutation, IsStrictlyIncreasing}
 use Rattle.std.proofs.lemmas.List.{map-id}
@@ -69,7 +69,8 @@ addresses_once : (Is : List ℕ → List ℕ → Type 0) (size : ℕ)
     → ((text a b : List ℕ) → IsAddressText Is size text a → IsAddressText Is size text b → a ≡ b)
     → (said a b : List ℕ) → AreAddressTexts Is size said a → AreAddressTexts Is size said b → a ≡ b
 addresses_once Is size once said a b one two =
-    let addresses = zip_once (IsAddressText Is size) once (items_of said) one.addresses two.addresses one.each two.each in
+    let addresses = zip_once (IsAddressText Is size) once (items_of said) one.addresses two.addresses one.each
+    two.each in
     one.octets ∙ ap concat addresses ∙ sym two.octets
 
 -- what is said of a value determines it

@@ -60,7 +60,8 @@ abbrev pub Says : Option (List ℕ) → List ℕ → Type 0
 Says None said = said ≡ []
 Says (Some text) said = SpellsString said text
 
--- A word is a parameter: the name of its key, and after an equals sign (61), if there is one, what is said of its value.
+-- A word is a parameter: the name of its key, and after an equals sign (61), if there is one, what is said of its
+-- value.
 pub record IsParamText (word : List ℕ) (param : Param) : Type 0 where
   pub said : List ℕ
   pub key : IsKeyText (octets_before 61 word) param.0

@@ -33,6 +33,21 @@ use std::collections::BTreeMap;
 /// The maximum number of octets of a value: RFC 9460, 2.2.
 const VALUE_MAX: usize = 65_535;
 
+/// Words are at most one list of parameters.
+///
+/// It does nothing. Calling it brings the law into the caller's proof.
+pub fn words_are_one_list_of_params()
+    ensures { (words : List (List ℕ)) (octets other : List ℕ) → IsParamsText words octets → IsParamsText words other
+        → octets ≡ other }
+{}
+
+/// What words say of parameters has the form of parameters.
+///
+/// It does nothing. Calling it brings the law into the caller's proof.
+pub fn what_is_read_is_svc_params()
+    ensures { (words : List (List ℕ)) (octets : List ℕ) → IsParamsText words octets → IsSvcParams octets }
+{}
+
 /// Appends the octets of the service parameters that the words are, in any order.
 ///
 /// # Errors
@@ -92,8 +107,9 @@ fn next_param(
     words: &mut Words,
     params: &mut BTreeMap<u16, Vec<u8>>,
 ) -> Result<(), ReadError>
-    ensures ok { OnOk result ((word : List ℕ) × (param : Param) × TakesWord word (ahead_of words.old) (ahead_of words.new)
-        × IsParamText word param × IsPermutation (param ∷ params_in params.old) (params_in params.new)) }
+    ensures ok { OnOk result ((word : List ℕ) × (param : Param)
+        × TakesWord word (ahead_of words.old) (ahead_of words.new) × IsParamText word param
+        × IsPermutation (param ∷ params_in params.old) (params_in params.new)) }
     ensures ascending { OnOk result (IsStrictlyIncreasing (map (λ param. param.0) (params_in params.new))) }
     ensures end { OnOk result (offset_of words.new + length (ahead_of words.new)
         ≡ offset_of words.old + length (ahead_of words.old)) }

@@ -11,11 +11,19 @@ ghost use Rattle.octseq_dns_text.specs.declared.error.ScanError.{ScanError};
 
 use crate::error::ScanError;
 use octseq::{AppendError, OctetsBuilder, Truncate};
-use octseq_dns_data::rtype_bitmap::append_rtypes;
 use octseq_dns_data::Rtype;
+use octseq_dns_data::rtype_bitmap::append_rtypes;
 use octseq_dns_scan::Words;
 use std::alloc::Global;
 use std::str;
+
+/// Words are at most one set of types.
+///
+/// It does nothing. Calling it brings the law into the caller's proof.
+pub fn words_are_one_set_of_types()
+    ensures { (words : List (List ℕ)) (octets other : List ℕ) → IsTypesText words octets → IsTypesText words other
+        → octets ≡ other }
+{}
 
 /// Appends the octets of the bitmap of the types that the words are, in any order.
 ///

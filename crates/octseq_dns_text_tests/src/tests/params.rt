@@ -141,8 +141,10 @@ fn keys_are_of_one_number_however_they_are_named(rt: HostRuntime) {
     assert_read(
         &rt,
         "key4=1.2.3.4\tkey1=h2 key0=key4,alpn  key5=AAAA key2 ",
-        Ok(b"\x00\x00\x00\x04\x00\x01\x00\x04\x00\x01\x00\x03\x02h2\x00\x02\x00\x00\
-\x00\x04\x00\x04\x01\x02\x03\x04\x00\x05\x00\x03\0\0\0"),
+        Ok(
+            b"\x00\x00\x00\x04\x00\x01\x00\x04\x00\x01\x00\x03\x02h2\x00\x02\x00\x00\
+\x00\x04\x00\x04\x01\x02\x03\x04\x00\x05\x00\x03\0\0\0",
+        ),
     );
 }
 
@@ -153,5 +155,9 @@ fn parameters_beyond_the_limit_are_refused(rt: HostRuntime) {
     assert_equal!(&rt, scan_params(rt.alloc(), words, &mut few), Ok(()));
     let more = scan_params(rt.alloc(), Words::new(b"key9"), &mut few);
     assert_equal!(&rt, more, Err(ScanError::Short));
-    assert_equal!(&rt, AsOctets::as_ref(&few), b"\x00\x07\x00\x01a\x00\x09\x00\x00".as_slice());
+    assert_equal!(
+        &rt,
+        AsOctets::as_ref(&few),
+        b"\x00\x07\x00\x01a\x00\x09\x00\x00".as_slice()
+    );
 }

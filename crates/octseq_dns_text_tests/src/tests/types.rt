@@ -56,7 +56,11 @@ fn types_are_read_in_any_order(rt: HostRuntime) {
 #[test]
 fn types_beyond_the_limit_are_refused(rt: HostRuntime) {
     let mut few = Array::<3>::new();
-    assert_equal!(&rt, scan_types(rt.alloc(), Words::new(b"A"), &mut few), Ok(()));
+    assert_equal!(
+        &rt,
+        scan_types(rt.alloc(), Words::new(b"A"), &mut few),
+        Ok(())
+    );
     let more = scan_types(rt.alloc(), Words::new(b"NS"), &mut few);
     assert_equal!(&rt, more, Err(ScanError::Short));
     assert_equal!(&rt, AsOctets::as_ref(&few), b"\x00\x01\x40".as_slice());

@@ -6,4 +6,5 @@ use Rattle.octseq_dns_text.proofs.params.params_octets.Given as goal
 
 abbrev pub invariant-loop-key : goal.invariant-loop-key
 invariant-loop-key l =
-    l.octets.items ++ flat_map param_octets (map entry_param l.key-iterator) ≡ flat_map param_octets (params_in l.params)
+    l.octets.items ++ flat_map param_octets (map entry_param l.key-iterator)
+    ≡ flat_map param_octets (params_in l.params)
