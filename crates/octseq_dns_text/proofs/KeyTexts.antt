@@ -67,6 +67,12 @@ pair named key name number spelled =
     let first : named ≡ (key, named.1) = ap (λ (k : ℕ). (k, named.1)) number in
     first ∙ ap (λ (n : List ℕ). (key, n)) spelled
 
+pub first_among : (x : ℕ × List ℕ) (xs : Names) → IsAmong (x ∷ xs) x
+first_among x xs = (0, (omega arith, refl))
+
+pub later_among : (x y : ℕ × List ℕ) (xs : Names) → IsAmong xs y → IsAmong (x ∷ xs) y
+later_among x y xs is = (suc is.0, (omega (arith, is.1.0), is.1.1))
+
 pub first_or_later : (x y : ℕ × List ℕ) (xs : Names) → IsAmong (x ∷ xs) y → (y ≡ x) ⊎ IsAmong xs y
 first_or_later x y xs (zero, (less, same)) = inl same
 first_or_later x y xs (suc i, (less, same)) = inr (i, (omega (arith, less), same))

@@ -7,6 +7,8 @@ pub mod MandatoryTexts
 pub mod Maps
 pub mod Outcomes
 pub mod ParamsTexts
+pub mod Plain
+pub mod Shown
 pub mod Sortings
 pub mod Splits
 pub mod TypesTexts

@@ -4,7 +4,9 @@ ghost use Rattle.std.specs.Prelude.{IsErrOf, IfOk, OnOk};
 ghost use Rattle.std.specs.List.{Contains, flat_map};
 ghost use Rattle.std.specs.List.Sorted.{IsPermutation, IsStrictlyIncreasing};
 ghost use Rattle.octseq.specs.Refusal.{IsMalformed, read_error};
-ghost use Rattle.octseq_dns_data.specs.SvcParams.{IsSvcParams, Param, param_octets};
+ghost use Rattle.octseq.proofs.WrittenBack.{AreOctets};
+ghost use Rattle.octseq_dns_data.specs.SvcParams.{IsSvcParams, Param, param_octets, params_of};
+ghost use Rattle.octseq_dns_data.specs.SvcParamsText.{param_text};
 ghost use Rattle.octseq_dns_scan.specs.Word.{AreWords, TakesWord};
 ghost use Rattle.octseq_dns_scan.specs.Words.{ahead_of, offset_of};
 ghost use Rattle.octseq_dns_text.specs.ParamText.{IsParamText, Says};
@@ -39,6 +41,14 @@ const VALUE_MAX: usize = 65_535;
 pub fn words_are_one_list_of_params()
     ensures { (words : List (List ℕ)) (octets other : List ℕ) → IsParamsText words octets → IsParamsText words other
         → octets ≡ other }
+{}
+
+/// What is displayed of parameters, each a word, is read as these parameters.
+///
+/// It does nothing. Calling it brings the law into the caller's proof.
+pub fn params_are_read_from_their_text()
+    ensures { (octets : List ℕ) → AreOctets octets → IsSvcParams octets
+        → IsParamsText (map param_text (params_of octets)) octets }
 {}
 
 /// What words say of parameters has the form of parameters.
