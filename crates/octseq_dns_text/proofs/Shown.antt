@@ -5,9 +5,9 @@ use Rattle.std.proofs.Common.{arith, length-append}
 use Rattle.std.specs.Fmt.{decimal}
 use Rattle.std.specs.List.{All, AllByRecursion, AllZip, IsAmong, concat, flat_map}
 use Rattle.std.specs.Net.Text.{ipv4_text}
-use Rattle.std.specs.Prelude.{◌==◌, nat_eq, codes, if◌then◌else◌, unwrap_or, not, ◌&&◌, slice_index}
+use Rattle.std.specs.Prelude.{◌==◌, nat_eq, codes, if◌then◌else◌, unwrap_or, not, ◌&&◌, nat_le, slice_index}
 use Rattle.std.specs.Str.Parse.{IsNumeral, digits_value}
-use Rattle.std.proofs.lemmas.Bool.{and_parts, eqb-false, ne_eqb, not-true}
+use Rattle.std.proofs.lemmas.Bool.{and_parts, eqb-false, leb-true, ne_eqb, not-true}
 use Rattle.std.proofs.lemmas.Bool.Decides.{Decides-eqb}
 use Rattle.std.proofs.lemmas.Fmt.{decimal_digit, first_decimal}
 use Rattle.std.proofs.lemmas.List.{append-nil, length-drop, length-take-le, nil_from_length, take-append-drop}
@@ -27,6 +27,7 @@ use Rattle.octseq_dns_data.proofs.Pieces.{each_after, is_octets, pieces_of_all}
 use Rattle.octseq_dns_scan.specs.Address.{IsIpv4Word, IsIpv6Word}
 use Rattle.octseq_dns_scan.specs.Base64.{base64_text}
 use Rattle.octseq_dns_scan.specs.Spelled.{SpellsString}
+use Rattle.octseq_dns_scan.specs.Word.{IsWord}
 use Rattle.octseq_dns_scan.proofs.Addresses.{ipv4_word, ipv6_word}
 use Rattle.octseq_dns_scan.proofs.Numerals.{shown_digits, shown_value}
 use Rattle.octseq_dns_scan.proofs.StringWords.{string_spelled}
@@ -38,7 +39,8 @@ use Rattle.octseq_dns_text.specs.Split.{items_of, octets_after, octets_before}
 use Rattle.octseq_dns_text.proofs.KeyTexts.{first_among, first_or_later, later_among}
 use Rattle.octseq_dns_text.proofs.Plain.{ArePlain, AreBare, IsPlain, all_append, bare_spells, base64_bare, colon_hex_plain}
 use Rattle.octseq_dns_text.proofs.Plain.{decimal_plain, dotted_plain, items_listed, plain_after, plain_bare}
-use Rattle.octseq_dns_text.proofs.Plain.{plain_before, plain_none, plain_whole, with_commas_bare}
+use Rattle.octseq_dns_text.proofs.Plain.{plain_before, plain_none, plain_text_word, plain_whole, valued_word}
+use Rattle.octseq_dns_text.proofs.Plain.{with_commas_bare}
 
 -- ---- keys
 
@@ -67,7 +69,8 @@ among_plain (named ∷ more) n name plain among = elim (first_or_later named (n,
 ]
 
 abbrev is_plain : ℕ → Bool
-is_plain octet = not (octet == 34) && (not (octet == 44) && (not (octet == 61) && not (octet == 92)))
+is_plain octet = not (octet == 34) && (not (octet == 44) && (not (octet == 61) && (not (octet == 92)
+    && (not (octet == 9) && (not (octet == 10) && (not (octet == 13) && not (octet == 32)))))))
 
 abbrev are_plain : List ℕ → Bool
 are_plain [] = true
@@ -86,8 +89,21 @@ plain_from (octet ∷ text) is =
     let both = and_parts (is_plain octet) (are_plain text) is in
     let first = and_parts _ _ both.0 in
     let second = and_parts _ _ first.1 in
-    let third = and_parts _ _ second.1 in (
-      (apart octet 34 first.0, apart octet 44 second.0, apart octet 61 third.0, apart octet 92 third.1),
+    let third = and_parts _ _ second.1 in
+    let fourth = and_parts _ _ third.1 in
+    let fifth = and_parts _ _ fourth.1 in
+    let sixth = and_parts _ _ fifth.1 in
+    let seventh = and_parts _ _ sixth.1 in (
+      (
+        apart octet 34 first.0,
+        apart octet 44 second.0,
+        apart octet 61 third.0,
+        apart octet 92 fourth.0,
+        apart octet 9 fifth.0,
+        apart octet 10 sixth.0,
+        apart octet 13 seventh.0,
+        apart octet 32 seventh.1,
+      ),
       plain_from text both.1,
     )
 
@@ -123,6 +139,28 @@ shown_key key bits None is plain =
       }),
       all_append IsPlain (codes "key") (decimal key) word (decimal_plain key (omega (arith, bits))),
     )
+
+abbrev NamedSome : Names → Type 0
+NamedSome names = AllByRecursion (λ named. 1 ≤ length named.1) names
+
+abbrev named_some : Names → Bool
+named_some [] = true
+named_some (named ∷ more) = nat_le 1 (length named.1) && named_some more
+
+names_some : (names : Names) → named_some names ≡ true → NamedSome names
+names_some [] is = tt
+names_some (named ∷ more) is =
+    let both = and_parts (nat_le 1 (length named.1)) (named_some more) is in
+    (leb-true 1 (length named.1) both.0, names_some more both.1)
+
+among_some : (n : ℕ) (names : Names) (name : List ℕ) → NamedSome names → IsAmong names (n, name) → 1 ≤ length name
+among_some n [] name some among = absurd (omega (arith, among.1.0))
+among_some n (named ∷ more) name some among = elim (first_or_later named (n, name) more among) [
+  | inl same ↦
+      let spelled = ap (λ (x : ℕ × List ℕ). length x.1) same in
+      omega (arith, spelled, some.0)
+  | inr later ↦ among_some n more name some.1 later
+]
 
 -- the text of a key names it
 pub key_shown : (key : ℕ) → key < 65536 → IsKeyText (key_text key) key × ArePlain (key_text key)
@@ -482,3 +520,37 @@ params_shown octets each are = record {
   moved = IsPermutation-refl (params_of octets);
   are = are;
 }
+
+-- ---- what is displayed of a parameter is a word
+
+key_some : (name : List ℕ) (key : ℕ) → IsKeyText name key → 1 ≤ length name
+key_some name key (inl named) = among_some key key_names name (names_some key_names refl) named
+key_some name key (inr numbered) =
+    let all = ap length numbered.parts in omega (arith, all, length-append (codes "key") numbered.digits)
+
+pub param_word : (key : ℕ) (value : List ℕ) → IsParam (key, value) → AreOctets value → IsWord (param_text (key, value))
+param_word key [] is each =
+    let shown = key_shown key is.key in
+    subst IsWord (sym (append-nil (key_text key)))
+    (plain_text_word (key_text key) (key_some (key_text key) key shown.0) shown.1)
+param_word key (octet ∷ value) is each =
+    let shown = key_shown key is.key in
+    let all = value_shown key (octet ∷ value) is.value each (omega arith) in
+    valued_word (key_text key) all.0 (34 ∷ value_text key (octet ∷ value) ++ 34 ∷ [])
+    (key_some (key_text key) key shown.0) shown.1 all.1
+
+params_words : (params : List Param) → AllByRecursion IsParam params → AreOctets (flat_map param_octets params)
+    → AllByRecursion IsWord (map param_text params)
+params_words [] are each = tt
+params_words (param ∷ params) are each =
+    let first = octets_front (param_octets param) (flat_map param_octets params) each in
+    let part = each_after (octets_be 2 param.0) (part_of 2 param.1) first in
+    let value = each_after (octets_be 2 (length param.1)) param.1 part in
+    (param_word param.0 param.1 are.0 value, params_words params are.1 (each_after (param_octets param) _ each))
+
+pub shown_words : (octets : List ℕ) → AreOctets octets → IsSvcParams octets
+    → All IsWord (map param_text (params_of octets))
+shown_words octets each are =
+    All-from_recursion IsWord (map param_text (params_of octets))
+    (params_words (params_of octets) (recursion_from_All IsParam (params_of octets) are.each)
+    (subst AreOctets are.spelled each))
