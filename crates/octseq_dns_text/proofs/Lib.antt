@@ -8,8 +8,10 @@ pub mod Maps
 pub mod Outcomes
 pub mod ParamsTexts
 pub mod Plain
+pub mod PlainNames
 pub mod Shown
 pub mod Sortings
 pub mod Splits
+pub mod TypesShown
 pub mod TypesTexts
 pub mod ValueTexts
