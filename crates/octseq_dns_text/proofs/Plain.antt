@@ -1,8 +1,8 @@
 -- Texts without blanks and ends of lines (9, 10, 13, 32), quotation marks (34), commas (44), equals signs (61) and
 -- backslashes (92).
 use Rattle.std.proofs.Common.{◌≡◌, ◌≢◌, inl, inr, ℕ, ◌+◌, ◌*◌, ◌/◌, ◌%◌, ◌^◌, ◌<◌, ◌≤◌, length, Bool, true, false, List, [], ◌∷◌, ◌++◌}
-use Rattle.std.proofs.Common.{map, Option, None, Some, refl, sym, ap, ◌∙◌, subst, arith, append_assoc}
-use Rattle.std.specs.Char.{digit_value, char_set_contains}
+use Rattle.std.proofs.Common.{map, Option, None, Some, refl, sym, ap, ◌∙◌, subst, arith}
+use Rattle.std.specs.Char.{digit_value}
 use Rattle.std.specs.Fmt.{decimal}
 use Rattle.std.specs.List.{AllByRecursion, flat_map}
 use Rattle.std.specs.Net.Grammar.{IsColonHex, IsDotted, IsGroupsAfter}
@@ -16,7 +16,7 @@ use Rattle.std.proofs.lemmas.List.Elements.{All-from_recursion}
 use Rattle.std.proofs.lemmas.List.Splits.{slice_split_at, slice_split_none}
 use Rattle.octseq.proofs.WrittenBack.{AreOctets}
 use Rattle.octseq_dns_data.specs.SvcParamsText.{with_commas}
-use Rattle.octseq_dns_scan.specs.Base64.{sextets, base64_digit, base64_text}
+use Rattle.octseq_dns_scan.specs.Base64.{base64_digit, base64_text}
 use Rattle.octseq_dns_scan.specs.Spelled.{is_special_in_string, SpellsOctet, SpellsOctets, SpellsString}
 use Rattle.octseq_dns_scan.specs.Word.{IsWord, is_special}
 use Rattle.octseq_dns_scan.proofs.Numerals.{shown_digits}
@@ -202,7 +202,6 @@ plain_none (octet ∷ text) each =
 
 no_comma : (octet : ℕ) → IsPlain octet → (octet == 44) ≡ false
 no_comma octet is = ne_eqb octet 44 is.1
-
 
 -- texts with commas between them are the items of the list
 pub items_listed : {X : Type 0} (text : X → List ℕ) (x : X) (xs : List X)

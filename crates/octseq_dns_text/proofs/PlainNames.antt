@@ -1,5 +1,5 @@
 -- Names in a table: how they are found, and that they are plain.
-use Rattle.std.proofs.Common.{◌≡◌, ◌≢◌, inl, inr, ℕ, ◌<◌, ◌≤◌, Bool, true, false, List, [], ◌∷◌, length, None, Some}
+use Rattle.std.proofs.Common.{◌≡◌, ◌≢◌, inl, inr, ℕ, ◌≤◌, Bool, true, false, List, [], ◌∷◌, length, Some}
 use Rattle.std.proofs.Common.{refl, sym, ap, subst, arith}
 use Rattle.std.specs.List.{AllByRecursion, IsAmong}
 use Rattle.std.specs.Prelude.{◌==◌, nat_eq, nat_le, not, ◌&&◌, if◌then◌else◌}
@@ -101,4 +101,3 @@ among_some n (named ∷ more) name some among = elim (first_or_later named (n, n
       omega (arith, spelled, some.0)
   | inr later ↦ among_some n more name some.1 later
 ]
-

@@ -1,14 +1,12 @@
 -- What is displayed of parameters is read back.
-use Rattle.std.proofs.Common.{◌≡◌, ◌≢◌, ◌⊎◌, inl, inr, ℕ, zero, suc, ◌+◌, ◌*◌, ◌/◌, ◌%◌, ◌^◌, ◌<◌, ◌≤◌, Bool, true, false}
+use Rattle.std.proofs.Common.{◌≡◌, ◌≢◌, inl, inr, ℕ, zero, suc, ◌*◌, ◌/◌, ◌^◌, ◌<◌, ◌≤◌, Bool, true, false}
 use Rattle.std.proofs.Common.{List, [], ◌∷◌, ◌++◌, length, map, take, drop, Option, None, Some, refl, sym, ap, ◌∙◌, subst}
 use Rattle.std.proofs.Common.{arith, length-append}
 use Rattle.std.specs.Fmt.{decimal}
-use Rattle.std.specs.List.{All, AllByRecursion, AllZip, IsAmong, concat, flat_map}
+use Rattle.std.specs.List.{All, AllByRecursion, AllZip, concat, flat_map}
 use Rattle.std.specs.Net.Text.{ipv4_text}
-use Rattle.std.specs.Prelude.{◌==◌, nat_eq, codes, if◌then◌else◌, unwrap_or, not, ◌&&◌, nat_le, slice_index}
-use Rattle.std.specs.Str.Parse.{IsNumeral, digits_value}
-use Rattle.std.proofs.lemmas.Bool.{and_parts, eqb-false, leb-true, ne_eqb, not-true}
-use Rattle.std.proofs.lemmas.Bool.Decides.{Decides-eqb}
+use Rattle.std.specs.Prelude.{codes, if◌then◌else◌, unwrap_or, slice_index}
+use Rattle.std.proofs.lemmas.Bool.{ne_eqb}
 use Rattle.std.proofs.lemmas.Fmt.{decimal_digit, first_decimal}
 use Rattle.std.proofs.lemmas.List.{append-nil, length-drop, length-take-le, nil_from_length, take-append-drop}
 use Rattle.std.proofs.lemmas.List.Elements.{All-from_recursion, recursion_from_All}
@@ -17,11 +15,11 @@ use Rattle.octseq.proofs.WrittenBack.{AreOctets, as_be, small_be}
 use Rattle.octseq.specs.Integer.{be, octets_be}
 use Rattle.octseq.specs.OctetsText.{ipv6_address_text, string_octet_text, string_text}
 use Rattle.octseq.specs.Part.{part_of}
-use Rattle.octseq_dns_data.specs.Mnemonic.{Names, name_in, name_or}
+use Rattle.octseq_dns_data.specs.Mnemonic.{name_in}
 use Rattle.octseq_dns_data.specs.Pieces.{pieces, split_octets}
-use Rattle.octseq_dns_data.specs.SvcParams.{AreAddresses, AreIds, AreKeys, AreParams, IsParam, IsSvcParams, IsValueOf}
+use Rattle.octseq_dns_data.specs.SvcParams.{IsParam, IsSvcParams, IsValueOf}
 use Rattle.octseq_dns_data.specs.SvcParams.{Param, ids_of, keys_of, param_octets, params_of}
-use Rattle.octseq_dns_data.specs.SvcParamsText.{ids_text, key_names, key_text, listed_octet, param_text, value_text}
+use Rattle.octseq_dns_data.specs.SvcParamsText.{key_names, key_text, listed_octet, param_text, value_text}
 use Rattle.octseq_dns_data.specs.SvcParamsText.{is_listed_quoted, with_commas}
 use Rattle.octseq_dns_data.proofs.Pieces.{each_after, is_octets, pieces_of_all}
 use Rattle.octseq_dns_scan.specs.Address.{IsIpv4Word, IsIpv6Word}
@@ -31,7 +29,7 @@ use Rattle.octseq_dns_scan.specs.Word.{IsWord}
 use Rattle.octseq_dns_scan.proofs.Addresses.{ipv4_word, ipv6_word}
 use Rattle.octseq_dns_scan.proofs.Numerals.{shown_digits, shown_value}
 use Rattle.octseq_dns_scan.proofs.StringWords.{string_spelled}
-use Rattle.octseq_dns_text.specs.IdsText.{IsIdsText, listed_id, listed_ids}
+use Rattle.octseq_dns_text.specs.IdsText.{listed_id, listed_ids}
 use Rattle.octseq_dns_text.specs.KeyText.{IsKeyText}
 use Rattle.octseq_dns_text.specs.ParamText.{AreAddressTexts, IsAddressText, IsParamText, IsValueText, Says}
 use Rattle.octseq_dns_text.specs.ParamsText.{IsParamsText}
@@ -53,7 +51,7 @@ no_zero (suc key) bits long same =
 shown_key : (key : ℕ) → key < 65536 → (found : Option (List ℕ)) → name_in key_names key ≡ found
     → NamedPlain key_names
     → IsKeyText (unwrap_or found (codes "key" ++ decimal key)) key
-        × ArePlain (unwrap_or found (codes "key" ++ decimal key))
+    × ArePlain (unwrap_or found (codes "key" ++ decimal key))
 shown_key key bits (Some name) is plain =
     let among = name_among key_names key name is in
     (inl among, among_plain key_names key name plain among)
@@ -168,7 +166,7 @@ listed_addresses Is size text texts (x ∷ xs) some each =
 addresses_shown : (Is : List ℕ → List ℕ → Type 0) (size : ℕ) (text : List ℕ → List ℕ) → Texts Is size text → (n : ℕ)
     (value : List ℕ) → length value ≡ n * size → 1 ≤ n → AreOctets value
     → AreAddressTexts Is size (with_commas text (pieces (split_octets size) value)) value
-        × AreBare (with_commas text (pieces (split_octets size) value))
+    × AreBare (with_commas text (pieces (split_octets size) value))
 addresses_shown Is size text texts n value long some each =
     let found = chunks size n value long in
     let xs = found.0 in

@@ -1,7 +1,7 @@
 -- What is displayed of types is read back.
-use Rattle.std.proofs.Common.{◌≡◌, ◌+◌, ◌<◌, ◌≤◌, ℕ, List, ◌++◌, length, map, Option, None, Some, refl, arith, length-append}
+use Rattle.std.proofs.Common.{◌≡◌, ◌<◌, ℕ, List, ◌++◌, map, Option, None, Some, refl, arith, length-append}
 use Rattle.std.specs.Fmt.{decimal}
-use Rattle.std.specs.List.{All, AllByRecursion, IsDistinct}
+use Rattle.std.specs.List.{All, IsDistinct}
 use Rattle.std.specs.Prelude.{nat_eq, codes, unwrap_or}
 use Rattle.std.proofs.lemmas.List.Elements.{recursion_from_All}
 use Rattle.octseq_dns_data.specs.Mnemonic.{ReadsRtype, name_in, rtype_text}
@@ -10,7 +10,7 @@ use Rattle.octseq_dns_data.specs.RtypeBitmapMade.{bitmap_of}
 use Rattle.octseq_dns_data.proofs.Mnemonics.{reads_shown}
 use Rattle.octseq_dns_scan.specs.Word.{IsWord}
 use Rattle.octseq_dns_text.specs.TypesText.{IsTypesText}
-use Rattle.octseq_dns_text.proofs.Plain.{ArePlain, IsPlain, all_append, decimal_plain, plain_text_word}
+use Rattle.octseq_dns_text.proofs.Plain.{IsPlain, all_append, decimal_plain, plain_text_word}
 use Rattle.octseq_dns_text.proofs.PlainNames.{among_plain, among_some, name_among, names_from, names_some, plain_from}
 use Rattle.octseq_dns_text.proofs.Shown.{all_both, zip_map}
 
