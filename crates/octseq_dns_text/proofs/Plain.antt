@@ -1,6 +1,7 @@
 -- Texts without blanks and ends of lines (9, 10, 13, 32), quotation marks (34), commas (44), equals signs (61) and
 -- backslashes (92).
-use Rattle.std.proofs.Common.{◌≡◌, ◌≢◌, inl, inr, ℕ, ◌+◌, ◌*◌, ◌/◌, ◌%◌, ◌^◌, ◌<◌, ◌≤◌, length, Bool, true, false, List, [], ◌∷◌, ◌++◌}
+use Rattle.std.proofs.Common.{◌≡◌, ◌≢◌, inl, inr, ℕ, ◌+◌, ◌*◌, ◌/◌, ◌%◌, ◌^◌, ◌<◌, ◌≤◌, length, Bool, true, false}
+use Rattle.std.proofs.Common.{List, [], ◌∷◌, ◌++◌}
 use Rattle.std.proofs.Common.{map, Option, None, Some, refl, sym, ap, ◌∙◌, subst, arith}
 use Rattle.std.specs.Char.{digit_value}
 use Rattle.std.specs.Fmt.{decimal}
@@ -102,7 +103,8 @@ groups_plain ipv4 lead text [] begins is = subst ArePlain (sym is) tt
 groups_plain ipv4 lead text (s ∷ segments) begins (inl (group, rest, same, number, more)) =
     let here = digits_plain 16 group (omega arith) number.0.0.1 in
     let after = groups_plain ipv4 (codes ":") rest segments (colon_plain, tt) more in
-    subst ArePlain (sym same) (all_append IsPlain (lead ++ group) rest (all_append IsPlain lead group begins here) after)
+    subst ArePlain (sym same)
+    (all_append IsPlain (lead ++ group) rest (all_append IsPlain lead group begins here) after)
 groups_plain ipv4 lead text (s ∷ segments) begins (inr (last, octets, is, same, dotted, value)) =
     subst ArePlain (sym same) (all_append IsPlain lead last begins (dotted_plain last octets dotted))
 

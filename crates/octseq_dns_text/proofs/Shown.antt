@@ -1,6 +1,7 @@
 -- What is displayed of parameters is read back.
 use Rattle.std.proofs.Common.{◌≡◌, ◌≢◌, inl, inr, ℕ, zero, suc, ◌*◌, ◌/◌, ◌^◌, ◌<◌, ◌≤◌, Bool, true, false}
-use Rattle.std.proofs.Common.{List, [], ◌∷◌, ◌++◌, length, map, take, drop, Option, None, Some, refl, sym, ap, ◌∙◌, subst}
+use Rattle.std.proofs.Common.{List, [], ◌∷◌, ◌++◌, length, map, take, drop, Option, None, Some, refl, sym, ap, ◌∙◌}
+use Rattle.std.proofs.Common.{subst}
 use Rattle.std.proofs.Common.{arith, length-append}
 use Rattle.std.specs.Fmt.{decimal}
 use Rattle.std.specs.List.{All, AllByRecursion, AllZip, concat, flat_map}
@@ -36,7 +37,8 @@ use Rattle.octseq_dns_text.specs.ParamsText.{IsParamsText}
 use Rattle.octseq_dns_text.specs.Split.{items_of, octets_after, octets_before}
 use Rattle.octseq_dns_text.proofs.PlainNames.{NamedPlain, among_plain, among_some, name_among, names_from, names_some}
 use Rattle.octseq_dns_text.proofs.PlainNames.{plain_from}
-use Rattle.octseq_dns_text.proofs.Plain.{ArePlain, AreBare, IsPlain, all_append, bare_spells, base64_bare, colon_hex_plain}
+use Rattle.octseq_dns_text.proofs.Plain.{ArePlain, AreBare, IsPlain, all_append, bare_spells, base64_bare}
+use Rattle.octseq_dns_text.proofs.Plain.{colon_hex_plain}
 use Rattle.octseq_dns_text.proofs.Plain.{decimal_plain, dotted_plain, items_listed, plain_after, plain_bare}
 use Rattle.octseq_dns_text.proofs.Plain.{plain_before, plain_none, plain_text_word, plain_whole, valued_word}
 use Rattle.octseq_dns_text.proofs.Plain.{with_commas_bare}
@@ -172,7 +174,8 @@ addresses_shown Is size text texts n value long some each =
     let xs = found.0 in
     let octets = octets_each xs (subst AreOctets found.1 each) in
     let split = ap (pieces (split_octets size)) found.1 ∙ pieces_of_all (is_octets size texts.some) xs found.2 in
-    let all = listed_addresses Is size text texts xs (omega (arith, some, found.3)) (both_each size xs found.2 octets) in
+    let all = listed_addresses Is size text texts xs (omega (arith, some, found.3))
+    (both_each size xs found.2 octets) in
     let same = found.1 ∙ concat_is xs in
     subst (λ l. AreAddressTexts Is size (with_commas text l) value × AreBare (with_commas text l)) (sym split)
     (subst (λ v. AreAddressTexts Is size (with_commas text xs) v × AreBare (with_commas text xs)) (sym same) all)
@@ -224,7 +227,8 @@ parts_octets (id ∷ ids) each =
 -- ---- values
 
 abbrev pub Shows : ℕ → List ℕ → Type 0
-Shows key value = (said : List ℕ) × SpellsString said (34 ∷ value_text key value ++ 34 ∷ []) × IsValueText key said value
+Shows key value =
+    (said : List ℕ) × SpellsString said (34 ∷ value_text key value ++ 34 ∷ []) × IsValueText key said value
 
 bare_string : (said : List ℕ) → AreBare said → SpellsString said (34 ∷ said ++ 34 ∷ [])
 bare_string said bare = SpellsString.quoted said refl (bare_spells said bare)
@@ -243,7 +247,8 @@ other_text key value high =
     let i = ne_eqb key 6 (λ e. omega (arith, e, high)) in
     rw (a, b, d, f, h, i) refl
 
-pub value_shown : (key : ℕ) (value : List ℕ) → IsValueOf key value → AreOctets value → 1 ≤ length value → Shows key value
+pub value_shown : (key : ℕ) (value : List ℕ) → IsValueOf key value → AreOctets value → 1 ≤ length value
+    → Shows key value
 unfolding value_text
 value_shown zero value is each some =
     let keys = keys_of value in
@@ -252,7 +257,13 @@ value_shown zero value is each some =
       with_commas key_text keys,
       bare_string (with_commas key_text keys) items.1,
       record {
-        mandatory = λ e. record { keys = keys; each = items.0; sorted = keys; moved = IsPermutation-refl keys; are = are };
+        mandatory = λ e. record {
+          keys = keys;
+          each = items.0;
+          sorted = keys;
+          moved = IsPermutation-refl keys;
+          are = are;
+        };
         alpn = λ e. absurd (omega (arith, e));
         no_default_alpn = λ e. absurd (omega (arith, e));
         port = λ e. absurd (omega (arith, e));
