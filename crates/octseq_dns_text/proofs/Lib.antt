@@ -12,6 +12,7 @@ pub mod OneReading
 pub mod Outcomes
 pub mod ParamsTexts
 pub mod Plain
+pub mod PlainNames
 pub mod ReadTexts
 pub mod ReaderLengths
 pub mod RtypeTexts
@@ -23,6 +24,7 @@ pub mod Sortings
 pub mod Splits
 pub mod StringTexts
 pub mod TakeTexts
+pub mod TypesShown
 pub mod TypesTexts
 pub mod ValueTexts
 pub mod WordTexts

@@ -1,19 +1,16 @@
 -- Words are read as parameters, each key once.
-use Rattle.std.proofs.Common.{◌≡◌, ◌⊎◌, inl, inr, ◌+◌, ◌*◌, ◌<◌, ◌≤◌, ◌^◌, ℕ, zero, suc, List, [], ◌∷◌, ◌++◌, map}
+use Rattle.std.proofs.Common.{◌≡◌, ◌*◌, ◌≤◌, ℕ, List, [], ◌∷◌, ◌++◌, map}
 use Rattle.std.proofs.Common.{length, refl, sym, ap, ◌∙◌, subst, arith}
-use Rattle.std.specs.List.{All, AllByRecursion, AllZip, Contains, IsAmong, concat, flat_map}
+use Rattle.std.specs.List.{All, AllZip, Contains, concat, flat_map}
 use Rattle.std.specs.List.Sorted.{IsPermutation, IsStrictlyIncreasing}
 use Rattle.std.proofs.lemmas.List.{append-nil, length-append}
 use Rattle.std.proofs.lemmas.List.Elements.{All-cons, All-nil}
 use Rattle.std.proofs.lemmas.List.Sorted.{All-permutation, Contains-permutation, IsPermutation-map, IsPermutation-sym}
 use Rattle.std.proofs.lemmas.List.Sorted.{IsPermutation-push_more}
 use Rattle.octseq.proofs.Written.{length_be}
-use Rattle.octseq.specs.Integer.{octets_be}
 use Rattle.octseq_dns_data.specs.SvcParams.{AreAddresses, AreIds, AreKeys, IsParam, IsSvcParams, IsValueOf, Param}
 use Rattle.octseq_dns_data.specs.SvcParams.{AreParams, param_octets}
-use Rattle.octseq_dns_data.specs.SvcParamsText.{key_names}
 use Rattle.octseq_dns_data.proofs.Params.{one_ids, one_keys, one_params}
-use Rattle.octseq_dns_text.specs.KeyText.{IsKeyText}
 use Rattle.octseq_dns_text.specs.ParamText.{AreAddressTexts, IsAddressText, IsParamText, IsValueText}
 use Rattle.octseq_dns_text.specs.ParamsText.{IsParamsText}
 use Rattle.octseq_dns_text.specs.Reading.{AreReadParams}

@@ -1,8 +1,9 @@
--- Texts without a quotation mark (34), a comma (44), an equals sign (61) or a backslash (92).
-use Rattle.std.proofs.Common.{◌≡◌, ◌≢◌, inl, inr, ℕ, ◌+◌, ◌*◌, ◌/◌, ◌%◌, ◌^◌, ◌<◌, Bool, true, false, List, [], ◌∷◌}
-use Rattle.std.proofs.Common.{◌++◌}
-use Rattle.std.proofs.Common.{map, Option, None, Some, refl, sym, ap, ◌∙◌, subst, arith, append_assoc}
-use Rattle.std.specs.Char.{digit_value, char_set_contains}
+-- Texts without blanks and ends of lines (9, 10, 13, 32), quotation marks (34), commas (44), equals signs (61) and
+-- backslashes (92).
+use Rattle.std.proofs.Common.{◌≡◌, ◌≢◌, inl, inr, ℕ, ◌+◌, ◌*◌, ◌/◌, ◌%◌, ◌^◌, ◌<◌, ◌≤◌, length, Bool, true, false}
+use Rattle.std.proofs.Common.{List, [], ◌∷◌, ◌++◌}
+use Rattle.std.proofs.Common.{map, Option, None, Some, refl, sym, ap, ◌∙◌, subst, arith}
+use Rattle.std.specs.Char.{digit_value}
 use Rattle.std.specs.Fmt.{decimal}
 use Rattle.std.specs.List.{AllByRecursion, flat_map}
 use Rattle.std.specs.Net.Grammar.{IsColonHex, IsDotted, IsGroupsAfter}
@@ -16,18 +17,22 @@ use Rattle.std.proofs.lemmas.List.Elements.{All-from_recursion}
 use Rattle.std.proofs.lemmas.List.Splits.{slice_split_at, slice_split_none}
 use Rattle.octseq.proofs.WrittenBack.{AreOctets}
 use Rattle.octseq_dns_data.specs.SvcParamsText.{with_commas}
-use Rattle.octseq_dns_scan.specs.Base64.{sextets, base64_digit, base64_text}
-use Rattle.octseq_dns_scan.specs.Spelled.{is_special_in_string, SpellsOctet, SpellsOctets}
+use Rattle.octseq_dns_scan.specs.Base64.{base64_digit, base64_text}
+use Rattle.octseq_dns_scan.specs.Spelled.{is_special_in_string, SpellsOctet, SpellsOctets, SpellsString}
+use Rattle.octseq_dns_scan.specs.Word.{IsWord, is_special}
 use Rattle.octseq_dns_scan.proofs.Numerals.{shown_digits}
+use Rattle.octseq_dns_scan.proofs.StringWords.{string_word}
+use Rattle.octseq_dns_scan.proofs.Taken.{joined_word, plain_word}
 use Rattle.octseq_dns_text.specs.Split.{octets_before, octets_after, items_of}
 
 -- an octet that stands for itself between quotation marks
 abbrev pub IsBare : ℕ → Type 0
 IsBare octet = (octet ≢ 34) × (octet ≢ 92)
 
--- and is neither a comma nor an equals sign
+-- and is no blank, no end of a line, no comma and no equals sign
 abbrev pub IsPlain : ℕ → Type 0
-IsPlain octet = (octet ≢ 34) × (octet ≢ 44) × (octet ≢ 61) × (octet ≢ 92)
+IsPlain octet = (octet ≢ 34) × (octet ≢ 44) × (octet ≢ 61) × (octet ≢ 92) × (octet ≢ 9) × (octet ≢ 10) × (octet ≢ 13)
+    × (octet ≢ 32)
 
 abbrev pub AreBare : List ℕ → Type 0
 AreBare text = AllByRecursion IsBare text
@@ -60,6 +65,10 @@ digit_plain radix octet few less = (
   no_digit radix octet 44 few refl less,
   no_digit radix octet 61 few refl less,
   no_digit radix octet 92 few refl less,
+  no_digit radix octet 9 few refl less,
+  no_digit radix octet 10 few refl less,
+  no_digit radix octet 13 few refl less,
+  no_digit radix octet 32 few refl less,
 )
 
 pub digits_plain : (radix : ℕ) (text : List ℕ) → radix < 37 → AllDigits radix text → ArePlain text
@@ -70,10 +79,12 @@ pub decimal_plain : (n : ℕ) → n < 2 ^ 64 → ArePlain (decimal n)
 decimal_plain n small = digits_plain 10 (decimal n) (omega arith) (shown_digits n small).1
 
 dot_plain : IsPlain 46
-dot_plain = (omega arith, omega arith, omega arith, omega arith)
+dot_plain =
+    (omega arith, omega arith, omega arith, omega arith, omega arith, omega arith, omega arith, omega arith)
 
 colon_plain : IsPlain 58
-colon_plain = (omega arith, omega arith, omega arith, omega arith)
+colon_plain =
+    (omega arith, omega arith, omega arith, omega arith, omega arith, omega arith, omega arith, omega arith)
 
 four_plain : (a b c d : ℕ) → (a < 256) × (b < 256) × (c < 256) × (d < 256) → ArePlain (dotted_text a b c d)
 four_plain a b c d fit =
@@ -92,8 +103,8 @@ groups_plain ipv4 lead text [] begins is = subst ArePlain (sym is) tt
 groups_plain ipv4 lead text (s ∷ segments) begins (inl (group, rest, same, number, more)) =
     let here = digits_plain 16 group (omega arith) number.0.0.1 in
     let after = groups_plain ipv4 (codes ":") rest segments (colon_plain, tt) more in
-    subst ArePlain (sym same) (all_append IsPlain (lead ++ group) rest
-    (all_append IsPlain lead group begins here) after)
+    subst ArePlain (sym same)
+    (all_append IsPlain (lead ++ group) rest (all_append IsPlain lead group begins here) after)
 groups_plain ipv4 lead text (s ∷ segments) begins (inr (last, octets, is, same, dotted, value)) =
     subst ArePlain (sym same) (all_append IsPlain lead last begins (dotted_plain last octets dotted))
 
@@ -221,3 +232,30 @@ pub with_commas_bare : {X : Type 0} (text : X → List ℕ) (xs : List X) → Al
 with_commas_bare text [] plain = tt
 with_commas_bare text (x ∷ xs) plain =
     all_append IsBare (text x) _ (plain_bare (text x) plain.0) (listed_bare text xs plain.1)
+
+-- ---- words
+
+plain_special : (octet : ℕ) → IsPlain octet → is_special octet ≡ false
+plain_special octet is =
+    let quote = ne_eqb 34 octet (λ e. is.0 (sym e)) in
+    let backslash = ne_eqb 92 octet (λ e. is.3 (sym e)) in
+    let tab = ne_eqb 9 octet (λ e. is.4 (sym e)) in
+    let feed = ne_eqb 10 octet (λ e. is.5 (sym e)) in
+    let return = ne_eqb 13 octet (λ e. is.6 (sym e)) in
+    let space = ne_eqb 32 octet (λ e. is.7 (sym e)) in
+    rw (tab, feed, return, space, quote, backslash) refl
+
+-- such a text is a word, if it has an octet
+pub plain_text_word : (text : List ℕ) → 1 ≤ length text → ArePlain text → IsWord text
+plain_text_word text some plain =
+    plain_word text some (All-from_recursion (λ octet. is_special octet ≡ false) text
+    (all_weaker IsPlain (λ octet. is_special octet ≡ false) plain_special text plain))
+
+-- and so are it, an equals sign, and a string
+pub valued_word : (text said word : List ℕ) → 1 ≤ length text → ArePlain text → SpellsString said word
+    → IsWord (text ++ 61 ∷ word)
+valued_word text said word some plain spells =
+    let sign : IsWord (61 ∷ []) = plain_word (61 ∷ []) (omega arith)
+    (All-from_recursion (λ octet. is_special octet ≡ false) (61 ∷ []) (refl, tt)) in
+    joined_word text (61 ∷ word) (plain_text_word text some plain)
+    (joined_word (61 ∷ []) word sign (string_word said word spells))

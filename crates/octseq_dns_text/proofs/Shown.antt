@@ -1,16 +1,13 @@
 -- What is displayed of parameters is read back.
-use Rattle.std.proofs.Common.{◌≡◌, ◌≢◌, ◌⊎◌, inl, inr, ℕ, zero, suc, ◌+◌, ◌*◌, ◌/◌, ◌%◌, ◌^◌, ◌<◌, ◌≤◌, Bool, true}
-use Rattle.std.proofs.Common.{false}
+use Rattle.std.proofs.Common.{◌≡◌, ◌≢◌, inl, inr, ℕ, zero, suc, ◌*◌, ◌/◌, ◌^◌, ◌<◌, ◌≤◌, Bool, true, false}
 use Rattle.std.proofs.Common.{List, [], ◌∷◌, ◌++◌, length, map, take, drop, Option, None, Some, refl, sym, ap, ◌∙◌}
 use Rattle.std.proofs.Common.{subst}
 use Rattle.std.proofs.Common.{arith, length-append}
 use Rattle.std.specs.Fmt.{decimal}
-use Rattle.std.specs.List.{All, AllByRecursion, AllZip, IsAmong, concat, flat_map}
+use Rattle.std.specs.List.{All, AllByRecursion, AllZip, concat, flat_map}
 use Rattle.std.specs.Net.Text.{ipv4_text}
-use Rattle.std.specs.Prelude.{◌==◌, nat_eq, codes, if◌then◌else◌, unwrap_or, not, ◌&&◌, slice_index}
-use Rattle.std.specs.Str.Parse.{IsNumeral, digits_value}
-use Rattle.std.proofs.lemmas.Bool.{and_parts, eqb-false, ne_eqb, not-true}
-use Rattle.std.proofs.lemmas.Bool.Decides.{Decides-eqb}
+use Rattle.std.specs.Prelude.{codes, if◌then◌else◌, unwrap_or, slice_index}
+use Rattle.std.proofs.lemmas.Bool.{ne_eqb}
 use Rattle.std.proofs.lemmas.Fmt.{decimal_digit, first_decimal}
 use Rattle.std.proofs.lemmas.List.{append-nil, length-drop, length-take-le, nil_from_length, take-append-drop}
 use Rattle.std.proofs.lemmas.List.Elements.{All-from_recursion, recursion_from_All}
@@ -19,86 +16,34 @@ use Rattle.octseq.proofs.WrittenBack.{AreOctets, as_be, small_be}
 use Rattle.octseq.specs.Integer.{be, octets_be}
 use Rattle.octseq.specs.OctetsText.{ipv6_address_text, string_octet_text, string_text}
 use Rattle.octseq.specs.Part.{part_of}
-use Rattle.octseq_dns_data.specs.Mnemonic.{Names, name_in, name_or}
+use Rattle.octseq_dns_data.specs.Mnemonic.{name_in}
 use Rattle.octseq_dns_data.specs.Pieces.{pieces, split_octets}
-use Rattle.octseq_dns_data.specs.SvcParams.{AreAddresses, AreIds, AreKeys, AreParams, IsParam, IsSvcParams, IsValueOf}
+use Rattle.octseq_dns_data.specs.SvcParams.{IsParam, IsSvcParams, IsValueOf}
 use Rattle.octseq_dns_data.specs.SvcParams.{Param, ids_of, keys_of, param_octets, params_of}
-use Rattle.octseq_dns_data.specs.SvcParamsText.{ids_text, key_names, key_text, listed_octet, param_text, value_text}
+use Rattle.octseq_dns_data.specs.SvcParamsText.{key_names, key_text, listed_octet, param_text, value_text}
 use Rattle.octseq_dns_data.specs.SvcParamsText.{is_listed_quoted, with_commas}
 use Rattle.octseq_dns_data.proofs.Pieces.{each_after, is_octets, pieces_of_all}
 use Rattle.octseq_dns_scan.specs.Address.{IsIpv4Word, IsIpv6Word}
 use Rattle.octseq_dns_scan.specs.Base64.{base64_text}
 use Rattle.octseq_dns_scan.specs.Spelled.{SpellsString}
+use Rattle.octseq_dns_scan.specs.Word.{IsWord}
 use Rattle.octseq_dns_scan.proofs.Addresses.{ipv4_word, ipv6_word}
 use Rattle.octseq_dns_scan.proofs.Numerals.{shown_digits, shown_value}
 use Rattle.octseq_dns_scan.proofs.StringWords.{string_spelled}
-use Rattle.octseq_dns_text.specs.IdsText.{IsIdsText, listed_id, listed_ids}
+use Rattle.octseq_dns_text.specs.IdsText.{listed_id, listed_ids}
 use Rattle.octseq_dns_text.specs.KeyText.{IsKeyText}
 use Rattle.octseq_dns_text.specs.ParamText.{AreAddressTexts, IsAddressText, IsParamText, IsValueText, Says}
 use Rattle.octseq_dns_text.specs.ParamsText.{IsParamsText}
 use Rattle.octseq_dns_text.specs.Split.{items_of, octets_after, octets_before}
-use Rattle.octseq_dns_text.proofs.KeyTexts.{first_among, first_or_later, later_among}
+use Rattle.octseq_dns_text.proofs.PlainNames.{NamedPlain, among_plain, among_some, name_among, names_from, names_some}
+use Rattle.octseq_dns_text.proofs.PlainNames.{plain_from}
 use Rattle.octseq_dns_text.proofs.Plain.{ArePlain, AreBare, IsPlain, all_append, bare_spells, base64_bare}
 use Rattle.octseq_dns_text.proofs.Plain.{colon_hex_plain}
 use Rattle.octseq_dns_text.proofs.Plain.{decimal_plain, dotted_plain, items_listed, plain_after, plain_bare}
-use Rattle.octseq_dns_text.proofs.Plain.{plain_before, plain_none, plain_whole, with_commas_bare}
+use Rattle.octseq_dns_text.proofs.Plain.{plain_before, plain_none, plain_text_word, plain_whole, valued_word}
+use Rattle.octseq_dns_text.proofs.Plain.{with_commas_bare}
 
 -- ---- keys
-
-name_step : (named : ℕ × List ℕ) (more : Names) (n : ℕ) (name : List ℕ) (same : Bool) → (same ≡ true → named.0 ≡ n)
-    → (if same then Some named.1 else name_in more n) ≡ Some name
-    → (name_in more n ≡ Some name → IsAmong more (n, name)) → IsAmong (named ∷ more) (n, name)
-name_step named more n name true number is later =
-    let spelled : named.1 ≡ name = cc in
-    subst (λ x. IsAmong (named ∷ more) (n, x)) spelled
-    (subst (λ m. IsAmong (named ∷ more) (m, named.1)) (number refl) (first_among named more))
-name_step named more n name false number is later = later_among named (n, name) more (later is)
-
-name_among : (names : Names) (n : ℕ) (name : List ℕ) → name_in names n ≡ Some name → IsAmong names (n, name)
-name_among [] n name is = absurd (cc)
-name_among (named ∷ more) n name is =
-    name_step named more n name (nat_eq named.0 n) (Decides-eqb named.0 n).0 is (name_among more n name)
-
-abbrev NamedPlain : Names → Type 0
-NamedPlain names = AllByRecursion (λ named. ArePlain named.1) names
-
-among_plain : (names : Names) (n : ℕ) (name : List ℕ) → NamedPlain names → IsAmong names (n, name) → ArePlain name
-among_plain [] n name plain among = absurd (omega (arith, among.1.0))
-among_plain (named ∷ more) n name plain among = elim (first_or_later named (n, name) more among) [
-  | inl same ↦ subst ArePlain (ap (λ (x : ℕ × List ℕ). x.1) (sym same)) plain.0
-  | inr later ↦ among_plain more n name plain.1 later
-]
-
-abbrev is_plain : ℕ → Bool
-is_plain octet = not (octet == 34) && (not (octet == 44) && (not (octet == 61) && not (octet == 92)))
-
-abbrev are_plain : List ℕ → Bool
-are_plain [] = true
-are_plain (octet ∷ text) = is_plain octet && are_plain text
-
-abbrev named_plain : Names → Bool
-named_plain [] = true
-named_plain (named ∷ more) = are_plain named.1 && named_plain more
-
-apart : (octet other : ℕ) → not (octet == other) ≡ true → octet ≢ other
-apart octet other is = eqb-false octet other (not-true (octet == other) is)
-
-plain_from : (text : List ℕ) → are_plain text ≡ true → ArePlain text
-plain_from [] is = tt
-plain_from (octet ∷ text) is =
-    let both = and_parts (is_plain octet) (are_plain text) is in
-    let first = and_parts _ _ both.0 in
-    let second = and_parts _ _ first.1 in
-    let third = and_parts _ _ second.1 in (
-      (apart octet 34 first.0, apart octet 44 second.0, apart octet 61 third.0, apart octet 92 third.1),
-      plain_from text both.1,
-    )
-
-names_from : (names : Names) → named_plain names ≡ true → NamedPlain names
-names_from [] is = tt
-names_from (named ∷ more) is =
-    let both = and_parts (are_plain named.1) (named_plain more) is in
-    (plain_from named.1 both.0, names_from more both.1)
 
 no_zero : (key : ℕ) → key < 65536 → 2 ≤ length (decimal key) → slice_index (decimal key) 0 ≢ 48
 no_zero zero bits long same = let one = ap length (decimal_digit 0 (omega arith)) in absurd (omega (arith, long, one))
@@ -134,12 +79,12 @@ key_shown key bits = shown_key key bits (name_in key_names key) refl (names_from
 
 -- ---- lists
 
-zip_map : {B : Type 0} (R : List ℕ → B → Type 0) (text : B → List ℕ) (xs : List B)
+pub zip_map : {B : Type 0} (R : List ℕ → B → Type 0) (text : B → List ℕ) (xs : List B)
     → AllByRecursion (λ x. R (text x) x) xs → AllZip R (map text xs) xs
 zip_map R text [] each = tt
 zip_map R text (x ∷ xs) each = (each.0, zip_map R text xs each.1)
 
-all_both : {X : Type 0} (P Q : X → Type 0) → ((x : X) → P x → Q x) → (xs : List X) → AllByRecursion P xs
+pub all_both : {X : Type 0} (P Q : X → Type 0) → ((x : X) → P x → Q x) → (xs : List X) → AllByRecursion P xs
     → AllByRecursion Q xs
 all_both P Q more [] each = tt
 all_both P Q more (x ∷ xs) each = (more x each.0, all_both P Q more xs each.1)
@@ -282,8 +227,8 @@ parts_octets (id ∷ ids) each =
 -- ---- values
 
 abbrev pub Shows : ℕ → List ℕ → Type 0
-Shows key value = (said : List ℕ) × SpellsString said (34 ∷ value_text key value ++ 34 ∷ []) × IsValueText key said
-    value
+Shows key value =
+    (said : List ℕ) × SpellsString said (34 ∷ value_text key value ++ 34 ∷ []) × IsValueText key said value
 
 bare_string : (said : List ℕ) → AreBare said → SpellsString said (34 ∷ said ++ 34 ∷ [])
 bare_string said bare = SpellsString.quoted said refl (bare_spells said bare)
@@ -302,8 +247,8 @@ other_text key value high =
     let i = ne_eqb key 6 (λ e. omega (arith, e, high)) in
     rw (a, b, d, f, h, i) refl
 
-pub value_shown : (key : ℕ) (value : List ℕ) → IsValueOf key value → AreOctets value → 1 ≤ length value →
-    Shows key value
+pub value_shown : (key : ℕ) (value : List ℕ) → IsValueOf key value → AreOctets value → 1 ≤ length value
+    → Shows key value
 unfolding value_text
 value_shown zero value is each some =
     let keys = keys_of value in
@@ -317,8 +262,7 @@ value_shown zero value is each some =
           each = items.0;
           sorted = keys;
           moved = IsPermutation-refl keys;
-          are =
-              are;
+          are = are;
         };
         alpn = λ e. absurd (omega (arith, e));
         no_default_alpn = λ e. absurd (omega (arith, e));
@@ -495,3 +439,37 @@ params_shown octets each are = record {
   moved = IsPermutation-refl (params_of octets);
   are = are;
 }
+
+-- ---- what is displayed of a parameter is a word
+
+key_some : (name : List ℕ) (key : ℕ) → IsKeyText name key → 1 ≤ length name
+key_some name key (inl named) = among_some key key_names name (names_some key_names refl) named
+key_some name key (inr numbered) =
+    let all = ap length numbered.parts in omega (arith, all, length-append (codes "key") numbered.digits)
+
+pub param_word : (key : ℕ) (value : List ℕ) → IsParam (key, value) → AreOctets value → IsWord (param_text (key, value))
+param_word key [] is each =
+    let shown = key_shown key is.key in
+    subst IsWord (sym (append-nil (key_text key)))
+    (plain_text_word (key_text key) (key_some (key_text key) key shown.0) shown.1)
+param_word key (octet ∷ value) is each =
+    let shown = key_shown key is.key in
+    let all = value_shown key (octet ∷ value) is.value each (omega arith) in
+    valued_word (key_text key) all.0 (34 ∷ value_text key (octet ∷ value) ++ 34 ∷ [])
+    (key_some (key_text key) key shown.0) shown.1 all.1
+
+params_words : (params : List Param) → AllByRecursion IsParam params → AreOctets (flat_map param_octets params)
+    → AllByRecursion IsWord (map param_text params)
+params_words [] are each = tt
+params_words (param ∷ params) are each =
+    let first = octets_front (param_octets param) (flat_map param_octets params) each in
+    let part = each_after (octets_be 2 param.0) (part_of 2 param.1) first in
+    let value = each_after (octets_be 2 (length param.1)) param.1 part in
+    (param_word param.0 param.1 are.0 value, params_words params are.1 (each_after (param_octets param) _ each))
+
+pub shown_words : (octets : List ℕ) → AreOctets octets → IsSvcParams octets
+    → All IsWord (map param_text (params_of octets))
+shown_words octets each are =
+    All-from_recursion IsWord (map param_text (params_of octets))
+    (params_words (params_of octets) (recursion_from_All IsParam (params_of octets) are.each)
+    (subst AreOctets are.spelled each))

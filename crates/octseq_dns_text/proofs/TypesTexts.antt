@@ -1,6 +1,6 @@
 -- Words are read as types, each once.
-use Rattle.std.proofs.Common.{◌≡◌, ◌⊎◌, inl, inr, ◌+◌, ◌<◌, ◌≤◌, ℕ, zero, suc, Bool, true, false, List, [], ◌∷◌, ◌++◌}
-use Rattle.std.proofs.Common.{map, length, refl, sym, ap, ◌∙◌, subst, arith, Decides}
+use Rattle.std.proofs.Common.{◌≡◌, inl, inr, ◌<◌, ℕ, suc, Bool, true, false, List, [], ◌∷◌, ◌++◌}
+use Rattle.std.proofs.Common.{refl, sym, ap, ◌∙◌, subst, arith}
 use Rattle.std.specs.Char.{to_ascii_lowercase}
 use Rattle.std.specs.List.{AllByRecursion, AllZip, Contains, IsAmong, IsDistinct, list_any}
 use Rattle.std.specs.Prelude.{nat_eq, nat_lt, codes, ◌||◌, ◌&&◌}

@@ -1,13 +1,13 @@
 //! Service parameters: RFC 9460, 2.1 and A.1.
 ghost use Rattle.std.specs.Prelude.{◌≡◌, ℕ, ◌+◌, List, ◌∷◌, ◌++◌, true, length, map, option_copied};
 ghost use Rattle.std.specs.Prelude.{IsErrOf, IfOk, OnOk};
-ghost use Rattle.std.specs.List.{Contains, flat_map};
+ghost use Rattle.std.specs.List.{All, Contains, flat_map};
 ghost use Rattle.std.specs.List.Sorted.{IsPermutation, IsStrictlyIncreasing};
 ghost use Rattle.octseq.specs.Refusal.{IsMalformed, read_error};
 ghost use Rattle.octseq.proofs.WrittenBack.{AreOctets};
 ghost use Rattle.octseq_dns_data.specs.SvcParams.{IsSvcParams, Param, param_octets, params_of};
 ghost use Rattle.octseq_dns_data.specs.SvcParamsText.{param_text};
-ghost use Rattle.octseq_dns_scan.specs.Word.{AreWords, TakesWord};
+ghost use Rattle.octseq_dns_scan.specs.Word.{AreWords, IsWord, TakesWord};
 ghost use Rattle.octseq_dns_scan.specs.Words.{ahead_of, offset_of};
 ghost use Rattle.octseq_dns_text.specs.ParamText.{IsParamText, Says};
 ghost use Rattle.octseq_dns_text.specs.ParamsText.{IsParamsText};
@@ -43,12 +43,14 @@ pub fn words_are_one_list_of_params()
         → octets ≡ other }
 {}
 
-/// What is displayed of parameters, each a word, is read as these parameters.
+/// What is displayed of parameters is read as these parameters, and of each it is a word.
 ///
 /// It does nothing. Calling it brings the law into the caller's proof.
 pub fn params_are_read_from_their_text()
-    ensures { (octets : List ℕ) → AreOctets octets → IsSvcParams octets
+    ensures read { (octets : List ℕ) → AreOctets octets → IsSvcParams octets
         → IsParamsText (map param_text (params_of octets)) octets }
+    ensures words { (octets : List ℕ) → AreOctets octets → IsSvcParams octets
+        → All IsWord (map param_text (params_of octets)) }
 {}
 
 /// What words say of parameters has the form of parameters.

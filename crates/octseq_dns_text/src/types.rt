@@ -1,9 +1,11 @@
 //! Sets of types: RFC 4034, 4.2, RFC 5155, 3.3, and RFC 7477, 2.2.
-ghost use Rattle.std.specs.Prelude.{◌≡◌, ℕ, ◌+◌, List, true, length, nat_eq, IsErrOf, IsNone, IfNone, IfOk, IfSome};
-ghost use Rattle.std.specs.List.{AllZip, IsDistinct, list_any};
+ghost use Rattle.std.specs.Prelude.{◌≡◌, ℕ, ◌+◌, ◌<◌, List, true, length, map, nat_eq};
+ghost use Rattle.std.specs.Prelude.{IsErrOf, IsNone, IfNone, IfOk, IfSome};
+ghost use Rattle.std.specs.List.{All, AllZip, IsDistinct, list_any};
 ghost use Rattle.std.specs.Option.{OnSome};
-ghost use Rattle.octseq_dns_data.specs.Mnemonic.{ReadsRtype};
-ghost use Rattle.octseq_dns_scan.specs.Word.{AreWords, TakesWord};
+ghost use Rattle.octseq_dns_data.specs.Mnemonic.{ReadsRtype, rtype_text};
+ghost use Rattle.octseq_dns_data.specs.RtypeBitmapMade.{bitmap_of};
+ghost use Rattle.octseq_dns_scan.specs.Word.{AreWords, IsWord, TakesWord};
 ghost use Rattle.octseq_dns_scan.specs.Words.{ahead_of, offset_of};
 ghost use Rattle.octseq_dns_text.specs.Scans.{IsFault, Scans};
 ghost use Rattle.octseq_dns_text.specs.TypesText.{IsTypesText};
@@ -23,6 +25,15 @@ use std::str;
 pub fn words_are_one_set_of_types()
     ensures { (words : List (List ℕ)) (octets other : List ℕ) → IsTypesText words octets → IsTypesText words other
         → octets ≡ other }
+{}
+
+/// The text of different types is read as these types, and of each it is a word.
+///
+/// It does nothing. Calling it brings the law into the caller's proof.
+pub fn types_are_read_from_their_text()
+    ensures read { (rtypes : List ℕ) → All (λ rtype. rtype < 65536) rtypes → IsDistinct nat_eq rtypes
+        → IsTypesText (map rtype_text rtypes) (bitmap_of rtypes) }
+    ensures words { (rtype : ℕ) → rtype < 65536 → IsWord (rtype_text rtype) }
 {}
 
 /// Appends the octets of the bitmap of the types that the words are, in any order.

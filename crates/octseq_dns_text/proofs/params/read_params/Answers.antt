@@ -1,9 +1,9 @@
 use Rattle.std.proofs.Common.{◌≡◌, ◌+◌, [], ◌∷◌, ◌++◌, length, sym, ap, ◌∙◌, subst}
 use Rattle.std.proofs.Math.Bool.{true≢false}
 use Rattle.octseq.specs.Refusal.{Is, Refusal, read_error}
-use Rattle.octseq_dns_scan.specs.Words.{ahead_of, offset_of}
+use Rattle.octseq_dns_scan.specs.Words.{ahead_of}
 use Rattle.octseq_dns_text.specs.Reading.{params_in}
-use Rattle.octseq_dns_text.proofs.Fronts.{front_all, front_more, word_shortens}
+use Rattle.octseq_dns_text.proofs.Fronts.{front_all, front_more}
 use Rattle.octseq_dns_text.proofs.ParamsTexts.{params_go, params_stop, read_more}
 use Rattle.octseq_dns_text.proofs.params.read_params.Goals as goal
 

@@ -1,4 +1,4 @@
-use Rattle.std.proofs.Common.{◌<◌, length, refl, sym, ap, ◌∙◌, subst, arith, rules}
+use Rattle.std.proofs.Common.{◌<◌, length, refl, sym, ap, subst, arith, rules}
 use Rattle.octseq_dns_text.specs.KeyText.{IsKeyText}
 use Rattle.octseq_dns_text.specs.ParamText.{Says}
 use Rattle.octseq_dns_text.specs.Split.{octets_after, octets_before}

@@ -1,4 +1,4 @@
-use Rattle.std.proofs.Common.{◌≡◌, ◌++◌, List, ℕ, option_copied, Some, sym, ap, ◌∙◌, subst}
+use Rattle.std.proofs.Common.{◌++◌, option_copied, sym, ap, ◌∙◌, subst}
 use Rattle.octseq_dns_text.specs.ParamText.{Says}
 use Rattle.octseq_dns_scan.specs.Spelled.{SpellsString}
 use Rattle.octseq_dns_text.proofs.params.scan_said.Goals as goal

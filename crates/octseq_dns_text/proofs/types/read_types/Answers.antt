@@ -5,7 +5,7 @@ use Rattle.std.proofs.Math.Bool.{true≢false}
 use Rattle.std.proofs.lemmas.Cmp.{nat_eq_equiv}
 use Rattle.std.proofs.lemmas.Map.Keys.{IsDistinct-push}
 use Rattle.octseq_dns_data.specs.Mnemonic.{ReadsRtype}
-use Rattle.octseq_dns_scan.specs.Words.{ahead_of, offset_of}
+use Rattle.octseq_dns_scan.specs.Words.{ahead_of}
 use Rattle.octseq_dns_scan.proofs.Taken.{word_once}
 use Rattle.octseq_dns_text.proofs.Fronts.{front_all, front_more, zip_more}
 use Rattle.octseq_dns_text.proofs.TypesTexts.{any_contains, none_distinct, type_once, types_go, types_stop}

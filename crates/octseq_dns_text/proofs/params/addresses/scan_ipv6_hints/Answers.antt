@@ -1,4 +1,4 @@
-use Rattle.std.proofs.Common.{◌≡◌, [], ◌∷◌, ◌++◌, None, Some, option_copied, sym, ap, ◌∙◌, rules}
+use Rattle.std.proofs.Common.{[], ◌∷◌, ◌++◌, option_copied, sym, ap, ◌∙◌, rules}
 use Rattle.octseq_dns_scan.specs.Address.{IsIpv6Word}
 use Rattle.octseq_dns_text.specs.ParamText.{IsAddressText}
 use Rattle.octseq_dns_text.proofs.AddressTexts.{addresses_last, addresses_refused, concat_more}
