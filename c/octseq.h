@@ -155,7 +155,7 @@ uint32_t octseq_dns_name_compare(const uint8_t *one, size_t one_len, size_t one_
 
 /* ---- data of DNS records ---- */
 
-/* 1 where the octets from `data_at` on, `data_len` of them, have the form of their type and class (29 types are known),
+/* 1 where the octets from `data_at` on, `data_len` of them, have the form of their type and class (30 types are known),
  * else 0. Names in them may have pointers into the octets where their type allows it. */
 uint32_t octseq_dns_data_is_typed(const uint8_t *octets, size_t len, size_t data_at, size_t data_len, uint16_t rtype,
                                   uint16_t rclass);

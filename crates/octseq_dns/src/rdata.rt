@@ -14,7 +14,7 @@ use octseq::builder::{AsOctetsMut, infallible};
 use octseq::{AppendError, Array, AsOctets, OctetsBuilder, Truncate, Turns};
 use octseq_dns_compress::{Composer, Compressor};
 use octseq_dns_data::data::{
-    Caa, Csync, Dnskey, Ds, Hinfo, Mx, Naptr, Nsec, Nsec3, Nsec3param, Openpgpkey, PlainName,
+    Caa, Csync, Dhcid, Dnskey, Ds, Hinfo, Mx, Naptr, Nsec, Nsec3, Nsec3param, Openpgpkey, PlainName,
     Rrsig, Soa, Srv, Sshfp, Svcb, Tlsa, Uri,
 };
 use octseq_dns_data::{Data, Rtype};
@@ -126,6 +126,7 @@ impl<R: AsOctets + Copy> ComposeRecordData for Data<R> {
             Data::Rrsig(sig) => compose_rrsig(message, sig),
             Data::Nsec(nsec) => message.append_value::<R, Of<Nsec<R>>>(nsec),
             Data::Dnskey(key) => message.append_value::<R, Of<Dnskey<R>>>(key),
+            Data::Dhcid(dhcid) => message.append_value::<R, Of<Dhcid<R>>>(dhcid),
             Data::Nsec3(nsec) => message.append_value::<R, Of<Nsec3<R>>>(nsec),
             Data::Nsec3param(param) => message.append_value::<R, Of<Nsec3param<R>>>(param),
             Data::Tlsa(tlsa) => message.append_value::<R, Of<Tlsa<R>>>(tlsa),

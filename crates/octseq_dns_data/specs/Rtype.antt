@@ -62,6 +62,9 @@ nsec = 47
 abbrev pub dnskey : ℕ
 dnskey = 48
 
+abbrev pub dhcid : ℕ
+dhcid = 49
+
 abbrev pub nsec3 : ℕ
 nsec3 = 50
 
@@ -141,6 +144,7 @@ rtype_names = (a, codes "A")
     ∷ (rrsig, codes "RRSIG")
     ∷ (nsec, codes "NSEC")
     ∷ (dnskey, codes "DNSKEY")
+    ∷ (dhcid, codes "DHCID")
     ∷ (nsec3, codes "NSEC3")
     ∷ (nsec3param, codes "NSEC3PARAM")
     ∷ (tlsa, codes "TLSA")

@@ -29,6 +29,7 @@ use Rattle.octseq_dns_data.specs.declared.data.csync.Csync.{Csync}
 use Rattle.octseq_dns_data.specs.declared.data.denial.Nsec.{Nsec}
 use Rattle.octseq_dns_data.specs.declared.data.denial.Nsec3.{Nsec3}
 use Rattle.octseq_dns_data.specs.declared.data.denial.Nsec3param.{Nsec3param}
+use Rattle.octseq_dns_data.specs.declared.data.dhcid.Dhcid.{Dhcid}
 use Rattle.octseq_dns_data.specs.declared.data.dnssec.Dnskey.{Dnskey}
 use Rattle.octseq_dns_data.specs.declared.data.dnssec.Ds.{Ds}
 use Rattle.octseq_dns_data.specs.declared.data.dnssec.Rrsig.{Rrsig}
@@ -217,6 +218,13 @@ key_form = number 2 followed_by number 1 followed_by number 1 followed_by octets
 abbrev pub dnskey_of : {R : Type 0} {g : Ghosts R} → Dnskey R g → key_form.Found
 dnskey_of key = (key.flags, (key.protocol, (key.algorithm, some_place key.public_key)))
 
+-- Which DHCP client a name belongs to (RFC 4701, 3.1 and 3.2).
+abbrev pub dhcid_form : Form
+dhcid_form = octets_of IsSome base64_text
+
+abbrev pub dhcid_of : {R : Type 0} {g : Ghosts R} → Dhcid R g → dhcid_form.Found
+dhcid_of dhcid = some_place dhcid.identity
+
 -- The next hashed name: the algorithm, the flags, the iterations, the salt, the hash, the types (RFC 5155, 3.2, 3.3).
 abbrev pub nsec3_form : Form
 nsec3_form = number 1 followed_by number 1 followed_by number 2 followed_by string IsString salt_text
@@ -307,6 +315,7 @@ known_types = in_any_class types.hinfo hinfo_form
     ∷ in_any_class types.rrsig rrsig_form
     ∷ in_any_class types.nsec nsec_form
     ∷ in_any_class types.dnskey key_form
+    ∷ in_class_in types.dhcid dhcid_form
     ∷ in_any_class types.nsec3 nsec3_form
     ∷ in_any_class types.nsec3param nsec3param_form
     ∷ in_any_class types.tlsa certificate_form
@@ -375,6 +384,7 @@ rdata_of (kind.Sshfp it) = ParsedRdata.local types.sshfp (sshfp_of it)
 rdata_of (kind.Rrsig it) = ParsedRdata.local types.rrsig (rrsig_of it)
 rdata_of (kind.Nsec it) = ParsedRdata.local types.nsec (nsec_of it)
 rdata_of (kind.Dnskey it) = ParsedRdata.local types.dnskey (dnskey_of it)
+rdata_of (kind.Dhcid it) = ParsedRdata.local types.dhcid (dhcid_of it)
 rdata_of (kind.Nsec3 it) = ParsedRdata.local types.nsec3 (nsec3_of it)
 rdata_of (kind.Nsec3param it) = ParsedRdata.local types.nsec3param (nsec3param_of it)
 rdata_of (kind.Tlsa it) = ParsedRdata.local types.tlsa (tlsa_of it)

@@ -26,6 +26,7 @@ mod addresses;
 mod caa;
 mod csync;
 mod denial;
+mod dhcid;
 mod dnssec;
 mod formed;
 mod hinfo;
@@ -45,6 +46,7 @@ mod uri;
 pub use crate::data::caa::Caa;
 pub use crate::data::csync::Csync;
 pub use crate::data::denial::{Nsec, Nsec3, Nsec3param};
+pub use crate::data::dhcid::Dhcid;
 pub use crate::data::dnssec::{Dnskey, Ds, Rrsig};
 pub use crate::data::formed::{Formed, FormedOctets};
 pub use crate::data::hinfo::Hinfo;
@@ -122,6 +124,8 @@ pub enum Data<R: AsOctets> {
     Nsec(Nsec<R>),
     /// A public key of a zone: RFC 4034, 2.
     Dnskey(Dnskey<R>),
+    /// Which DHCP client a name belongs to, in class IN: RFC 4701.
+    Dhcid(Dhcid<R>),
     /// The next hashed owner name of a zone, and the types that the name has: RFC 5155, 3.
     Nsec3(Nsec3<R>),
     /// The parameters by which a zone hashes its names: RFC 5155, 4.
@@ -187,6 +191,7 @@ impl<R: AsOctets + Copy> Data<R> {
             Data::Rrsig(_) => Rtype::RRSIG,
             Data::Nsec(_) => Rtype::NSEC,
             Data::Dnskey(_) => Rtype::DNSKEY,
+            Data::Dhcid(_) => Rtype::DHCID,
             Data::Nsec3(_) => Rtype::NSEC3,
             Data::Nsec3param(_) => Rtype::NSEC3PARAM,
             Data::Tlsa(_) => Rtype::TLSA,
@@ -230,6 +235,7 @@ impl<R: AsOctets + Copy> Data<R> {
                 a_name_has_labels(&nsec.next_name);
             }
             Data::Dnskey(key) => drop(key.to_fields()),
+            Data::Dhcid(dhcid) => drop(dhcid.to_fields()),
             Data::Nsec3(nsec) => drop(nsec.to_fields()),
             Data::Nsec3param(param) => drop(param.to_fields()),
             Data::Tlsa(tlsa) => drop(tlsa.to_fields()),
@@ -394,6 +400,7 @@ impl<R: AsOctets + Copy> Data<R> {
             Rtype::RRSIG => Ok(Data::Rrsig(record(Rtype::RRSIG, inside, turns)?)),
             Rtype::NSEC => Ok(Data::Nsec(record(Rtype::NSEC, inside, turns)?)),
             Rtype::DNSKEY => Ok(Data::Dnskey(record(Rtype::DNSKEY, inside, turns)?)),
+            Rtype::DHCID => Ok(Data::Dhcid(record_in(Rtype::DHCID, inside, class, turns)?)),
             Rtype::NSEC3 => Ok(Data::Nsec3(record(Rtype::NSEC3, inside, turns)?)),
             Rtype::NSEC3PARAM => Ok(Data::Nsec3param(record(Rtype::NSEC3PARAM, inside, turns)?)),
             Rtype::TLSA => Ok(Data::Tlsa(record(Rtype::TLSA, inside, turns)?)),
@@ -434,6 +441,7 @@ impl<R: AsOctets + Copy> fmt::Display for Data<R> {
             Data::Rrsig(sig) => write!(f, "{sig}"),
             Data::Nsec(nsec) => write!(f, "{nsec}"),
             Data::Dnskey(key) => write!(f, "{key}"),
+            Data::Dhcid(dhcid) => write!(f, "{dhcid}"),
             Data::Nsec3(nsec) => write!(f, "{nsec}"),
             Data::Nsec3param(param) => write!(f, "{param}"),
             Data::Tlsa(tlsa) => write!(f, "{tlsa}"),

@@ -83,6 +83,8 @@ impl Rtype {
     pub const NSEC: Self = Rtype { number: 47 };
     /// A public key of a zone: RFC 4034, 2.
     pub const DNSKEY: Self = Rtype { number: 48 };
+    /// Which DHCP client a name belongs to: RFC 4701.
+    pub const DHCID: Self = Rtype { number: 49 };
     /// The next hashed owner name, and the types that the name has: RFC 5155, 3.
     pub const NSEC3: Self = Rtype { number: 50 };
     /// The parameters by which a zone hashes its names: RFC 5155, 4.
@@ -299,7 +301,7 @@ impl Rcode {
 }
 
 /// Types by name.
-pub(crate) static RTYPE_NAMES: [(u16, &str); 39] = [
+pub(crate) static RTYPE_NAMES: [(u16, &str); 40] = [
     (Rtype::A.number, "A"),
     (Rtype::NS.number, "NS"),
     (Rtype::CNAME.number, "CNAME"),
@@ -320,6 +322,7 @@ pub(crate) static RTYPE_NAMES: [(u16, &str); 39] = [
     (Rtype::RRSIG.number, "RRSIG"),
     (Rtype::NSEC.number, "NSEC"),
     (Rtype::DNSKEY.number, "DNSKEY"),
+    (Rtype::DHCID.number, "DHCID"),
     (Rtype::NSEC3.number, "NSEC3"),
     (Rtype::NSEC3PARAM.number, "NSEC3PARAM"),
     (Rtype::TLSA.number, "TLSA"),

@@ -13,7 +13,17 @@ struct Row {
     text: &'static str,
 }
 
-static ROWS: [Row; 7] = [
+static ROWS: [Row; 9] = [
+    Row {
+        rtype: 49,
+        octets: b"\0\x02\x01\x63\x6F\xC0\xB8\x27\x1C\x82\x82\x5B\xB1\xAC\x5C\x41\xCF\x53\x51\xAA\x69\xB4\xFE\xBD\x94\xE8\xF1\x7C\xDB\x95\0\x0D\xA4\x8C\x40",
+        text: "AAIBY2/AuCccgoJbsaxcQc9TUapptP69lOjxfNuVAA2kjEA=",
+    },
+    Row {
+        rtype: 49,
+        octets: b"\0\0\x01\x39\x20",
+        text: "AAABOSA=",
+    },
     Row {
         rtype: 52,
         octets: b"\x03\x01\x01\xD2\xAB\xDE\x24\x0D\x7C\xD3\xEE",
@@ -72,8 +82,9 @@ fn data_shows_as_in_a_zone_file(rt: HostRuntime) {
     }
 }
 
-/// Data that isn't of its type: a key of no octet, flags of one octet, a bitmap of no octet.
-static REFUSED: [(u16, &[u8]); 3] = [
+/// Data that isn't of its type: an identifier and a key of no octet, flags of one octet, a bitmap of no octet.
+static REFUSED: [(u16, &[u8]); 4] = [
+    (49, b""),
     (61, b""),
     (62, b"\0\0\0\x01\0"),
     (62, b"\0\0\0\x01\0\0\0\0"),

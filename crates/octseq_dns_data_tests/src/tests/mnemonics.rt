@@ -5,7 +5,7 @@ use octseq_dns_data::{Class, Opcode, Rcode, Rtype, write_base32hex, write_base64
 use std::fmt;
 
 /// Types of the DNS parameters registry.
-static TYPES: [(u16, &str); 39] = [
+static TYPES: [(u16, &str); 40] = [
     (1, "A"),
     (2, "NS"),
     (5, "CNAME"),
@@ -26,6 +26,7 @@ static TYPES: [(u16, &str); 39] = [
     (46, "RRSIG"),
     (47, "NSEC"),
     (48, "DNSKEY"),
+    (49, "DHCID"),
     (50, "NSEC3"),
     (51, "NSEC3PARAM"),
     (52, "TLSA"),

@@ -19,7 +19,7 @@ struct Row {
 }
 
 /// One of each type. Only the name of NAPTR may have a pointer when it is read, and no name has one when it is written.
-static ROWS: [Row; 20] = [
+static ROWS: [Row; 21] = [
     Row {
         rtype: 13,
         read: b"\x01A\0",
@@ -67,6 +67,12 @@ static ROWS: [Row; 20] = [
         read: b"\x01\x01\x03\x0D\xFB\xFF",
         written: b"\x01\x01\x03\x0D\xFB\xFF",
         text: "257 3 13 +/8=",
+    },
+    Row {
+        rtype: 49,
+        read: b"\0\0\x01\x39\x20",
+        written: b"\0\0\x01\x39\x20",
+        text: "AAABOSA=",
     },
     Row {
         rtype: 50,
