@@ -1,91 +1,78 @@
 //! The line of a header.
+ghost use Rattle.std.specs.Prelude.{◌≡◌, ◌+◌, List, ℕ, length};
+ghost use Rattle.octseq_dns_scan.specs.Words.{ahead_of, offset_of};
+ghost use Rattle.octseq_dns_compose.specs.HeaderLine.{AreFlags, IsHeaderLine, Picks, TakesField, flag_names};
+ghost use Rattle.octseq_dns_compose.specs.Take.{Reads};
+
+use crate::take::{take_number, take_word};
 use octseq_dns_data::{Opcode, Rcode};
 use octseq_dns_message::{Flags, Header};
-use octseq_dns_scan::{Words, scan_u8, scan_u16};
-use octseq_dns_text::ScanError;
+use octseq_dns_scan::Words;
 
-/// Reads a header from the words of its line.
-pub(crate) fn scan_header(words: Words) -> Result<Header, ScanError> {
-    let mut words = words;
-    take_word(&mut words, b"id")?;
-    let id = take_id(&mut words)?;
-    take_word(&mut words, b"opcode")?;
-    let opcode = Opcode::from_int(take_code(&mut words)?);
-    take_word(&mut words, b"rcode")?;
-    let rcode = Rcode::from_int(take_code(&mut words)?);
-    take_word(&mut words, b"flags")?;
-    let flags = take_flags(&mut words);
-    end(&words)?;
-    Ok(Header {
-        id,
+/// Reads a header from the words of its line. If they are none, the cursor stays at the first word that isn't what has
+/// to come there.
+pub(crate) fn scan_header(words: &mut Words) -> Option<Header>
+    ensures { Reads IsHeaderLine result (ahead_of words.old) (offset_of words.old) (offset_of words.new) }
+{
+    let Some(id) = take_field(words, b"id", 65535) else {
+        return None;
+    };
+    let Some(opcode) = take_field(words, b"opcode", 15) else {
+        return None;
+    };
+    let Some(rcode) = take_field(words, b"rcode", 15) else {
+        return None;
+    };
+    if !take_word(words, b"flags") {
+        return None;
+    }
+    let flags = take_flags(words);
+    if !words.is_at_end() {
+        return None;
+    }
+    Some(Header {
+        id: id as u16,
         flags,
-        opcode,
-        rcode,
+        opcode: Opcode::from_int(opcode as u8),
+        rcode: Rcode::from_int(rcode as u8),
     })
 }
 
-/// Checks that no word is left.
-pub(crate) fn end(words: &Words) -> Result<(), ScanError> {
-    if words.is_at_end() {
-        return Ok(());
+/// Takes a word and a number of at most `max`.
+fn take_field(words: &mut Words, name: &[u8], max: u32) -> Option<u32>
+    ensures taken { TakesField name.now max result (ahead_of words.old) (ahead_of words.new) }
+    ensures end { offset_of words.new + length (ahead_of words.new) ≡ offset_of words.old + length (ahead_of words.old) }
+{
+    if !take_word(words, name) {
+        return None;
     }
-    Err(ScanError::Malformed(words.offset()))
-}
-
-/// Takes the given word.
-fn take_word(words: &mut Words, wanted: &[u8]) -> Result<(), ScanError> {
-    if is_taken(words, wanted) {
-        return Ok(());
-    }
-    Err(ScanError::Malformed(words.offset()))
-}
-
-/// Takes the given word, if it comes next, and returns whether it did.
-fn is_taken(words: &mut Words, wanted: &[u8]) -> bool {
-    let mut ahead = *words;
-    if let Some(word) = ahead.next_word() {
-        if word.octets == wanted {
-            *words = ahead;
-            return true;
-        }
-    }
-    false
-}
-
-/// Takes an identifier.
-fn take_id(words: &mut Words) -> Result<u16, ScanError> {
-    let offset = words.offset();
-    let Some(word) = words.next_word() else {
-        return Err(ScanError::Malformed(offset));
+    let Some(number) = take_number(words, max) else {
+        return None;
     };
-    match scan_u16(word.octets) {
-        Some(id) => Ok(id),
-        None => Err(ScanError::Malformed(offset)),
-    }
-}
-
-/// Takes a number of four bits.
-fn take_code(words: &mut Words) -> Result<u8, ScanError> {
-    let offset = words.offset();
-    let Some(word) = words.next_word() else {
-        return Err(ScanError::Malformed(offset));
-    };
-    match scan_u8(word.octets) {
-        Some(code) if code < 16 => Ok(code),
-        _ => Err(ScanError::Malformed(offset)),
-    }
+    Some(number)
 }
 
 /// Takes the flags that come next: each at most once, from the highest bit to the lowest. The reserved bit has no name.
-fn take_flags(words: &mut Words) -> Flags {
+fn take_flags(words: &mut Words) -> Flags
+    ensures taken { (flag_list : List (List ℕ)) × Picks flag_names (ahead_of words.old) flag_list (ahead_of words.new)
+        × AreFlags result flag_list }
+    ensures end { offset_of words.new + length (ahead_of words.new) ≡ offset_of words.old + length (ahead_of words.old) }
+{
+    let qr = take_word(words, b"QR");
+    let aa = take_word(words, b"AA");
+    let tc = take_word(words, b"TC");
+    let rd = take_word(words, b"RD");
+    let ra = take_word(words, b"RA");
+    let ad = take_word(words, b"AD");
+    let cd = take_word(words, b"CD");
     Flags {
-        qr: is_taken(words, b"QR"),
-        aa: is_taken(words, b"AA"),
-        tc: is_taken(words, b"TC"),
-        rd: is_taken(words, b"RD"),
-        ra: is_taken(words, b"RA"),
+        qr,
+        aa,
+        tc,
+        rd,
+        ra,
         z: false,
-        ad: is_taken(words, b"AD"),
-        cd: is_taken(words, b"CD"),
+        ad,
+        cd,
     }
 }

@@ -1,14 +1,23 @@
 //! Records, read from one line: RFC 1035, 5.1.
-use crate::numbers::{scan_class, scan_rtype};
+ghost use Rattle.std.specs.Prelude.{◌≡◌, ◌+◌, ◌++◌, ℕ, List, true, length, option_map, IfOk, IsErrOf, OnErr};
+ghost use Rattle.octseq.specs.Limit.{IsPast};
+ghost use Rattle.octseq_dns_name.specs.Read.{labels_of};
+ghost use Rattle.octseq_dns_scan.specs.Word.{AreWords};
+ghost use Rattle.octseq_dns_scan.specs.Words.{ahead_of, offset_of};
+ghost use Rattle.octseq_dns_text.specs.Scans.{IsFault};
+ghost use Rattle.octseq_dns_compose.specs.Read.{head_of};
+ghost use Rattle.octseq_dns_compose.specs.RecordText.{IsAnyRecord, IsRecordText};
+
+use crate::head::{take_owner, take_rtype, take_ttl_and_class};
 use octseq::{Array, AsOctets, OctetsBuilder, Truncate};
 use octseq_dns_data::{Class, Rtype};
 use octseq_dns_message::Ttl;
 use octseq_dns_name::{Name, ParsedName};
-use octseq_dns_scan::{Words, scan_ttl};
+use octseq_dns_scan::Words;
 use octseq_dns_text::{ScanError, scan_data};
 
 /// What a record says before its data.
-#[derive(Debug, Drop)]
+#[derive(Drop)]
 pub struct RecordHead {
     /// The owner.
     pub owner: Name<Array<255>>,
@@ -32,99 +41,39 @@ pub fn scan_record<R: AsOctets + Copy, B: OctetsBuilder + Truncate>(
     words: Words,
     origin: Option<&ParsedName<R>>,
     target: &mut B,
-) -> Result<RecordHead, ScanError> {
+) -> Result<RecordHead, ScanError>
+    ensures ok { IfOk result (λ head. (all : List (List ℕ)) × (octets : List ℕ) × AreWords all (ahead_of words.entry)
+        × IsRecordText (option_map (λ name. labels_of name.now) origin.entry) (head_of head) all octets
+        × (B.content target.new ≡ B.content target.old ++ octets)) }
+    ensures fault { (offset : ℕ) → IsErrOf result (ScanError.Malformed offset)
+        → IsFault (IsAnyRecord (option_map (λ name. labels_of name.now) origin.entry)) (ahead_of words.entry)
+        (offset_of words.entry) offset }
+    ensures short { IsErrOf result ScanError.Short → (all : List (List ℕ)) × (octets : List ℕ)
+        × AreWords all (ahead_of words.entry)
+        × IsAnyRecord (option_map (λ name. labels_of name.now) origin.entry) all octets
+        × IsPast B.limit (length (B.content target.old) + length octets) }
+    ensures memory { IsErrOf result ScanError.Memory → B.asks ≡ true }
+    ensures kept { OnErr result (B.content target.new ≡ B.content target.old) }
+    ensures borrows { B.borrows target.new ≡ B.borrows target.old }
+{
     let mut words = words;
-    let owner = take_owner(&mut words, origin)?;
-    let (ttl, class) = take_ttl_and_class(&mut words)?;
-    let rtype = take_rtype(&mut words)?;
-    scan_data(words, rtype, class, origin, target)?;
-    Ok(RecordHead {
-        owner,
-        ttl,
-        class,
-        rtype,
-    })
-}
-
-/// Takes a name.
-pub(crate) fn take_owner<R: AsOctets + Copy>(
-    words: &mut Words,
-    origin: Option<&ParsedName<R>>,
-) -> Result<Name<Array<255>>, ScanError> {
-    let offset = words.offset();
-    let Some(word) = words.next_word() else {
-        return Err(ScanError::Malformed(offset));
+    let Some(owner) = take_owner(&mut words, origin) else {
+        return Err(ScanError::Malformed(words.offset()));
     };
-    match scan_owner(word.octets, origin) {
-        Some(owner) => Ok(owner),
-        None => Err(ScanError::Malformed(offset)),
-    }
-}
-
-/// Reads a name that is whole, or relative to an origin.
-fn scan_owner<R: AsOctets + Copy>(
-    word: &[u8],
-    origin: Option<&ParsedName<R>>,
-) -> Option<Name<Array<255>>> {
-    let read = match origin {
-        Some(origin) => Name::from_text_octets_with_origin(word, origin),
-        None => Name::from_text_octets(word),
+    let Some(both) = take_ttl_and_class(&mut words) else {
+        return Err(ScanError::Malformed(words.offset()));
     };
-    match read {
-        Ok(name) => Some(name),
-        Err(_) => None,
-    }
-}
-
-/// Takes a TTL and a class, in either order.
-fn take_ttl_and_class(words: &mut Words) -> Result<(Ttl, Class), ScanError> {
-    let offset = words.offset();
-    let Some(word) = words.next_word() else {
-        return Err(ScanError::Malformed(offset));
+    let (ttl, class) = both;
+    let Some(rtype) = take_rtype(&mut words) else {
+        return Err(ScanError::Malformed(words.offset()));
     };
-    if let Some(secs) = scan_ttl(word.octets) {
-        let class = take_class(words)?;
-        return Ok((Ttl::from_secs(secs), class));
-    }
-    let Some(class) = scan_class(word.octets) else {
-        return Err(ScanError::Malformed(offset));
-    };
-    let ttl = take_ttl(words)?;
-    Ok((ttl, class))
-}
-
-/// Takes a TTL.
-fn take_ttl(words: &mut Words) -> Result<Ttl, ScanError> {
-    let offset = words.offset();
-    let Some(word) = words.next_word() else {
-        return Err(ScanError::Malformed(offset));
-    };
-    match scan_ttl(word.octets) {
-        Some(secs) => Ok(Ttl::from_secs(secs)),
-        None => Err(ScanError::Malformed(offset)),
-    }
-}
-
-/// Takes a class.
-pub(crate) fn take_class(words: &mut Words) -> Result<Class, ScanError> {
-    let offset = words.offset();
-    let Some(word) = words.next_word() else {
-        return Err(ScanError::Malformed(offset));
-    };
-    match scan_class(word.octets) {
-        Some(class) => Ok(class),
-        None => Err(ScanError::Malformed(offset)),
-    }
-}
-
-/// Takes a type.
-pub(crate) fn take_rtype(words: &mut Words) -> Result<Rtype, ScanError> {
-    let offset = words.offset();
-    let Some(word) = words.next_word() else {
-        return Err(ScanError::Malformed(offset));
-    };
-    match scan_rtype(word.octets) {
-        Some(rtype) => Ok(rtype),
-        None => Err(ScanError::Malformed(offset)),
+    match scan_data(words, rtype, class, origin, target) {
+        Ok(()) => Ok(RecordHead {
+            owner,
+            ttl,
+            class,
+            rtype,
+        }),
+        Err(error) => Err(error),
     }
 }
