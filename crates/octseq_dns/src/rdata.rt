@@ -14,8 +14,8 @@ use octseq::builder::{AsOctetsMut, infallible};
 use octseq::{AppendError, Array, AsOctets, OctetsBuilder, Truncate, Turns};
 use octseq_dns_compress::{Composer, Compressor};
 use octseq_dns_data::data::{
-    Caa, Csync, Dhcid, Dnskey, Ds, Hinfo, Mx, Naptr, Nsec, Nsec3, Nsec3param, Openpgpkey, PlainName,
-    Rrsig, Soa, Srv, Sshfp, Svcb, Tlsa, Uri,
+    Caa, Csync, Dhcid, Dnskey, Ds, Hinfo, Mx, Naptr, Nsec, Nsec3, Nsec3param, Openpgpkey,
+    PlainName, Rrsig, Soa, Srv, Sshfp, Svcb, Tlsa, Uri,
 };
 use octseq_dns_data::{Data, Rtype};
 use octseq_dns_name::DomainName;

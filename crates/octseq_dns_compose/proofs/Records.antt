@@ -3,7 +3,7 @@ use Rattle.std.proofs.Common.{◌≡◌, ◌⊎◌, ℕ, ◌+◌, ◌≤◌, Opt
 use Rattle.std.proofs.Common.{refl, sym, ap, ◌∙◌, subst, inl, inr, arith}
 use Rattle.octseq_dns_data.specs.Mnemonic.{ReadsClass, ReadsRtype}
 use Rattle.octseq_dns_scan.specs.Word.{TakesWord, AreWords}
-use Rattle.octseq_dns_text.specs.Data.{IsDataText}
+use Rattle.octseq_dns_text.specs.DataText.{IsDataText}
 use Rattle.octseq_dns_text.specs.Scans.{Goes, BeginsWithWords, IsFault}
 use Rattle.octseq_dns_compose.specs.RecordText.{Head, Spells, IsNameWord, IsTtlWord, IsClassWord, IsRtypeWord}
 use Rattle.octseq_dns_compose.specs.RecordText.{TtlAndClass, IsRecordText, IsAnyRecord}

@@ -3,7 +3,7 @@ use Rattle.std.proofs.Common.{◌≡◌, ℕ, ◌≤◌, Option, Some, None, Lis
 use Rattle.octseq_dns_data.specs.Mnemonic.{ReadsClass, ReadsRtype, class_names}
 use Rattle.octseq_dns_data.specs.Rtype.{rtype_names}
 use Rattle.octseq_dns_data.proofs.Mnemonics.{one_number, classes_unambiguous, rtypes_unambiguous}
-use Rattle.octseq_dns_text.specs.Data.{IsDataText}
+use Rattle.octseq_dns_text.specs.DataText.{IsDataText}
 use Rattle.octseq_dns_compose.specs.RecordText.{IsNameWord, IsTtlWord}
 
 pub one_class : (text : List ℕ) (a b : ℕ) → ReadsClass text a → ReadsClass text b → a ≡ b

@@ -6,7 +6,7 @@ use Rattle.octseq_dns_name.specs.Name.{wire_length}
 use Rattle.octseq_dns_name.specs.Origin.{SpellsWithOrigin}
 use Rattle.octseq_dns_name.specs.Spelling.{SpellsName}
 use Rattle.octseq_dns_name.specs.Wire.{AreLabels}
-use Rattle.octseq_dns_text.specs.Data.{IsDataText}
+use Rattle.octseq_dns_text.specs.DataText.{IsDataText}
 use Rattle.octseq_dns_compose.specs.Take.{Then}
 
 -- What a record says before its data: the labels of its owner, its TTL, its class and its type.

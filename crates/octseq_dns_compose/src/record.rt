@@ -1,5 +1,5 @@
 //! Records, read from one line: RFC 1035, 5.1.
-ghost use Rattle.std.specs.Prelude.{◌≡◌, ◌+◌, ◌++◌, ℕ, List, true, length, option_map, IfOk, IsErrOf, OnErr};
+ghost use Rattle.std.specs.Prelude.{◌≡◌, ◌+◌, ◌++◌, ℕ, List, length, option_map, IfOk, IsErrOf, OnErr};
 ghost use Rattle.octseq.specs.Limit.{IsPast};
 ghost use Rattle.octseq_dns_name.specs.Read.{labels_of};
 ghost use Rattle.octseq_dns_scan.specs.Word.{AreWords};
@@ -15,6 +15,7 @@ use octseq_dns_message::Ttl;
 use octseq_dns_name::{Name, ParsedName};
 use octseq_dns_scan::Words;
 use octseq_dns_text::{ScanError, scan_data};
+use std::alloc::Global;
 
 /// What a record says before its data.
 #[derive(Drop)]
@@ -38,6 +39,7 @@ pub struct RecordHead {
 /// `Malformed` with the offset of the first word that isn't what has to come there, `Short` if the content would exceed
 /// the limit of its type, `Memory` if a request for memory was refused. The content is then unchanged.
 pub fn scan_record<R: AsOctets + Copy, B: OctetsBuilder + Truncate>(
+    alloc: Global,
     words: Words,
     origin: Option<&ParsedName<R>>,
     target: &mut B,
@@ -52,7 +54,6 @@ pub fn scan_record<R: AsOctets + Copy, B: OctetsBuilder + Truncate>(
         × AreWords all (ahead_of words.entry)
         × IsAnyRecord (option_map (λ name. labels_of name.now) origin.entry) all octets
         × IsPast B.limit (length (B.content target.old) + length octets) }
-    ensures memory { IsErrOf result ScanError.Memory → B.asks ≡ true }
     ensures kept { OnErr result (B.content target.new ≡ B.content target.old) }
     ensures borrows { B.borrows target.new ≡ B.borrows target.old }
 {
@@ -67,7 +68,7 @@ pub fn scan_record<R: AsOctets + Copy, B: OctetsBuilder + Truncate>(
     let Some(rtype) = take_rtype(&mut words) else {
         return Err(ScanError::Malformed(words.offset()));
     };
-    match scan_data(words, rtype, class, origin, target) {
+    match scan_data(alloc, words, rtype, class, origin, target) {
         Ok(()) => Ok(RecordHead {
             owner,
             ttl,

@@ -1,3 +1,3 @@
 pub mod Scans
 pub mod Shown
-pub mod Data
+pub mod DataText

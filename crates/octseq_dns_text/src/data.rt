@@ -2,7 +2,7 @@
 ghost use Rattle.std.specs.Prelude.{◌≡◌, Option, Some, None, option_map};
 ghost use Rattle.octseq_dns_name.specs.Read.{labels_of};
 ghost use Rattle.octseq_dns_scan.specs.Words.{ahead_of, offset_of};
-ghost use Rattle.octseq_dns_text.specs.Data.{IsDataText};
+ghost use Rattle.octseq_dns_text.specs.DataText.{IsDataText};
 ghost use Rattle.octseq_dns_text.specs.Scans.{Scans};
 
 use crate::error::ScanError;
@@ -10,10 +10,12 @@ use octseq::{AsOctets, OctetsBuilder, Truncate};
 use octseq_dns_data::{Class, Rtype};
 use octseq_dns_name::ParsedName;
 use octseq_dns_scan::Words;
+use std::alloc::Global;
 
 /// Reads the data of a record.
-#[tactic(auto, unfolding(crate::specs::Data::IsDataText))]
+#[tactic(auto, unfolding(crate::specs::DataText::IsDataText))]
 pub fn scan_data<R: AsOctets + Copy, B: OctetsBuilder + Truncate>(
+    _alloc: Global,
     words: Words,
     rtype: Rtype,
     class: Class,
