@@ -1,15 +1,15 @@
 -- Words that are taken in an order, each at most once.
-use Rattle.std.proofs.Common.{◌≡◌, ℕ, ◌+◌, Bool, true, false, not, ◌&&◌, List, [], ◌∷◌, ◌++◌, length, codes}
-use Rattle.std.proofs.Common.{refl, sym, ap, ◌∙◌, subst, arith, append_assoc}
+use Rattle.std.proofs.Common.{◌≡◌, ℕ, ◌+◌, Bool, true, false, not, ◌&&◌, List, [], ◌∷◌, ◌++◌, length}
+use Rattle.std.proofs.Common.{refl, sym, ◌∙◌, subst}
 use Rattle.std.proofs.Math.Bool.{true≢false}
 use Rattle.std.proofs.lemmas.Bool.{and_parts, not-true}
 use Rattle.std.proofs.lemmas.List.{append-nil}
 use Rattle.std.proofs.lemmas.Slice.Eq.{bytes_eq-Decides}
 use Rattle.std.specs.Prelude.{bytes_eq}
 use Rattle.octseq_dns_scan.specs.Word.{TakesWord}
-use Rattle.octseq_dns_text.specs.Scans.{BeginsWithWords, IsFault}
+use Rattle.octseq_dns_text.specs.Scans.{IsFault}
 use Rattle.octseq_dns_compose.specs.Take.{IsTaken}
-use Rattle.octseq_dns_compose.specs.HeaderLine.{flag_word, flag_words, flag_names, AreFlags, ArePicked, Picks}
+use Rattle.octseq_dns_compose.specs.HeaderLine.{flag_word, flag_names, AreFlags, ArePicked, Picks}
 use Rattle.octseq_dns_message.specs.declared.header.Flags.{Flags}
 
 -- a name is none of the others
@@ -78,13 +78,65 @@ pick_none ahead = record { begins = refl; are = refl; stops = λ word left taken
 -- ---- the flags of a header
 
 pub picked_are : (flags : Flags) (words : List (List ℕ)) → AreFlags flags words → ArePicked flag_names words
-picked_are flags words are =
-    (flags.qr, _, are.1, (flags.aa, _, refl, (flags.tc, _, refl, (flags.rd, _, refl, (flags.ra, _, refl,
-    (flags.ad, _, refl, (flags.cd, _, refl, refl)))))))
+picked_are flags words are = (
+  flags.qr,
+  _,
+  are.1,
+  (
+    flags.aa,
+    _,
+    refl,
+    (
+      flags.tc,
+      _,
+      refl,
+      (
+        flags.rd,
+        _,
+        refl,
+        (
+          flags.ra,
+          _,
+          refl,
+          (flags.ad, _, refl, (flags.cd, _, refl, refl)),
+        ),
+      ),
+    ),
+  ),
+)
 
 pub are_picked : (words : List (List ℕ)) → ArePicked flag_names words → (flags : Flags) × AreFlags flags words
-are_picked words (qr, a, is_a, (aa, b, is_b, (tc, c, is_c, (rd, d, is_d, (ra, e, is_e, (ad, f, is_f,
-    (cd, g, is_g, over))))))) =
+are_picked words (
+  qr,
+  a,
+  is_a,
+  (
+    aa,
+    b,
+    is_b,
+    (
+      tc,
+      c,
+      is_c,
+      (
+        rd,
+        d,
+        is_d,
+        (
+          ra,
+          e,
+          is_e,
+          (
+            ad,
+            f,
+            is_f,
+            (cd, g, is_g, over),
+          ),
+        ),
+      ),
+    ),
+  ),
+) =
     (record { qr = qr; aa = aa; tc = tc; rd = rd; ra = ra; z = false; ad = ad; cd = cd }, (refl, cc))
 
 -- another word than a flag, where the flags that are there are passed

@@ -1,13 +1,13 @@
 -- The line of a header, and where it is none.
-use Rattle.std.proofs.Common.{◌≡◌, ℕ, ◌+◌, ◌≤◌, Bool, true, false, List, [], ◌∷◌, ◌++◌, length, codes, IsTrue, not}
-use Rattle.std.proofs.Common.{refl, sym, ap, ◌∙◌, subst, arith}
+use Rattle.std.proofs.Common.{◌≡◌, ℕ, ◌+◌, false, List, [], ◌∷◌, length, codes}
+use Rattle.std.proofs.Common.{refl, ap, subst, arith}
 use Rattle.std.proofs.lemmas.List.{append-nil}
 use Rattle.octseq_dns_scan.specs.Word.{TakesWord, AreWords}
-use Rattle.octseq_dns_text.specs.Scans.{Goes, BeginsWithWords, IsFault}
-use Rattle.octseq_dns_compose.specs.Take.{IsGiven, IsTaken, IsUpTo, Then, Reads}
+use Rattle.octseq_dns_text.specs.Scans.{BeginsWithWords, IsFault}
+use Rattle.octseq_dns_compose.specs.Take.{IsGiven, IsUpTo, Then}
 use Rattle.octseq_dns_compose.specs.HeaderLine.{Field, IsNoField, AreFlags, IsHeaderLine, Picks, flag_names}
 use Rattle.octseq_dns_compose.proofs.Faults.{Leads, are_more, led_fault, first_fault}
-use Rattle.octseq_dns_compose.proofs.Flags.{flags_fault, are_picked}
+use Rattle.octseq_dns_compose.proofs.Flags.{flags_fault}
 use Rattle.octseq_dns_message.specs.declared.header.Flags.{Flags}
 use Rattle.octseq_dns_message.specs.declared.header.Header.{Header}
 
@@ -50,8 +50,8 @@ field_fault name most Rest words ahead after start next rest place (IsNoField.no
     (first_fault (Of (AnyField name most Rest)) ahead start
     (name ∷ codes "0" ∷ words, [], field_text name most Rest words rest)
     (λ word left taken goes.
-        let is = first_of_field name most Rest word goes.0 goes.2 in
-        none left (subst (λ w. TakesWord w ahead left) is taken))
+    let is = first_of_field name most Rest word goes.0 goes.2 in
+    none left (subst (λ w. TakesWord w ahead left) is taken))
     (λ over octets is. is.1))
 field_fault name most Rest words ahead after start next rest place (IsNoField.no_number taken none) = record {
   front = name ∷ [];
@@ -111,9 +111,10 @@ any_header (a ∷ b ∷ c ∷ d ∷ e ∷ f ∷ g ∷ words) is =
     let id = is in
     let opcode = is.1.1.1 in
     let rcode = opcode.1.1.1 in
-    let flags = rcode.1.1.1 in
-    (record { id = id.0; opcode = opcode.0; rcode = rcode.0; flags = flags.1.0 },
-    (id.1.0, (id.1.1.0, (opcode.1.0, (opcode.1.1.0, (rcode.1.0, (rcode.1.1.0, (flags.0, flags.1.1))))))))
+    let flags = rcode.1.1.1 in (
+      record { id = id.0; opcode = opcode.0; rcode = rcode.0; flags = flags.1.0 },
+      (id.1.0, (id.1.1.0, (opcode.1.0, (opcode.1.1.0, (rcode.1.0, (rcode.1.1.0, (flags.0, flags.1.1))))))),
+    )
 any_header [] is = absurd is.1
 any_header (a ∷ []) is = absurd is.1.1
 any_header (a ∷ b ∷ []) is = absurd is.1.1.1.1
@@ -123,9 +124,34 @@ any_header (a ∷ b ∷ c ∷ d ∷ e ∷ []) is = absurd is.1.1.1.1.1.1.1.1
 any_header (a ∷ b ∷ c ∷ d ∷ e ∷ f ∷ []) is = absurd is.1.1.1.1.1.1.1.1.1
 
 header_any : (words : List (List ℕ)) (h : Header) → IsHeaderLine h words → AnyHeader words
-header_any (a ∷ b ∷ c ∷ d ∷ e ∷ f ∷ g ∷ words) h is =
-    (h.id, (is.0, (is.1.0, (h.opcode, (is.1.1.0, (is.1.1.1.0, (h.rcode, (is.1.1.1.1.0, (is.1.1.1.1.1.0,
-    (is.1.1.1.1.1.1.0, (h.flags, is.1.1.1.1.1.1.1)))))))))))
+header_any (a ∷ b ∷ c ∷ d ∷ e ∷ f ∷ g ∷ words) h is = (
+  h.id,
+  (
+    is.0,
+    (
+      is.1.0,
+      (
+        h.opcode,
+        (
+          is.1.1.0,
+          (
+            is.1.1.1.0,
+            (
+              h.rcode,
+              (
+                is.1.1.1.1.0,
+                (
+                  is.1.1.1.1.1.0,
+                  (is.1.1.1.1.1.1.0, (h.flags, is.1.1.1.1.1.1.1)),
+                ),
+              ),
+            ),
+          ),
+        ),
+      ),
+    ),
+  ),
+)
 header_any [] h is = absurd is
 header_any (a ∷ []) h is = absurd is.1
 header_any (a ∷ b ∷ []) h is = absurd is.1.1
@@ -150,7 +176,8 @@ pub fault_at_id : (ahead after : List ℕ) (start next : ℕ) → next + length 
 fault_at_id ahead after start next place none =
     led_fault HeaderTexts (Of AnyHeader) [] header_leads ahead ahead start start next refl refl
     (field_fault (codes "id") 65535 AfterId
-    (codes "opcode" ∷ codes "0" ∷ codes "rcode" ∷ codes "0" ∷ codes "flags" ∷ []) ahead after start next id_text place none)
+    (codes "opcode" ∷ codes "0" ∷ codes "rcode" ∷ codes "0" ∷ codes "flags" ∷ []) ahead after start next id_text
+    place none)
 
 -- after the identifier
 pub fault_after_id : (ahead mid after word : List ℕ) (start next offset n : ℕ) → TakesWord (codes "id") ahead mid
@@ -164,7 +191,8 @@ fault_after_id ahead mid after word start next offset n first second is place fa
 pub fault_at_opcode : (ahead after : List ℕ) (start next : ℕ) → next + length after ≡ start + length ahead
     → IsNoField (codes "opcode") 15 ahead after → IsFault (Of AfterId) ahead start next
 fault_at_opcode ahead after start next place none =
-    field_fault (codes "opcode") 15 AfterOpcode (codes "rcode" ∷ codes "0" ∷ codes "flags" ∷ []) ahead after start next opcode_text place none
+    field_fault (codes "opcode") 15 AfterOpcode (codes "rcode" ∷ codes "0" ∷ codes "flags" ∷ []) ahead after start next
+    opcode_text place none
 
 -- after the opcode
 pub fault_after_opcode : (ahead mid after word : List ℕ) (start next offset n : ℕ)

@@ -1,11 +1,13 @@
 -- The lines of a text, and how their faults are put together.
-use Rattle.std.proofs.Common.{◌≡◌, ◌⊎◌, ℕ, ◌+◌, ◌<◌, List, [], ◌∷◌, ◌++◌, length, refl, sym, ap, ◌∙◌, subst, inl, inr, arith}
+use Rattle.std.proofs.Common.{◌≡◌, ◌⊎◌, ℕ, ◌+◌, ◌<◌, List, [], ◌∷◌, ◌++◌, length, refl, sym, ap, ◌∙◌, subst, inl, inr}
+use Rattle.std.proofs.Common.{arith}
 use Rattle.std.proofs.Common.{append_assoc}
 use Rattle.std.proofs.lemmas.List.{length-append, append-nil}
 use Rattle.octseq_dns_scan.specs.Word.{AreWords, TakesWord}
 use Rattle.octseq_dns_scan.proofs.Taken.{words_once}
 use Rattle.octseq_dns_text.specs.Scans.{IsFault}
-use Rattle.octseq_dns_compose.specs.TextLines.{IsLine, EndsLine, TakesLine, AreLines, BeginsWithLines, Splits, IsNextLine}
+use Rattle.octseq_dns_compose.specs.TextLines.{IsLine, EndsLine, TakesLine, AreLines, BeginsWithLines, Splits}
+use Rattle.octseq_dns_compose.specs.TextLines.{IsNextLine}
 use Rattle.octseq_dns_compose.specs.TextLines.{IsUnended, IsLineFault, IsFaultyLine, IsNoneOf}
 use Rattle.octseq_dns_compose.proofs.Faults.{Leads, led_fault, no_text}
 

@@ -1,14 +1,15 @@
 -- Where a text is that of no message.
-use Rattle.std.proofs.Common.{◌≡◌, ◌⊎◌, ℕ, ◌+◌, ◌<◌, ◌≤◌, Bool, true, false, nat_eq, cond, None, List, [], ◌∷◌, ◌++◌, length}
+use Rattle.std.proofs.Common.{◌≡◌, ◌⊎◌, ℕ, ◌+◌, ◌<◌, ◌≤◌, Bool, true, false, nat_eq, cond, None, List, [], ◌∷◌, ◌++◌}
+use Rattle.std.proofs.Common.{length}
 use Rattle.std.proofs.Common.{codes, refl, sym, ap, ◌∙◌, subst, inl, inr, arith}
 use Rattle.std.proofs.lemmas.Bool.Decides.{nat_tests}
 use Rattle.std.specs.List.{AllZip}
 use Rattle.octseq_dns_scan.specs.Word.{TakesWord}
-use Rattle.octseq_dns_text.specs.Scans.{Goes, IsFault}
+use Rattle.octseq_dns_text.specs.Scans.{IsFault}
 use Rattle.octseq_dns_message.specs.declared.header.Header.{Header}
 use Rattle.octseq_dns_compose.specs.HeaderLine.{IsHeaderLine}
 use Rattle.octseq_dns_compose.specs.MessageText.{AreEntries, Entry, HasRead, IsAnyText, IsEntryLine}
-use Rattle.octseq_dns_compose.specs.MessageText.{IsQuestionLine, IsRecordLine, IsStop, Said, SayEntries, section_of}
+use Rattle.octseq_dns_compose.specs.MessageText.{IsQuestionLine, IsRecordLine, IsStop, Said, section_of}
 use Rattle.octseq_dns_compose.specs.QuestionText.{IsAnyQuestion}
 use Rattle.octseq_dns_compose.specs.RecordText.{IsAnyRecord}
 use Rattle.octseq_dns.specs.Contents.{Question}
@@ -62,13 +63,23 @@ line_fault Is Texts text line after number offset leads split (inr fault) ends =
 
 header_next : Leads (IsNextLine IsAnyText []) HeaderTexts []
 header_next = record {
-  into = λ words octets is. ([], ([], (is.0, [], record {
-    first = words;
-    others = [];
-    lines_are = refl;
-    header_is = is.1;
-    entries_are = refl;
-  })));
+  into = λ words octets is. (
+    [],
+    (
+      [],
+      (
+        is.0,
+        [],
+        record {
+          first = words;
+          others = [];
+          lines_are = refl;
+          header_is = is.1;
+          entries_are = refl;
+        },
+      ),
+    ),
+  );
   out = λ words octets next.
       let say = next.1.2 in
       let same : words ≡ say.first = cc (say.lines_are) in
@@ -91,13 +102,17 @@ AnyEntries from lines = (entries : List Entry) × AreEntries from entries lines
 pub after_header : (header : Header) (first : Line) → IsHeaderLine header first
     → LeadsLines IsAnyText (AnyEntries 0) (first ∷ [])
 after_header header first is = record {
-  into = λ lines all. (header, all.0, record {
-    first = first;
-    others = lines;
-    lines_are = refl;
-    header_is = is;
-    entries_are = all.1;
-  });
+  into = λ lines all. (
+    header,
+    all.0,
+    record {
+      first = first;
+      others = lines;
+      lines_are = refl;
+      header_is = is;
+      entries_are = all.1;
+    },
+  );
   out = λ lines all.
       let say = all.2 in
       let same : lines ≡ say.others = cc (say.lines_are) in
@@ -143,9 +158,17 @@ same_section entry other (word ∷ words) is also =
 one_entry : (entry : Entry) (words : Line) (from section : ℕ) → IsEntryLine entry words → section_of entry ≡ section
     → from ≤ section → LeadsLines (AnyEntries from) (AnyEntries section) (words ∷ [])
 one_entry entry words from section is here less = record {
-  into = λ lines all.
-      (entry ∷ all.0, (entry, all.0, refl, omega (arith, here, less), is,
-      subst (λ s. AreEntries s all.0 lines) (sym here) all.1));
+  into = λ lines all. (
+    entry ∷ all.0,
+    (
+      entry,
+      all.0,
+      refl,
+      omega (arith, here, less),
+      is,
+      subst (λ s. AreEntries s all.0 lines) (sym here) all.1,
+    ),
+  );
   out = λ lines all.
       let same = same_section all.1.0 entry words all.1.4 is ∙ here in
       (all.1.1, subst (λ s. AreEntries s all.1.1 lines) same all.1.5);
@@ -184,7 +207,8 @@ past_section make IsText section from [] [] text ahead first now number offset o
     (fault from (inr (refl, sym (subst (λ ls. BeginsWithLines ls text ahead) same read.begins))))
 past_section make IsText section from [] (w ∷ lines) text ahead first now number offset of is less read same all fault =
     absurd all
-past_section make IsText section from (v ∷ values) [] text ahead first now number offset of is less read same all fault =
+past_section make IsText section from (v ∷ values) [] text ahead first now number offset of is less read same all
+    fault =
     absurd all
 past_section make IsText section from (v ∷ values) (w ∷ lines) text ahead first now number offset of is less read same
     all fault =
@@ -255,7 +279,8 @@ entry_fault section from word Texts text number offset of less faulty = record {
   place = omega arith;
   fault = either_fault section from word Texts offset of less faulty.line faulty.after faulty.rest faulty.start
       faulty.taken faulty.place faulty.fault;
-  ends = λ over. absurd (some_word word faulty.line faulty.rest faulty.taken (front_empty faulty.line faulty.after over));
+  ends = λ over.
+      absurd (some_word word faulty.line faulty.rest faulty.taken (front_empty faulty.line faulty.after over));
 }
 
 -- ---- a line of no section that may follow
@@ -266,12 +291,15 @@ split_octet x text true is rest =
     let feed : x ≡ 10 = grind (arith, nat_tests) in
     ([], x ∷ text, record { whole = refl; is_line = tt; ends = feed })
 split_octet x text false is rest =
-    let other : ¬ (x ≡ 10) = grind (arith, nat_tests) in
-    (x ∷ rest.0, rest.1, record {
-      whole = ap (λ l. x ∷ l) rest.2.whole;
-      is_line = (other, rest.2.is_line);
-      ends = rest.2.ends;
-    })
+    let other : ¬ (x ≡ 10) = grind (arith, nat_tests) in (
+      x ∷ rest.0,
+      rest.1,
+      record {
+        whole = ap (λ l. x ∷ l) rest.2.whole;
+        is_line = (other, rest.2.is_line);
+        ends = rest.2.ends;
+      },
+    )
 
 split_text : (text : List ℕ) → (line after : List ℕ) × Splits text line after
 split_text [] = ([], [], record { whole = refl; is_line = tt; ends = tt })
@@ -279,7 +307,8 @@ split_text (x ∷ text) = split_octet x text (nat_eq x 10) refl (split_text text
 
 -- none of the sections from `from` on, and before `to`, is next
 abbrev pub NoneFrom : ℕ → ℕ → List ℕ → Type 0
-NoneFrom from to text = (entry : Entry) → from ≤ section_of entry → section_of entry < to → IsNoneOf (word_of entry) text
+NoneFrom from to text =
+    (entry : Entry) → from ≤ section_of entry → section_of entry < to → IsNoneOf (word_of entry) text
 
 below_four : (entry : Entry) → section_of entry < 4
 below_four (Entry.question q) = omega arith
@@ -305,9 +334,9 @@ other_fault from text number less some none =
       fault = inl (first_fault Next split.0 0
           (codes "additional" ∷ sample.0, [], ([], (one ∷ [], (one, [], refl, less, (refl, sample.2.1), refl))))
           (λ word left taken goes.
-              let all = goes.2.1.1 in
-              none all.0 all.3 (below_four all.0) split.0 split.1 left split.2
-              (subst (λ w. TakesWord w split.0 left) (word_is all.0 word goes.0 all.4) taken))
+          let all = goes.2.1.1 in
+          none all.0 all.3 (below_four all.0) split.0 split.1 left split.2
+          (subst (λ w. TakesWord w split.0 left) (word_is all.0 word goes.0 all.4) taken))
           (λ over octets next. no_entry next.1.1.0 next.1.1.4));
       ends = λ over. absurd (some (split.2.whole ∙ over));
     }
@@ -471,8 +500,8 @@ end_fault a b c d e i j k l n questions answers authorities additionals q_read n
     some =
     past_section Entry.question IsQuestionLine 0 0 questions q_read.lines a b i j n 0 (λ q. refl) (λ q ws is. is)
     (omega arith) q_read refl q_read.are (λ s one.
-    let none1 = none_step 0 s 0 a b (λ entry from less. absurd (omega (arith, less))) (here_question b no_q) (omega arith)
-    one in
+    let none1 = none_step 0 s 0 a b (λ entry from less. absurd (omega (arith, less))) (here_question b no_q)
+    (omega arith) one in
     let at1 = at_most s 0 0 (b ≡ a) (omega arith) one in
     past_section Entry.answer (IsRecordLine (codes "answer")) 1 s answers r_read.lines b c j k n 0 (λ q. refl)
     (λ q ws is. is) (omega (arith, at1)) r_read refl r_read.are (λ t two.

@@ -1,12 +1,14 @@
 -- The text of a message, line by line.
-use Rattle.std.proofs.Common.{◌≡◌, ℕ, ◌+◌, ◌≤◌, None, List, [], ◌∷◌, ◌++◌, length, map, codes, refl, sym, ap, ◌∙◌, subst}
+use Rattle.std.proofs.Common.{◌≡◌, ℕ, ◌+◌, ◌≤◌, None, List, [], ◌∷◌, ◌++◌, map, codes, refl, sym, ◌∙◌}
+use Rattle.std.proofs.Common.{subst}
 use Rattle.std.proofs.Common.{arith, Result, Ok, Err, OnOk, Option, Some, IfSome, IfNone}
 use Rattle.std.proofs.lemmas.List.{length-append, append-nil}
 use Rattle.std.specs.List.{AllZip}
 use Rattle.octseq.specs.Window.{whole}
 use Rattle.octseq_dns.specs.Contents.{Message, Question, Record}
 use Rattle.octseq_dns.specs.Rdata.{bare_rdata, rdata_fields, rtype_of}
-use Rattle.octseq_dns.specs.Writes.{Building, Writes, all_more, more_questions, more_answers, more_authorities, more_additionals}
+use Rattle.octseq_dns.specs.Writes.{Building, Writes, all_more, more_questions, more_answers, more_authorities}
+use Rattle.octseq_dns.specs.Writes.{more_additionals}
 use Rattle.octseq_dns_compress.specs.State.{State}
 use Rattle.octseq_dns_data.specs.Data.{ParsedRdata, SaysData}
 use Rattle.octseq_dns_data.specs.Data as read
@@ -135,10 +137,15 @@ section_first make IsText section from [] [] entries others of is less all are =
 section_first make IsText section from [] (words ∷ lines) entries others of is less all are = absurd all
 section_first make IsText section from (a ∷ values) [] entries others of is less all are = absurd all
 section_first make IsText section from (a ∷ values) (words ∷ lines) entries others of is less all are =
-    let here = of a in
-    (make a, map make values ++ entries, refl, omega (arith, here, less), is a words all.0,
-    section_first make IsText section (section_of (make a)) values lines entries others of is (omega (arith, here))
-    all.1 are)
+    let here = of a in (
+      make a,
+      map make values ++ entries,
+      refl,
+      omega (arith, here, less),
+      is a words all.0,
+      section_first make IsText section (section_of (make a)) values lines entries others of is (omega (arith, here))
+          all.1 are,
+    )
 
 with_more : (m n all : Message) (entries others : List Entry) → IsWithAll m entries n → IsWithAll n others all
     → IsWithAll m (entries ++ others) all

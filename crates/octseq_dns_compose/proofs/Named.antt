@@ -1,6 +1,6 @@
 -- The octets of the text of a type or a class.
-use Rattle.std.proofs.Common.{◌≡◌, ℕ, zero, suc, ◌+◌, ◌<◌, ◌≤◌, ◌⊎◌, Bool, true, false, ◌&&◌, nat_lt, IsUtf8, inl, inr}
-use Rattle.std.proofs.Common.{List, [], ◌∷◌, ◌++◌, length, map, codes, slice_index, refl, sym, ap, ◌∙◌, subst, arith}
+use Rattle.std.proofs.Common.{◌≡◌, ℕ, zero, suc, ◌<◌, Bool, true, false, ◌&&◌, nat_lt, IsUtf8, inl, inr}
+use Rattle.std.proofs.Common.{List, [], ◌∷◌, ◌++◌, map, codes, refl, sym, subst, arith}
 use Rattle.std.proofs.lemmas.Bool.{and_parts}
 use Rattle.std.proofs.lemmas.Bool.Decides.{nat_tests}
 use Rattle.std.proofs.lemmas.Fmt.{IsAscii-from_digits}
@@ -9,7 +9,7 @@ use Rattle.std.specs.Char.{to_ascii_lowercase, digit_value}
 use Rattle.std.specs.List.{IsAmong}
 use Rattle.std.specs.Prelude.{IsAscii}
 use Rattle.std.specs.Str.Parse.{IsNumeral}
-use Rattle.octseq_dns_data.specs.Mnemonic.{Names, Spells, IsNameOf, IsWordAndNumber, Reads, ReadsClass, ReadsRtype}
+use Rattle.octseq_dns_data.specs.Mnemonic.{Names, Spells, Reads, ReadsClass, ReadsRtype}
 use Rattle.octseq_dns_data.specs.Mnemonic.{class_names}
 use Rattle.octseq_dns_data.specs.Rtype.{rtype_names}
 

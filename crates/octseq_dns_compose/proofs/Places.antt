@@ -1,5 +1,6 @@
 -- The places of faults, and the faults of the line of a header.
-use Rattle.std.proofs.Common.{◌≡◌, ℕ, ◌+◌, List, [], ◌∷◌, length, Result, Err, refl, sym, ap, ◌∙◌, subst, inl, inr, arith}
+use Rattle.std.proofs.Common.{◌≡◌, ℕ, List, [], length, Result, Err, sym, ap, ◌∙◌, subst, inl, inr}
+use Rattle.std.proofs.Common.{arith}
 use Rattle.octseq_dns_message.specs.declared.header.Header.{Header}
 use Rattle.octseq_dns_scan.specs.Word.{AreWords}
 use Rattle.octseq_dns_text.specs.Scans.{IsFault}
@@ -17,7 +18,8 @@ place_of other ComposeError.Memory = other
 -- the place in an error
 pub malformed_at : {T : Type 0} (number offset : ℕ) (place : Place) (error : ComposeError)
     → error ≡ ComposeError.Malformed (record { line = number; offset = offset })
-    → ◌≡◌ {A = Result T ComposeError} (Err error) (Err (ComposeError.Malformed place)) → (place.line ≡ number) × (place.offset ≡ offset)
+    → ◌≡◌ {A = Result T ComposeError} (Err error) (Err (ComposeError.Malformed place))
+    → (place.line ≡ number) × (place.offset ≡ offset)
 unfolding place_of
 malformed_at number offset place error is same =
     let inner : error ≡ ComposeError.Malformed place = cc in

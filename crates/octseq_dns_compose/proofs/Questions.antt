@@ -1,12 +1,12 @@
 -- The text of a question, and where it is none.
-use Rattle.std.proofs.Common.{◌≡◌, ℕ, ◌+◌, None, List, [], ◌∷◌, length, codes, refl, sym, ap, ◌∙◌, subst, arith}
-use Rattle.octseq_dns_scan.specs.Word.{TakesWord, AreWords}
+use Rattle.std.proofs.Common.{◌≡◌, ℕ, ◌+◌, None, List, [], ◌∷◌, length, codes, refl}
+use Rattle.octseq_dns_scan.specs.Word.{TakesWord}
 use Rattle.octseq_dns_text.specs.Scans.{IsFault}
-use Rattle.octseq_dns_compose.specs.QuestionText.{IsAnyQuestion, IsOver, IsQuestionText}
+use Rattle.octseq_dns_compose.specs.QuestionText.{IsAnyQuestion, IsOver}
 use Rattle.octseq_dns_compose.specs.RecordText.{IsNameWord, IsClassWord, IsRtypeWord}
 use Rattle.octseq_dns_compose.specs.Take.{Then}
 use Rattle.octseq_dns_compose.specs.TakeOrder.{NoneNext}
-use Rattle.octseq_dns_compose.proofs.Faults.{Leads, led_fault, first_fault}
+use Rattle.octseq_dns_compose.proofs.Faults.{led_fault, first_fault}
 use Rattle.octseq_dns_compose.proofs.Samples.{class_sample, name_sample, rtype_sample}
 
 abbrev pub AfterName : List (List ℕ) → List ℕ → Type 0

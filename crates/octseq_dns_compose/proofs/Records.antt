@@ -1,11 +1,10 @@
 -- The text of a record, and where it is none.
-use Rattle.std.proofs.Common.{◌≡◌, ◌⊎◌, ℕ, ◌+◌, ◌≤◌, Option, Some, None, List, [], ◌∷◌, ◌++◌, length, codes}
-use Rattle.std.proofs.Common.{refl, sym, ap, ◌∙◌, subst, inl, inr, arith}
-use Rattle.octseq_dns_data.specs.Mnemonic.{ReadsClass, ReadsRtype}
+use Rattle.std.proofs.Common.{◌≡◌, ◌⊎◌, ℕ, ◌+◌, Option, List, [], ◌∷◌, length, codes}
+use Rattle.std.proofs.Common.{refl, ap, subst, inl, inr, arith}
 use Rattle.octseq_dns_scan.specs.Word.{TakesWord, AreWords}
 use Rattle.octseq_dns_text.specs.DataText.{IsDataText}
-use Rattle.octseq_dns_text.specs.Scans.{Goes, BeginsWithWords, IsFault}
-use Rattle.octseq_dns_compose.specs.RecordText.{Head, Spells, IsNameWord, IsTtlWord, IsClassWord, IsRtypeWord}
+use Rattle.octseq_dns_text.specs.Scans.{Goes, IsFault}
+use Rattle.octseq_dns_compose.specs.RecordText.{Head, IsNameWord, IsTtlWord, IsClassWord, IsRtypeWord}
 use Rattle.octseq_dns_compose.specs.RecordText.{TtlAndClass, IsRecordText, IsAnyRecord}
 use Rattle.octseq_dns_compose.specs.Take.{Then}
 use Rattle.octseq_dns_compose.specs.TakeOrder.{NoneNext, IsNoOrder}
@@ -42,9 +41,11 @@ owner_goes origin =
 pub record_goes : (origin : Option (List (List ℕ))) → Goes (IsAnyRecord origin) []
 record_goes origin =
     let more = owner_goes origin in
-    let is = more.2 in
-    (codes "." ∷ more.0, more.1,
-    (record { labels = []; ttl = is.0; class = is.1; rtype = is.2 }, (name_sample origin, is.3)))
+    let is = more.2 in (
+      codes "." ∷ more.0,
+      more.1,
+      (record { labels = []; ttl = is.0; class = is.1; rtype = is.2 }, (name_sample origin, is.3)),
+    )
 
 -- ---- from the whole to what follows
 
@@ -216,13 +217,17 @@ pub record_words : (origin : Option (List (List ℕ))) (head : Head) (owner firs
     → TakesWord kind c d → IsRtypeWord head.rtype kind → AreWords words d
     → IsDataText origin head.rtype head.class words octets
     → (all : List (List ℕ)) × AreWords all ahead × IsRecordText origin head all octets
-record_words origin head owner first second kind ahead a b c d words octets w1 is_name w2 w3 order w4 is_rtype are is = (
-  owner ∷ first ∷ second ∷ kind ∷ words,
-  (a, w1, (b, w2, (c, w3, (d, w4, are)))),
-  (is_name, order_text head.ttl head.class
-  (Then (IsRtypeWord head.rtype) (λ more. IsDataText origin head.rtype head.class more octets)) first second
-  (kind ∷ words) order (is_rtype, is)),
-)
+record_words origin head owner first second kind ahead a b c d words octets w1 is_name w2 w3 order w4 is_rtype are
+    is = (
+      owner ∷ first ∷ second ∷ kind ∷ words,
+      (a, w1, (b, w2, (c, w3, (d, w4, are)))),
+      (
+        is_name,
+        order_text head.ttl head.class
+            (Then (IsRtypeWord head.rtype) (λ more. IsDataText origin head.rtype head.class more octets)) first second
+            (kind ∷ words) order (is_rtype, is),
+      ),
+    )
 
 -- the same text ahead
 pub none_next : (Is : ℕ → List ℕ → Type 0) (a b : List ℕ) → b ≡ a → NoneNext Is a → NoneNext Is b

@@ -1,5 +1,5 @@
 -- A word of each kind, and how a word is read in one way.
-use Rattle.std.proofs.Common.{◌≡◌, ℕ, ◌≤◌, Option, Some, None, List, [], ◌∷◌, codes, refl, inl, arith}
+use Rattle.std.proofs.Common.{◌≡◌, ℕ, Option, Some, None, List, [], codes, refl, inl, arith}
 use Rattle.octseq_dns_data.specs.Mnemonic.{ReadsClass, ReadsRtype, class_names}
 use Rattle.octseq_dns_data.specs.Rtype.{rtype_names}
 use Rattle.octseq_dns_data.proofs.Mnemonics.{one_number, classes_unambiguous, rtypes_unambiguous}

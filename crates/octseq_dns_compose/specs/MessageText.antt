@@ -6,7 +6,7 @@ use Rattle.octseq_dns.specs.Blank.{blank_message}
 use Rattle.octseq_dns.specs.Contents.{Message, Question, Record}
 use Rattle.octseq_dns.specs.Rdata.{bare_rdata, rdata_fields}
 use Rattle.octseq_dns.specs.Writes.{Writes, all_more, more_questions, more_answers, more_authorities, more_additionals}
-use Rattle.octseq_dns_compress.specs.State.{State, Field}
+use Rattle.octseq_dns_compress.specs.State.{State}
 use Rattle.octseq_dns_data.specs.Data.{ParsedRdata, SaysData}
 use Rattle.octseq_dns_message.specs.declared.header.Header.{Header}
 use Rattle.octseq_dns_message.specs.declared.header.HeaderCounts.{HeaderCounts}
@@ -98,8 +98,8 @@ IsWithAll m (entry ∷ entries) all = (more : Message) × IsWith m entry more ×
 abbrev pub headed_message : Header → Message
 headed_message header = record blank_message { header = header }
 
--- A text is that of a message: its header, and its questions and records, section by section, each on a line of its own,
--- in their order.
+-- A text is that of a message: its header, and its questions and records, section by section, each on a line of its
+-- own, in their order.
 pub record IsMessageText (text : List ℕ) (m : Message) : Type 0 where
   pub lines : List (List (List ℕ))
   pub header : Header

@@ -1,5 +1,4 @@
 -- What contracts see of the head of a record, and of an origin.
-use Rattle.std.specs.Prelude.{ℕ, List}
 use Rattle.octseq_dns_name.specs.Owned.{owned_labels}
 use Rattle.octseq_dns_compose.specs.RecordText.{Head}
 use Rattle.octseq_dns_compose.specs.declared.record.RecordHead.{RecordHead}

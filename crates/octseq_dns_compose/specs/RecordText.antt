@@ -1,5 +1,5 @@
 -- The text of a record: RFC 1035, 5.1.
-use Rattle.std.specs.Prelude.{◌≡◌, ℕ, ◌≤◌, ◌⊎◌, Option, Some, None, List, [], ◌∷◌, length}
+use Rattle.std.specs.Prelude.{◌≡◌, ℕ, ◌≤◌, ◌⊎◌, Option, Some, None, List, length}
 use Rattle.std.specs.Str.Parse.{IsNumeral, digits_value}
 use Rattle.octseq_dns_data.specs.Mnemonic.{ReadsClass, ReadsRtype}
 use Rattle.octseq_dns_name.specs.Name.{wire_length}
@@ -37,7 +37,8 @@ IsRtypeWord rtype word = ReadsRtype word rtype
 -- a TTL and a class, in either order
 abbrev pub TtlAndClass : ℕ → ℕ → (List (List ℕ) → Type 0) → List (List ℕ) → Type 0
 TtlAndClass ttl class Rest words =
-    Then (IsTtlWord ttl) (Then (IsClassWord class) Rest) words ⊎ Then (IsClassWord class) (Then (IsTtlWord ttl) Rest) words
+    Then (IsTtlWord ttl) (Then (IsClassWord class) Rest) words
+    ⊎ Then (IsClassWord class) (Then (IsTtlWord ttl) Rest) words
 
 -- Words are the text of a record: its owner, its TTL and its class, its type, and data of these octets.
 abbrev pub IsRecordText : Option (List (List ℕ)) → Head → List (List ℕ) → List ℕ → Type 0

@@ -69,8 +69,8 @@ pub record IsLineFault (Is : List (List (List ℕ)) → Type 0) (text : List ℕ
   -- the text doesn't end before it
   pub ends : line ++ after ≡ [] → ¬ Is front
 
--- A line begins with a word, and what follows it is no text, or no line feed ends it. `Is words octets`: the words after
--- the first are a text.
+-- A line begins with a word, and what follows it is no text, or no line feed ends it. `Is words octets`: the words
+-- after the first are a text.
 pub record IsFaultyLine (first : List ℕ) (Is : List (List ℕ) → List ℕ → Type 0) (text : List ℕ) (offset : ℕ)
     : Type 0 where
   pub line : List ℕ

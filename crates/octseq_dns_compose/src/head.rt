@@ -29,7 +29,8 @@ pub(crate) fn take_owner<R: AsOctets + Copy>(
         → TakesWord word (ahead_of words.old) rest
         → ¬ IsNameWord (option_map (λ name. labels_of name.now) origin.entry) labels word }
     ensures kept { IsNone result → ahead_of words.new ≡ ahead_of words.old }
-    ensures end { offset_of words.new + length (ahead_of words.new) ≡ offset_of words.old + length (ahead_of words.old) }
+    ensures end { offset_of words.new + length (ahead_of words.new)
+        ≡ offset_of words.old + length (ahead_of words.old) }
 {
     let mut ahead = *words;
     let Some(word) = ahead.next_word() else {
@@ -79,7 +80,8 @@ fn checked(name: Name<Array<255>>) -> Name<Array<255>>
 /// Takes a TTL and a class, in either order.
 pub(crate) fn take_ttl_and_class(words: &mut Words) -> Option<(Ttl, Class)>
     ensures taken { TakesOrder result (ahead_of words.old) (ahead_of words.new) }
-    ensures end { offset_of words.new + length (ahead_of words.new) ≡ offset_of words.old + length (ahead_of words.old) }
+    ensures end { offset_of words.new + length (ahead_of words.new)
+        ≡ offset_of words.old + length (ahead_of words.old) }
 {
     if let Some(ttl) = take_ttl(words) {
         let Some(class) = take_class(words) else {
@@ -99,7 +101,8 @@ pub(crate) fn take_ttl_and_class(words: &mut Words) -> Option<(Ttl, Class)>
 /// Takes a TTL.
 fn take_ttl(words: &mut Words) -> Option<Ttl>
     ensures taken { Takes IsTtlWord result (ahead_of words.old) (ahead_of words.new) }
-    ensures end { offset_of words.new + length (ahead_of words.new) ≡ offset_of words.old + length (ahead_of words.old) }
+    ensures end { offset_of words.new + length (ahead_of words.new)
+        ≡ offset_of words.old + length (ahead_of words.old) }
 {
     let mut ahead = *words;
     let Some(word) = ahead.next_word() else {
@@ -115,7 +118,8 @@ fn take_ttl(words: &mut Words) -> Option<Ttl>
 /// Takes a class.
 pub(crate) fn take_class(words: &mut Words) -> Option<Class>
     ensures taken { Takes IsClassWord result (ahead_of words.old) (ahead_of words.new) }
-    ensures end { offset_of words.new + length (ahead_of words.new) ≡ offset_of words.old + length (ahead_of words.old) }
+    ensures end { offset_of words.new + length (ahead_of words.new)
+        ≡ offset_of words.old + length (ahead_of words.old) }
 {
     let mut ahead = *words;
     let Some(word) = ahead.next_word() else {
@@ -131,7 +135,8 @@ pub(crate) fn take_class(words: &mut Words) -> Option<Class>
 /// Takes a type.
 pub(crate) fn take_rtype(words: &mut Words) -> Option<Rtype>
     ensures taken { Takes IsRtypeWord result (ahead_of words.old) (ahead_of words.new) }
-    ensures end { offset_of words.new + length (ahead_of words.new) ≡ offset_of words.old + length (ahead_of words.old) }
+    ensures end { offset_of words.new + length (ahead_of words.new)
+        ≡ offset_of words.old + length (ahead_of words.old) }
 {
     let mut ahead = *words;
     let Some(word) = ahead.next_word() else {

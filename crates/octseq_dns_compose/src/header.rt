@@ -41,7 +41,8 @@ pub(crate) fn scan_header(words: &mut Words) -> Option<Header>
 /// Takes a word and a number of at most `max`.
 fn take_field(words: &mut Words, name: &[u8], max: u32) -> Option<u32>
     ensures taken { TakesField name.now max result (ahead_of words.old) (ahead_of words.new) }
-    ensures end { offset_of words.new + length (ahead_of words.new) ≡ offset_of words.old + length (ahead_of words.old) }
+    ensures end { offset_of words.new + length (ahead_of words.new)
+        ≡ offset_of words.old + length (ahead_of words.old) }
 {
     if !take_word(words, name) {
         return None;
@@ -56,7 +57,8 @@ fn take_field(words: &mut Words, name: &[u8], max: u32) -> Option<u32>
 fn take_flags(words: &mut Words) -> Flags
     ensures taken { (flag_list : List (List ℕ)) × Picks flag_names (ahead_of words.old) flag_list (ahead_of words.new)
         × AreFlags result flag_list }
-    ensures end { offset_of words.new + length (ahead_of words.new) ≡ offset_of words.old + length (ahead_of words.old) }
+    ensures end { offset_of words.new + length (ahead_of words.new)
+        ≡ offset_of words.old + length (ahead_of words.old) }
 {
     let qr = take_word(words, b"QR");
     let aa = take_word(words, b"AA");

@@ -16,5 +16,5 @@ pub mod record;
 mod take;
 
 pub use error::{ComposeError, Place};
-pub use message::compose_text;
+pub use message::{a_refused_text_is_no_message, compose_text};
 pub use record::{RecordHead, scan_record};

@@ -25,6 +25,14 @@ use octseq_dns_data::data::data_has_the_records_type;
 use octseq_dns_data::{Class, Data, Rtype};
 use std::alloc::Global;
 
+/// A text that is refused as malformed is that of no message.
+///
+/// It does nothing. Calling it brings the law into the caller's proof.
+pub fn a_refused_text_is_no_message()
+    ensures { (text : List ℕ) (first number offset : ℕ) (m : Message)
+        → IsLineFault IsAnyText text first number offset → ¬ IsMessageText text m }
+{}
+
 /// Composes the message of a text, in place of what a builder and a table hold. The text has a line for the header, as
 /// `id 4660 opcode 0 rcode 0 flags QR AA RD`; one for each question, as `question example.com. IN A`; and one for each
 /// record after the word for its section, as `answer example.com. 300 IN A 1.2.3.4`, section by section. A line feed
@@ -33,8 +41,8 @@ use std::alloc::Global;
 /// # Errors
 ///
 /// The text is read line by line, and the first fault decides: `Malformed` with the place of the first word that isn't
-/// what has to come there, `Short` if the message would exceed the limit of the builder's type or 65,535 octets, `Memory`
-/// if a request for memory was refused.
+/// what has to come there, `Short` if the message would exceed the limit of the builder's type or 65,535 octets or data
+/// has more, `Memory` if a request for memory was refused. The builder and the table are then dropped.
 pub fn compose_text<B: OctetsBuilder + Truncate + AsOctetsMut, T: Compressor>(
     alloc: Global,
     text: &[u8],
@@ -59,7 +67,13 @@ pub fn compose_text<B: OctetsBuilder + Truncate + AsOctetsMut, T: Compressor>(
     let mut authorities = answers.authority();
     push_records(alloc, &mut lines, b"authority", &mut authorities, &mut data)?;
     let mut additionals = authorities.additional();
-    push_records(alloc, &mut lines, b"additional", &mut additionals, &mut data)?;
+    push_records(
+        alloc,
+        &mut lines,
+        b"additional",
+        &mut additionals,
+        &mut data,
+    )?;
     if !lines.ahead.is_empty() {
         return Err(lines.malformed(0));
     }

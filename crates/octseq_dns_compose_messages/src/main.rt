@@ -1,12 +1,13 @@
 //! Composes the text of each message of standard input, each of which is preceded by its length in two octets, and
-//! compares the octets with those of the message rewritten. It prints a line for each message whose text is refused or
-//! composed otherwise, and then how many there are of each kind.
+//! compares the octets with those of the message rewritten, with the reserved bit cleared. It prints a line for each
+//! message whose text is refused or composed otherwise, and then how many there are of each kind.
 //!
-//! It is a test of `octseq_dns_compose`: `stdin` has 483 messages of real traffic, followed by 137 that were made.
+//! It is a test of `octseq_dns_compose`: `stdin` has 483 messages of real traffic, followed by 137 that were made. Of
+//! the 620, dnspython finds 63 malformed.
 #![tactic(auto)]
 
 use octseq::StrBuilder;
-use octseq_dns::{Message, RewriteError, Target, rewrite};
+use octseq_dns::{Flags, Header, Message, RewriteError, Target, rewrite};
 use octseq_dns_compose::compose_text;
 use std::alloc::{AllocError, Global};
 use std::io::{self, Read, Write};
@@ -15,7 +16,7 @@ use std::process::ExitCode;
 /// What is made of a message.
 #[derive(Clone, Copy, Debug, PartialEq, Eq)]
 enum Outcome {
-    /// Its text composes the octets of the message rewritten.
+    /// Its text composes the octets of the message rewritten, with the reserved bit cleared.
     Same,
     /// It isn't one.
     Malformed,
@@ -63,11 +64,18 @@ fn outcome_of(alloc: Global, octets: &[u8]) -> Result<Outcome, AllocError> {
         return Err(AllocError);
     }
     let table = Vec::<Target>::new(alloc);
-    let anew = match rewrite(&message, Vec::new(alloc), table) {
+    let mut anew = match rewrite(&message, Vec::new(alloc), table) {
         Ok(written) => written,
         Err(RewriteError::Immovable) => return Ok(Outcome::Immovable),
         Err(_) => return Err(AllocError),
     };
+    // (the text doesn't show the reserved bit, so what is composed of it has 0 there)
+    let header = anew.header();
+    let flags = Flags {
+        z: false,
+        ..header.flags
+    };
+    anew.set_header(Header { flags, ..header });
     let table = Vec::<Target>::new(alloc);
     match compose_text(alloc, text.as_slice(), Vec::new(alloc), table) {
         Ok(composed) if composed.as_slice() == anew.as_slice() => Ok(Outcome::Same),

@@ -6,10 +6,11 @@ use octseq_dns::{Class, Name, Rtype};
 use octseq_dns_compose::{RecordHead, scan_record};
 use octseq_dns_scan::Words;
 use octseq_dns_text::ScanError;
+use std::alloc::Global;
 
 /// Reads a line with no origin.
-fn scanned(line: &[u8], data: &mut Array<16>) -> Result<RecordHead, ScanError> {
-    scan_record::<&[u8], Array<16>>(Words::new(line), None, data)
+fn scanned(alloc: Global, line: &[u8], data: &mut Array<16>) -> Result<RecordHead, ScanError> {
+    scan_record::<&[u8], Array<16>>(alloc, Words::new(line), None, data)
 }
 
 /// The same record, whichever of TTL and class is first: RFC 1035, 5.1.
@@ -21,7 +22,7 @@ fn a_record_is_read(rt: HostRuntime) {
         b"example\\.com. class1 0000000300 TYPE1 \\# 4 010203 04".as_slice(),
     ] {
         let mut data = Array::<16>::new();
-        let head = unwrap(&rt, scanned(line, &mut data));
+        let head = unwrap(&rt, scanned(rt.alloc(), line, &mut data));
         assert_equal!(&rt, head.ttl.as_secs(), 300);
         assert_equal!(&rt, head.class, Class::IN);
         assert_equal!(&rt, head.rtype, Rtype::A);
@@ -41,7 +42,7 @@ fn an_owner_is_relative_to_an_origin(rt: HostRuntime) {
     ] {
         let owner = unwrap(&rt, Name::from_text(owner));
         let parsed = origin.parsed();
-        let head = unwrap(&rt, scan_record(Words::new(line), Some(&parsed), &mut data));
+        let head = unwrap(&rt, scan_record(rt.alloc(), Words::new(line), Some(&parsed), &mut data));
         assert_true!(&rt, head.owner.parsed().name_eq(&owner.parsed()));
     }
 }
@@ -71,7 +72,7 @@ fn a_fault_has_the_offset_of_its_word(rt: HostRuntime) {
         (b"example.com. 300 IN A \\# 1 00 ;".as_slice(), 30),
     ] {
         let mut data = Array::<16>::new();
-        match scanned(line, &mut data) {
+        match scanned(rt.alloc(), line, &mut data) {
             Ok(_) => panic!(&rt; "read"),
             Err(error) => assert_equal!(&rt, error, ScanError::Malformed(offset)),
         }

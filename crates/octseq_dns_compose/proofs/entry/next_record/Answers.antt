@@ -1,4 +1,4 @@
-use Rattle.std.proofs.Common.{◌≡◌, ℕ, ◌+◌, None, [], length, refl, sym, ap, subst, arith, rules}
+use Rattle.std.proofs.Common.{◌≡◌, ◌+◌, None, [], length, refl, sym, ap, subst, arith, rules}
 use Rattle.octseq.specs.Limit.{IsPast}
 use Rattle.octseq_dns_compose.specs.RecordText.{IsAnyRecord}
 use Rattle.octseq_dns_compose.specs.TextLines.{IsFaultyLine}
@@ -16,10 +16,12 @@ returns-in-Err-Malformed-clause-malformed g c = λ place is.
     let taken = c.in-Some.ensures.some in
     let at : place.offset ≡ c.in-Err-Malformed.offset =
     first_of (search (rules, both.1), cc (both.1, c.in-Err-Malformed.offset-is)) in
-    let fault = c.in-Err-Malformed.ensures.fault c.in-Err-Malformed.offset (search rules) in
-    (both.0, subst (IsFaultyLine c.args.first.now (IsAnyRecord None) c.args.lines.now.ahead.now) (sym at)
-    (faulty_words c.args.first.now (IsAnyRecord None) c.args.lines.now.ahead.now _ _ _ _ _ c.split_line-line.ensures
-    taken.0 taken.1 fault))
+    let fault = c.in-Err-Malformed.ensures.fault c.in-Err-Malformed.offset (search rules) in (
+      both.0,
+      subst (IsFaultyLine c.args.first.now (IsAnyRecord None) c.args.lines.now.ahead.now) (sym at)
+          (faulty_words c.args.first.now (IsAnyRecord None) c.args.lines.now.ahead.now _ _ _ _ _ c.split_line-line.ensures
+          taken.0 taken.1 fault),
+    )
 
 pub returns-in-Err-Short-clause-short : goal.returns-in-Err-Short-clause-short
 returns-in-Err-Short-clause-short g c = λ _.
@@ -47,7 +49,9 @@ returns-in_default-after_feed-clause-malformed g c = λ place is.
     let at : place.offset ≡ length c.split_line-line.result.0.now = both.1 in
     let taken = c.in-Some.ensures.some in
     let all = c.in-Ok.ensures.ok in
-    let over : c.split_line-line.result.1.now ≡ [] = c.in_default-after_feed.ensures.none (search rules) in
-    (both.0, subst (IsFaultyLine c.args.first.now (IsAnyRecord None) c.args.lines.now.ahead.now) (sym at)
-    (no_feed c.args.first.now (IsAnyRecord None) c.args.lines.now.ahead.now _ _ _ _ all.0 all.1
-    c.split_line-line.ensures taken.0 taken.1 all.2 (_, all.3) over))
+    let over : c.split_line-line.result.1.now ≡ [] = c.in_default-after_feed.ensures.none (search rules) in (
+      both.0,
+      subst (IsFaultyLine c.args.first.now (IsAnyRecord None) c.args.lines.now.ahead.now) (sym at)
+          (no_feed c.args.first.now (IsAnyRecord None) c.args.lines.now.ahead.now _ _ _ _ all.0 all.1
+          c.split_line-line.ensures taken.0 taken.1 all.2 (_, all.3) over),
+    )

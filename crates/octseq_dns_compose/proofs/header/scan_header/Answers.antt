@@ -1,4 +1,4 @@
-use Rattle.std.proofs.Common.{◌≡◌, ℕ, ◌+◌, List, [], ◌∷◌, length, codes, refl, sym, ap, ◌∙◌, subst, arith, rules}
+use Rattle.std.proofs.Common.{◌≡◌, [], length, codes, sym, ap, subst, arith, rules}
 use Rattle.octseq_dns_scan.specs.Word.{TakesWord}
 use Rattle.octseq_dns_scan.specs.Words.{ahead_of, offset_of}
 use Rattle.octseq_dns_text.specs.Scans.{IsFault}

@@ -1,4 +1,4 @@
-use Rattle.std.proofs.Common.{◌≡◌, refl, sym, subst, rules}
+use Rattle.std.proofs.Common.{◌≡◌, sym, subst, rules}
 use Rattle.octseq_dns_scan.specs.Word.{TakesWord}
 use Rattle.octseq_dns_scan.specs.Words.{ahead_of}
 use Rattle.octseq_dns_compose.specs.HeaderLine.{IsNoField}

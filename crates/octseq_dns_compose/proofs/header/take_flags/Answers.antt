@@ -1,6 +1,5 @@
-use Rattle.std.proofs.Common.{List, [], ◌∷◌, ◌++◌, codes, refl}
+use Rattle.std.proofs.Common.{[], codes, refl}
 use Rattle.octseq_dns_scan.specs.Words.{ahead_of}
-use Rattle.octseq_dns_compose.specs.HeaderLine.{flag_word}
 use Rattle.octseq_dns_compose.proofs.Flags.{pick, pick_none}
 use Rattle.octseq_dns_compose.proofs.header.take_flags.Goals as goal
 

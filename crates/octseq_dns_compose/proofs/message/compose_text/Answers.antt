@@ -1,4 +1,4 @@
-use Rattle.std.proofs.Common.{◌≡◌, ℕ, ◌+◌, ◌≤◌, None, [], length, codes, refl, sym, ◌∙◌, subst, arith, rules}
+use Rattle.std.proofs.Common.{◌≡◌, None, [], length, codes, refl, sym, ◌∙◌, subst, arith, rules}
 use Rattle.std.proofs.lemmas.List.{nil_from_length}
 use Rattle.octseq_dns.specs.Blank.{blank_message}
 use Rattle.octseq_dns_compose.specs.MessageText.{Entry, IsAnyText, IsQuestionLine, IsRecordLine}
@@ -25,9 +25,12 @@ returns-clause-ok g c =
     let w2 = qs.3 _ (writes_same _ _ _ _ c.question-questions.ensures w1) in
     let w3 = rs.3.written _ (writes_same _ _ _ _ c.answer-answers.ensures w2) in
     let w4 = us.3.written _ (writes_same _ _ _ _ c.authority-authorities.ensures w3) in
-    let w5 = ds.3.written _ (writes_same _ _ _ _ c.additional-additionals.ensures w4) in
-    (_, message_text _ _ _ _ _ _ _ _ _ _ _ c.in_ok-header.header first.0 qs.0 rs.0 us.0 ds.0 rs.3.records
-    us.3.records ds.3.records taken first.2 qs.1 rs.1 us.1 ds.1 over rs.3.are us.3.are ds.3.are, w5)
+    let w5 = ds.3.written _ (writes_same _ _ _ _ c.additional-additionals.ensures w4) in (
+      _,
+      message_text _ _ _ _ _ _ _ _ _ _ _ c.in_ok-header.header first.0 qs.0 rs.0 us.0 ds.0 rs.3.records
+          us.3.records ds.3.records taken first.2 qs.1 rs.1 us.1 ds.1 over rs.3.are us.3.are ds.3.are,
+      w5,
+    )
 
 pub returns-in_err-header-clause-malformed : goal.returns-in_err-header-clause-malformed
 returns-in_err-header-clause-malformed g c = λ place is.

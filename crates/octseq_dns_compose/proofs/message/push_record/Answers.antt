@@ -1,4 +1,3 @@
-use Rattle.std.proofs.Common.{refl}
 use Rattle.octseq_dns_data.specs.Typed.{rdata_of}
 use Rattle.octseq_dns_name.specs.Read.{labels_of}
 use Rattle.octseq_dns_compose.specs.MessageText.{Said}
@@ -12,5 +11,9 @@ returns-clause-written g c =
     let says = c.data_of-said.ensures in
     let kind = c.data_has_the_records_type.ensures _ _ _ _ _ says in
     on_ok c.push_record.result _ _
-    (λ written. (_, record_said said (labels_of c.parsed-owner.result) (rdata_of c.data_of-said.result)
-    c.parsed-owner.ensures kind says, written)) c.push_record.ensures.written
+    (λ written. (
+      _,
+      record_said said (labels_of c.parsed-owner.result) (rdata_of c.data_of-said.result)
+          c.parsed-owner.ensures kind says,
+      written,
+    )) c.push_record.ensures.written

@@ -1,4 +1,4 @@
-use Rattle.std.proofs.Common.{◌≡◌, [], ◌∷◌, refl, sym, ap, subst, arith, length, rules}
+use Rattle.std.proofs.Common.{◌≡◌, [], ◌∷◌, refl, ap, subst, arith, length, rules}
 use Rattle.octseq_dns_scan.specs.Words.{ahead_of, offset_of}
 use Rattle.octseq_dns_text.specs.Scans.{IsFault}
 use Rattle.octseq_dns_compose.specs.QuestionText.{IsAnyQuestion}
@@ -66,6 +66,8 @@ returns-clause-some c =
     let name = c.in-Some.ensures.some in
     let class = c.in-Some-take_class.ensures.taken.some in
     let kind = c.in-Some-take_rtype.ensures.taken.some in
-    let over : ahead_of c.take_rtype.new.words ≡ [] = search rules in
-    (name.0 ∷ class.0 ∷ kind.0 ∷ [], (_, name.1, (_, class.1, (_, kind.1, over))),
-    (name.2, (class.2, (kind.2, refl))))
+    let over : ahead_of c.take_rtype.new.words ≡ [] = search rules in (
+      name.0 ∷ class.0 ∷ kind.0 ∷ [],
+      (_, name.1, (_, class.1, (_, kind.1, over))),
+      (name.2, (class.2, (kind.2, refl))),
+    )

@@ -1,11 +1,10 @@
-use Rattle.std.proofs.Common.{◌≡◌, ℕ, ◌+◌, List, ◌++◌, Err, length, refl, sym, ap, ◌∙◌, subst, arith, rules}
+use Rattle.std.proofs.Common.{◌≡◌, Err, length, sym, ap, ◌∙◌, subst, arith, rules}
 use Rattle.octseq_dns_scan.specs.Words.{ahead_of, offset_of}
 use Rattle.octseq_dns_text.specs.Scans.{IsFault}
 use Rattle.octseq_dns_text.specs.declared.error.ScanError.{ScanError}
-use Rattle.octseq_dns_compose.specs.Read.{head_of}
 use Rattle.octseq_dns_compose.specs.RecordText.{Head, IsAnyRecord}
 use Rattle.octseq_dns_compose.proofs.Records.{fault_at_owner, fault_after_owner, fault_at_order, fault_after_order}
-use Rattle.octseq_dns_compose.proofs.Records.{fault_at_rtype, fault_after_rtype, record_words, none_next}
+use Rattle.octseq_dns_compose.proofs.Records.{fault_at_rtype, fault_after_rtype, record_words}
 use Rattle.octseq_dns_compose.proofs.record.scan_record.Goals as goal
 
 pub returns-in_default-clause-fault : goal.returns-in_default-clause-fault

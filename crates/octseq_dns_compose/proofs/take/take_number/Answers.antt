@@ -1,4 +1,4 @@
-use Rattle.std.proofs.Common.{◌≡◌, ℕ, ◌≤◌, refl, sym, ◌∙◌, subst, rules}
+use Rattle.std.proofs.Common.{◌≤◌, refl, sym, subst, rules}
 use Rattle.std.specs.Str.Parse.{IsNumeral, digits_value}
 use Rattle.octseq_dns_compose.specs.Take.{IsUpTo}
 use Rattle.octseq_dns_compose.proofs.Faults.{only_word}

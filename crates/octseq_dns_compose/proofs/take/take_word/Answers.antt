@@ -1,4 +1,4 @@
-use Rattle.std.proofs.Common.{◌≡◌, refl, sym, ◌∙◌, rules}
+use Rattle.std.proofs.Common.{◌≡◌, refl, rules}
 use Rattle.octseq_dns_compose.specs.Take.{IsGiven}
 use Rattle.octseq_dns_compose.proofs.Faults.{only_word}
 use Rattle.octseq_dns_compose.proofs.take.take_word.Goals as goal
