@@ -1,5 +1,5 @@
 -- A word of each kind, and how a word is read in one way.
-use Rattle.std.proofs.Common.{◌≡◌, ℕ, Option, Some, None, List, [], codes, refl, inl, arith}
+use Rattle.std.proofs.Common.{◌≡◌, ℕ, Option, Some, None, List, [], ◌∷◌, codes, refl, inl, arith}
 use Rattle.octseq_dns_data.specs.Mnemonic.{ReadsClass, ReadsRtype, class_names}
 use Rattle.octseq_dns_data.specs.Rtype.{rtype_names}
 use Rattle.octseq_dns_data.proofs.Mnemonics.{one_number, classes_unambiguous, rtypes_unambiguous}
@@ -31,5 +31,8 @@ name_sample (Some origin) = (tt, omega arith, inl refl)
 
 pub data_sample : (origin : Option (List (List ℕ))) (rtype class : ℕ)
     → (words : List (List ℕ)) × (octets : List ℕ) × IsDataText origin rtype class words octets
-unfolding IsDataText
-data_sample origin rtype class = ([], [], (refl, refl))
+data_sample origin rtype class = (
+  codes "\\#" ∷ codes "0" ∷ [],
+  [],
+  inl (codes "0" ∷ [], refl, (codes "0", [], refl, (omega arith, (omega arith, tt)), omega arith, refl, (tt, refl))),
+)

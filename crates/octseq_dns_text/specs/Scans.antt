@@ -1,6 +1,6 @@
 -- Texts that are read word by word into octets, and what a reader of them says. `Is words octets`: the words are a text
 -- of these octets.
-use Rattle.std.specs.Prelude.{◌≡◌, ℕ, ◌+◌, Bool, true, Option, List, [], ◌∷◌, ◌++◌, length}
+use Rattle.std.specs.Prelude.{◌≡◌, ℕ, ◌+◌, ◌≤◌, Bool, true, Option, List, [], ◌∷◌, ◌++◌, length}
 use Rattle.std.specs.Prelude.{Result, OnOk, OnErr, IsErrOf}
 use Rattle.octseq.specs.Limit.{IsPast}
 use Rattle.octseq_dns_scan.specs.Word.{TakesWord, AreWords}
@@ -9,6 +9,10 @@ use Rattle.octseq_dns_text.specs.declared.error.ScanError.{ScanError}
 -- some text begins with these words
 abbrev pub Goes : (List (List ℕ) → List ℕ → Type 0) → List (List ℕ) → Type 0
 Goes Is front = (more : List (List ℕ)) × (octets : List ℕ) × Is (front ++ more) octets
+
+-- there are one or more words
+abbrev pub AreSome : (List (List ℕ) → List ℕ → Type 0) → List (List ℕ) → List ℕ → Type 0
+AreSome Is words octets = (1 ≤ length words) × Is words octets
 
 -- a text is these words with the blanks after each, followed by what is left
 abbrev pub BeginsWithWords : List (List ℕ) → List ℕ → List ℕ → Type 0
@@ -31,8 +35,8 @@ pub record IsFault (Is : List (List ℕ) → List ℕ → Type 0) (ahead : List 
   -- none ends there, if it is the end
   pub ends : rest ≡ [] → (octets : List ℕ) → ¬ Is front octets
 
--- What is left of a text is read into octets, which are appended to a content. So a text is refused as malformed exactly
--- if it is none, and as short exactly if the content would exceed its limit, memory aside.
+-- What is left of a text is read into octets, which are appended to a content. So, memory aside, it is refused as
+-- malformed exactly if it is no text, and as short exactly if the content would exceed its limit.
 pub record Scans (Is : List (List ℕ) → List ℕ → Type 0) (limit : Option ℕ) (asks : Bool)
     (result : Result (Unit {0}) ScanError) (ahead : List ℕ) (start : ℕ) (old new : List ℕ) : Type 0 where
   -- it is read

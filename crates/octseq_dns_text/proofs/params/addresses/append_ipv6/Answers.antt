@@ -1,0 +1,7 @@
+use Rattle.std.proofs.Common.{rules}
+use Rattle.octseq_dns_text.proofs.Outcomes.{if_none}
+use Rattle.octseq_dns_text.proofs.params.addresses.append_ipv6.Goals as goal
+
+pub returns-in_default-clause-malformed : goal.returns-in_default-clause-malformed
+returns-in_default-clause-malformed c = λ _ octets is.
+    if_none c.scan_ipv6.result _ c.scan_ipv6.ensures.none (search rules) octets is.is
