@@ -96,7 +96,9 @@ fn report(alloc: Global, stream: &[u8]) -> Result<String, AllocError> {
         number = number.saturating_add(1);
         let outcome = outcome_of(alloc, octets)?;
         if outcome == Outcome::Different {
-            lines.push_str(format!(in alloc; "message {number} is composed otherwise\n")?.as_str())?;
+            lines.push_str(format!(in alloc;
+                "message {number} is composed otherwise\n"
+            )?.as_str())?;
         }
         counts.add(outcome);
         rest = after;
@@ -107,7 +109,9 @@ fn report(alloc: Global, stream: &[u8]) -> Result<String, AllocError> {
         immovable,
         different,
     } = counts;
-    let last = format!(in alloc; "{same} same, {malformed} malformed, {immovable} immovable, {different} other\n")?;
+    let last = format!(in alloc;
+        "{same} same, {malformed} malformed, {immovable} immovable, {different} other\n"
+    )?;
     lines.push_str(last.as_str())?;
     Ok(lines)
 }

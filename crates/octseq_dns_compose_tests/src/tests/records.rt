@@ -42,7 +42,10 @@ fn an_owner_is_relative_to_an_origin(rt: HostRuntime) {
     ] {
         let owner = unwrap(&rt, Name::from_text(owner));
         let parsed = origin.parsed();
-        let head = unwrap(&rt, scan_record(rt.alloc(), Words::new(line), Some(&parsed), &mut data));
+        let head = unwrap(
+            &rt,
+            scan_record(rt.alloc(), Words::new(line), Some(&parsed), &mut data),
+        );
         assert_true!(&rt, head.owner.parsed().name_eq(&owner.parsed()));
     }
 }
