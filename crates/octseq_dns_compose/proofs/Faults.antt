@@ -1,0 +1,123 @@
+-- How the faults of texts of words are put together.
+use Rattle.std.proofs.Common.{◌≡◌, ℕ, ◌+◌, List, [], ◌∷◌, ◌++◌, length, refl, sym, ap, ◌∙◌, subst, arith}
+use Rattle.std.proofs.Common.{append_assoc}
+use Rattle.std.proofs.lemmas.List.{length-append, append-nil}
+use Rattle.octseq_dns_scan.specs.Word.{TakesWord, AreWords}
+use Rattle.octseq_dns_scan.proofs.Taken.{word_once}
+use Rattle.octseq_dns_text.specs.Scans.{Goes, BeginsWithWords, IsFault}
+
+-- ---- words at the front of a text
+
+pub begins_more : (front more : List (List ℕ)) (text mid rest : List ℕ) → BeginsWithWords front text mid
+    → BeginsWithWords more mid rest → BeginsWithWords (front ++ more) text rest
+begins_more [] more text mid rest begins on = subst (λ t. BeginsWithWords more t rest) (sym begins) on
+begins_more (word ∷ front) more text mid rest begins on =
+    (begins.0, begins.1, begins_more front more begins.0 mid rest begins.2 on)
+
+pub are_more : (front words : List (List ℕ)) (text rest : List ℕ) → BeginsWithWords front text rest
+    → AreWords words rest → AreWords (front ++ words) text
+are_more [] words text rest begins are = subst (AreWords words) (sym begins) are
+are_more (word ∷ front) words text rest begins are =
+    (begins.0, begins.1, are_more front words begins.0 rest begins.2 are)
+
+-- a text with words isn't empty
+pub some_word : (word text rest : List ℕ) → TakesWord word text rest → ¬ (text ≡ [])
+some_word word text rest taken none =
+    let size = ap length (sym none ∙ taken.3) ∙ length-append word taken.1 in
+    let some = taken.2.0 in
+    omega (arith, size, some)
+
+-- a text that begins with words consists of them and of others
+pub words_after : (front words : List (List ℕ)) (text rest : List ℕ) → BeginsWithWords front text rest
+    → AreWords words text → (others : List (List ℕ)) × (words ≡ front ++ others) × AreWords others rest
+words_after [] words text rest begins are = (words, refl, subst (AreWords words) begins are)
+words_after (word ∷ front) [] text rest begins are = absurd (some_word word text begins.0 begins.1 are)
+words_after (word ∷ front) (other ∷ words) text rest begins are =
+    let first = word_once word other text begins.0 are.0 begins.1 are.1 in
+    let more = words_after front words begins.0 rest begins.2 (subst (AreWords words) (sym first.1) are.2) in
+    (more.0, (λ i. sym first.0 i ∷ more.1 i), more.2)
+
+-- only one word is next
+pub only_word : (Is : List ℕ → Type 0) (word ahead rest : List ℕ) → TakesWord word ahead rest → ¬ Is word
+    → (other left : List ℕ) → TakesWord other ahead left → ¬ Is other
+only_word Is word ahead rest taken not other left also is =
+    not (subst Is (word_once other word ahead left rest also taken).0 is)
+
+-- ---- texts after words
+
+-- After words at its front, a text of one kind is a text of another.
+pub record Leads (Is Rest : List (List ℕ) → List ℕ → Type 0) (front : List (List ℕ)) : Type 0 where
+  pub into : (words : List (List ℕ)) (octets : List ℕ) → Rest words octets → (all : List ℕ) × Is (front ++ words) all
+  pub out : (words : List (List ℕ)) (octets : List ℕ) → Is (front ++ words) octets → (less : List ℕ) × Rest words less
+
+regroup : (a b c d : List (List ℕ)) → ((a ++ b) ++ c) ++ d ≡ a ++ ((b ++ c) ++ d)
+regroup a b c d = append_assoc (a ++ b) c d ∙ append_assoc a b (c ++ d) ∙ ap (λ l. a ++ l) (sym (append_assoc b c d))
+
+-- what no text goes on with after the words, none goes on with at all
+pub led_fault : (Is Rest : List (List ℕ) → List ℕ → Type 0) (front : List (List ℕ)) → Leads Is Rest front
+    → (text ahead : List ℕ) (start next offset : ℕ) → BeginsWithWords front text ahead
+    → next + length ahead ≡ start + length text → IsFault Rest ahead next offset → IsFault Is text start offset
+led_fault Is Rest front leads text ahead start next offset begins place fault = record {
+  front = front ++ fault.front;
+  rest = fault.rest;
+  begins = begins_more front fault.front text ahead fault.rest begins fault.begins;
+  place = fault.place ∙ place;
+  goes =
+      let all = leads.into (fault.front ++ fault.goes.0) fault.goes.1 fault.goes.2 in
+      (fault.goes.0, all.0, subst (λ ws. Is ws all.0) (sym (append_assoc front fault.front fault.goes.0)) all.1);
+  stops = λ word left taken on.
+      let whole = subst (λ ws. Is ws on.1) (regroup front fault.front (word ∷ []) on.0) on.2 in
+      let less = leads.out ((fault.front ++ word ∷ []) ++ on.0) on.1 whole in
+      fault.stops word left taken (on.0, less.0, less.1);
+  ends = λ none octets is.
+      let less = leads.out fault.front octets is in
+      fault.ends none less.0 less.1;
+}
+
+-- another word at the front
+pub led_word : (Is Mid Rest : List (List ℕ) → List ℕ → Type 0) (front : List (List ℕ)) (word : List ℕ)
+    → Leads Is Mid front
+    → ((words : List (List ℕ)) (octets : List ℕ) → Rest words octets → (all : List ℕ) × Mid (word ∷ words) all)
+    → ((words : List (List ℕ)) (octets : List ℕ) → Mid (word ∷ words) octets → (less : List ℕ) × Rest words less)
+    → Leads Is Rest (front ++ word ∷ [])
+led_word Is Mid Rest front word leads into out = record {
+  into = λ words octets rest.
+      let mid = into words octets rest in
+      let all = leads.into (word ∷ words) mid.0 mid.1 in
+      (all.0, subst (λ ws. Is ws all.0) (sym (append_assoc front (word ∷ []) words)) all.1);
+  out = λ words octets is.
+      let mid = leads.out (word ∷ words) octets
+      (subst (λ ws. Is ws octets) (append_assoc front (word ∷ []) words) is) in
+      out words mid.0 mid.1;
+}
+
+-- the first word is a fault
+pub first_fault : (Is : List (List ℕ) → List ℕ → Type 0) (ahead : List ℕ) (start : ℕ) → Goes Is []
+    → ((word left : List ℕ) → TakesWord word ahead left → ¬ Goes Is (word ∷ []))
+    → (ahead ≡ [] → (octets : List ℕ) → ¬ Is [] octets) → IsFault Is ahead start start
+first_fault Is ahead start goes stops ends = record {
+  front = [];
+  rest = ahead;
+  begins = refl;
+  place = refl;
+  goes = goes;
+  stops = stops;
+  ends = ends;
+}
+
+not_on : (Is : List (List ℕ) → List ℕ → Type 0) (ahead : List ℕ) (start offset : ℕ)
+    → (fault : IsFault Is ahead start offset) → (others : List (List ℕ)) (octets : List ℕ)
+    → AreWords others fault.rest → ¬ Is (fault.front ++ others) octets
+not_on Is ahead start offset fault [] octets are is =
+    fault.ends are octets (subst (λ ws. Is ws octets) (append-nil fault.front) is)
+not_on Is ahead start offset fault (word ∷ others) octets are is =
+    fault.stops word are.0 are.1
+    (others, octets, subst (λ ws. Is ws octets) (sym (append_assoc fault.front (word ∷ []) others)) is)
+
+-- where a fault is, there is no text
+pub no_text : (Is : List (List ℕ) → List ℕ → Type 0) (ahead : List ℕ) (start offset : ℕ)
+    → IsFault Is ahead start offset → (words : List (List ℕ)) (octets : List ℕ) → AreWords words ahead
+    → ¬ Is words octets
+no_text Is ahead start offset fault words octets are is =
+    let split = words_after fault.front words ahead fault.rest fault.begins are in
+    not_on Is ahead start offset fault split.0 octets split.2 (subst (λ ws. Is ws octets) split.1 is)

@@ -1,0 +1,11 @@
+pub mod Faults
+pub mod Flags
+pub mod HeaderLines
+pub mod LineFaults
+pub mod MessageFaults
+pub mod MessageTexts
+pub mod Named
+pub mod Places
+pub mod Questions
+pub mod Records
+pub mod Samples

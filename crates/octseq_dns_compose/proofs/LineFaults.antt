@@ -1,0 +1,224 @@
+-- The lines of a text, and how their faults are put together.
+use Rattle.std.proofs.Common.{◌≡◌, ◌⊎◌, ℕ, ◌+◌, ◌<◌, List, [], ◌∷◌, ◌++◌, length, refl, sym, ap, ◌∙◌, subst, inl, inr}
+use Rattle.std.proofs.Common.{arith}
+use Rattle.std.proofs.Common.{append_assoc}
+use Rattle.std.proofs.lemmas.List.{length-append, append-nil}
+use Rattle.octseq_dns_scan.specs.Word.{AreWords, TakesWord}
+use Rattle.octseq_dns_scan.proofs.Taken.{words_once}
+use Rattle.octseq_dns_text.specs.Scans.{IsFault}
+use Rattle.octseq_dns_compose.specs.TextLines.{IsLine, EndsLine, TakesLine, AreLines, BeginsWithLines, Splits}
+use Rattle.octseq_dns_compose.specs.TextLines.{IsNextLine}
+use Rattle.octseq_dns_compose.specs.TextLines.{IsUnended, IsLineFault, IsFaultyLine, IsNoneOf}
+use Rattle.octseq_dns_compose.proofs.Faults.{Leads, led_fault, no_text}
+
+abbrev pub Line : Type 0
+Line = List (List ℕ)
+
+-- ---- lines at the front of a text
+
+pub lines_more : (front more : List Line) (text mid rest : List ℕ) → BeginsWithLines front text mid
+    → BeginsWithLines more mid rest → BeginsWithLines (front ++ more) text rest
+lines_more [] more text mid rest begins on = subst (λ t. BeginsWithLines more t rest) (sym begins) on
+lines_more (words ∷ front) more text mid rest begins on =
+    (begins.0, begins.1, lines_more front more begins.0 mid rest begins.2 on)
+
+pub lines_end : (front : List Line) (text rest : List ℕ) → BeginsWithLines front text rest → rest ≡ []
+    → AreLines front text
+lines_end [] text rest begins over = begins ∙ over
+lines_end (words ∷ front) text rest begins over =
+    (begins.0, begins.1, lines_end front begins.0 rest begins.2 over)
+
+-- a line ends in one way
+line_same : (line other rest after : List ℕ) → IsLine line → IsLine other → EndsLine after
+    → line ++ 10 ∷ rest ≡ other ++ after → (line ≡ other) × (after ≡ 10 ∷ rest)
+line_same [] [] rest after is also ends same = (refl, sym same)
+line_same [] (y ∷ other) rest after is also ends same = absurd (also.0 (cc))
+line_same (x ∷ line) [] rest [] is also ends same = absurd (cc)
+line_same (x ∷ line) [] rest (y ∷ after) is also ends same =
+    let first : x ≡ y = cc in
+    absurd (is.0 (first ∙ ends))
+line_same (x ∷ line) (y ∷ other) rest after is also ends same =
+    let first : x ≡ y = cc in
+    let more : line ++ 10 ∷ rest ≡ other ++ after = cc in
+    let both = line_same line other rest after is.1 also.1 ends more in
+    ((λ i. first i ∷ both.0 i), both.1)
+
+pub line_once : (words others : Line) (text rest left : List ℕ) → TakesLine words text rest
+    → TakesLine others text left → (words ≡ others) × (rest ≡ left)
+line_once words others text rest left one two =
+    let both = line_same one.0 two.0 rest (10 ∷ left) one.2 two.2 refl (sym one.1 ∙ two.1) in
+    let same : rest ≡ left = cc (both.1) in
+    (words_once words others two.0 (subst (AreWords words) both.0 one.3) two.3, same)
+
+-- a text with lines isn't empty
+some_line : (words : Line) (text rest : List ℕ) → TakesLine words text rest → ¬ (text ≡ [])
+some_line words text rest taken none =
+    let size = ap length (sym none ∙ taken.1) ∙ length-append taken.0 (10 ∷ rest) in
+    omega (arith, size)
+
+pub lines_after : (front lines : List Line) (text rest : List ℕ) → BeginsWithLines front text rest
+    → AreLines lines text → (others : List Line) × (lines ≡ front ++ others) × AreLines others rest
+lines_after [] lines text rest begins are = (lines, refl, subst (AreLines lines) begins are)
+lines_after (words ∷ front) [] text rest begins are = absurd (some_line words text begins.0 begins.1 are)
+lines_after (words ∷ front) (other ∷ lines) text rest begins are =
+    let first = line_once words other text begins.0 are.0 begins.1 are.1 in
+    let more = lines_after front lines begins.0 rest begins.2 (subst (AreLines lines) (sym first.1) are.2) in
+    (more.0, (λ i. sym first.0 i ∷ more.1 i), more.2)
+
+-- ---- texts after lines
+
+-- After lines at its front, a text of one kind is a text of another.
+pub record LeadsLines (Is Rest : List Line → Type 0) (front : List Line) : Type 0 where
+  pub into : (lines : List Line) → Rest lines → Is (front ++ lines)
+  pub out : (lines : List Line) → Is (front ++ lines) → Rest lines
+
+next_leads : (Is Rest : List Line → Type 0) (front more : List Line) → LeadsLines Is Rest front
+    → Leads (IsNextLine Is (front ++ more)) (IsNextLine Rest more) []
+next_leads Is Rest front more leads = record {
+  into = λ words octets next.
+      ([], (next.0, subst Is (sym (append_assoc front more (words ∷ next.0))) (leads.into _ next.1)));
+  out = λ words octets next.
+      ([], (next.0, leads.out _ (subst Is (append_assoc front more (words ∷ next.0)) next.1)));
+}
+
+led_unended : (Is Rest : List Line → Type 0) (front more : List Line) → LeadsLines Is Rest front
+    → (line after : List ℕ) (offset : ℕ) → IsUnended (IsNextLine Rest more) line after 0 offset
+    → IsUnended (IsNextLine Is (front ++ more)) line after 0 offset
+led_unended Is Rest front more leads line after offset fault = record {
+  words = fault.words;
+  octets = fault.octets;
+  are = fault.are;
+  is = (fault.is.0, subst Is (sym (append_assoc front more (fault.words ∷ fault.is.0))) (leads.into _ fault.is.1));
+  ends = fault.ends;
+  place = fault.place;
+}
+
+led_either : (Is Rest : List Line → Type 0) (front more : List Line) → LeadsLines Is Rest front
+    → (line after : List ℕ) (offset : ℕ)
+    → IsFault (IsNextLine Rest more) line 0 offset ⊎ IsUnended (IsNextLine Rest more) line after 0 offset
+    → IsFault (IsNextLine Is (front ++ more)) line 0 offset
+    ⊎ IsUnended (IsNextLine Is (front ++ more)) line after 0 offset
+led_either Is Rest front more leads line after offset (inl fault) =
+    inl (led_fault (IsNextLine Is (front ++ more)) (IsNextLine Rest more) [] (next_leads Is Rest front more leads)
+    line line 0 0 offset refl refl fault)
+led_either Is Rest front more leads line after offset (inr fault) =
+    inr (led_unended Is Rest front more leads line after offset fault)
+
+pub led_line_fault : (Is Rest : List Line → Type 0) (front : List Line) → LeadsLines Is Rest front
+    → (text ahead : List ℕ) (first next number offset : ℕ) → BeginsWithLines front text ahead
+    → next ≡ first + length front → IsLineFault Rest ahead next number offset
+    → IsLineFault Is text first number offset
+led_line_fault Is Rest front leads text ahead first next number offset begins place fault = record {
+  front = front ++ fault.front;
+  line = fault.line;
+  after = fault.after;
+  begins = lines_more front fault.front text ahead (fault.line ++ fault.after) begins fault.begins;
+  is_line = fault.is_line;
+  ended = fault.ended;
+  place =
+      let size = length-append front fault.front in
+      let here = fault.place in
+      omega (arith, size, here, place);
+  fault = led_either Is Rest front fault.front leads fault.line fault.after offset fault.fault;
+  ends = λ over is. fault.ends over (leads.out fault.front is);
+}
+
+-- where a fault is, there is no text
+not_next : (Is : List Line → Type 0) (front others : List Line) (line after : List ℕ) (offset : ℕ) → IsLine line
+    → EndsLine after
+    → IsFault (IsNextLine Is front) line 0 offset ⊎ IsUnended (IsNextLine Is front) line after 0 offset
+    → (line ++ after ≡ [] → ¬ Is front) → AreLines others (line ++ after) → ¬ Is (front ++ others)
+not_next Is front [] line after offset is ends fault over are whole =
+    over are (subst Is (append-nil front) whole)
+not_next Is front (words ∷ others) line after offset is ends (inl fault) over are whole =
+    let both = line_same are.1.0 line are.0 after are.1.2 is ends (sym are.1.1) in
+    no_text (IsNextLine Is front) line 0 offset fault words [] (subst (AreWords words) both.0 are.1.3) (others, whole)
+not_next Is front (words ∷ others) line after offset is ends (inr fault) over are whole =
+    let both = line_same are.1.0 line are.0 after are.1.2 is ends (sym are.1.1) in
+    let none = fault.ends in
+    absurd (cc (both.1, none))
+
+pub no_lines : (Is : List Line → Type 0) (text : List ℕ) (first number offset : ℕ)
+    → IsLineFault Is text first number offset → (lines : List Line) → AreLines lines text → ¬ Is lines
+no_lines Is text first number offset fault lines are is =
+    let split = lines_after fault.front lines text (fault.line ++ fault.after) fault.begins are in
+    not_next Is fault.front split.0 fault.line fault.after offset fault.is_line fault.ended fault.fault fault.ends
+    split.2 (subst Is split.1 is)
+
+-- ---- the first line
+
+-- it is split off in one way
+splits_same : (line other after rest : List ℕ) → IsLine line → IsLine other → EndsLine after → EndsLine rest
+    → line ++ after ≡ other ++ rest → line ≡ other
+splits_same [] [] after rest is also ends end same = refl
+splits_same [] (y ∷ other) [] rest is also ends end same = absurd (cc)
+splits_same [] (y ∷ other) (x ∷ after) rest is also ends end same =
+    let first : x ≡ y = cc in
+    absurd (also.0 (sym first ∙ ends))
+splits_same (x ∷ line) [] after [] is also ends end same = absurd (cc)
+splits_same (x ∷ line) [] after (y ∷ rest) is also ends end same =
+    let first : x ≡ y = cc in
+    absurd (is.0 (first ∙ end))
+splits_same (x ∷ line) (y ∷ other) after rest is also ends end same =
+    let first : x ≡ y = cc in
+    let more : line ++ after ≡ other ++ rest = cc in
+    let both = splits_same line other after rest is.1 also.1 ends end more in
+    λ i. first i ∷ both i
+
+pub none_of : (first text line after : List ℕ) → Splits text line after
+    → ((rest : List ℕ) → ¬ TakesWord first line rest) → IsNoneOf first text
+none_of first text line after split none other left rest also taken =
+    let same = splits_same line other after left split.is_line also.is_line split.ends also.ends
+    (sym split.whole ∙ also.whole) in
+    none rest (subst (λ l. TakesWord first l rest) (sym same) taken)
+
+-- it is taken, if a line feed ends it
+pub line_taken : (first text line after rest ahead : List ℕ) (others : Line) → Splits text line after
+    → TakesWord first line ahead → AreWords others ahead → after ≡ 10 ∷ rest
+    → TakesLine (first ∷ others) text rest
+line_taken first text line after rest ahead others split taken are feed =
+    (line, split.whole ∙ ap (λ l. line ++ l) feed, split.is_line, (ahead, taken, are))
+
+pub less_left : (text line after rest : List ℕ) → Splits text line after → after ≡ 10 ∷ rest
+    → length rest < length text
+less_left text line after rest split feed =
+    let all = ap length split.whole ∙ length-append line after in
+    let size = ap length feed in
+    omega (arith, all, size)
+
+-- a fault in it
+pub faulty_words : (first : List ℕ) (Is : Line → List ℕ → Type 0) (text line after rest : List ℕ) (start offset : ℕ)
+    → Splits text line after → TakesWord first line rest → start + length rest ≡ length line
+    → IsFault Is rest start offset → IsFaultyLine first Is text offset
+faulty_words first Is text line after rest start offset split taken place fault = record {
+  line = line;
+  after = after;
+  split = split;
+  rest = rest;
+  start = start;
+  taken = taken;
+  place = place;
+  fault = inl fault;
+}
+
+pub no_feed : (first : List ℕ) (Is : Line → List ℕ → Type 0) (text line after rest : List ℕ) (start : ℕ)
+    (words : Line) (octets : List ℕ) → Splits text line after → TakesWord first line rest
+    → start + length rest ≡ length line → AreWords words rest → Is words octets → after ≡ []
+    → IsFaultyLine first Is text (length line)
+no_feed first Is text line after rest start words octets split taken place are is over = record {
+  line = line;
+  after = after;
+  split = split;
+  rest = rest;
+  start = start;
+  taken = taken;
+  place = place;
+  fault = inr (record {
+    words = words;
+    octets = octets;
+    are = are;
+    is = is;
+    ends = over;
+    place = sym place;
+  });
+}

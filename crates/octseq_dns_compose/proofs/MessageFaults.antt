@@ -1,0 +1,518 @@
+-- Where a text is that of no message.
+use Rattle.std.proofs.Common.{◌≡◌, ◌⊎◌, ℕ, ◌+◌, ◌<◌, ◌≤◌, Bool, true, false, nat_eq, cond, None, List, [], ◌∷◌, ◌++◌}
+use Rattle.std.proofs.Common.{length}
+use Rattle.std.proofs.Common.{codes, refl, sym, ap, ◌∙◌, subst, inl, inr, arith}
+use Rattle.std.proofs.lemmas.Bool.Decides.{nat_tests}
+use Rattle.std.specs.List.{AllZip}
+use Rattle.octseq_dns_scan.specs.Word.{TakesWord}
+use Rattle.octseq_dns_text.specs.Scans.{IsFault}
+use Rattle.octseq_dns_message.specs.declared.header.Header.{Header}
+use Rattle.octseq_dns_compose.specs.HeaderLine.{IsHeaderLine}
+use Rattle.octseq_dns_compose.specs.MessageText.{AreEntries, Entry, HasRead, IsAnyText, IsEntryLine}
+use Rattle.octseq_dns_compose.specs.MessageText.{IsQuestionLine, IsRecordLine, IsStop, Said, section_of}
+use Rattle.octseq_dns_compose.specs.QuestionText.{IsAnyQuestion}
+use Rattle.octseq_dns_compose.specs.RecordText.{IsAnyRecord}
+use Rattle.octseq_dns.specs.Contents.{Question}
+use Rattle.octseq_dns_compose.specs.TextLines.{BeginsWithLines, IsFaultyHeader, IsFaultyLine, IsLineFault, IsNextLine}
+use Rattle.octseq_dns_compose.specs.TextLines.{IsNoneOf, IsUnended, Splits, TakesLine}
+use Rattle.octseq_dns_compose.proofs.Faults.{Leads, first_fault, led_fault, some_word}
+use Rattle.octseq_dns_compose.proofs.HeaderLines.{HeaderTexts}
+use Rattle.octseq_dns_compose.proofs.LineFaults.{LeadsLines, Line, led_line_fault}
+use Rattle.octseq_dns_compose.proofs.Records.{record_goes}
+
+-- ---- the first line of a text
+
+-- a line of a kind, where texts of another kind are all that follows
+line_fault : (Is : List Line → Type 0) (Texts : Line → List ℕ → Type 0) (text line after : List ℕ)
+    (number offset : ℕ) → Leads (IsNextLine Is []) Texts [] → Splits text line after
+    → IsFault Texts line 0 offset ⊎ IsUnended Texts line after 0 offset → (line ++ after ≡ [] → ¬ Is [])
+    → IsLineFault Is text number number offset
+line_fault Is Texts text line after number offset leads split (inl fault) ends = record {
+  front = [];
+  line = line;
+  after = after;
+  begins = split.whole;
+  is_line = split.is_line;
+  ended = split.ends;
+  place = omega arith;
+  fault = inl (led_fault (IsNextLine Is []) Texts [] leads line line 0 0 offset refl refl fault);
+  ends = ends;
+}
+line_fault Is Texts text line after number offset leads split (inr fault) ends =
+    let next = leads.into fault.words fault.octets fault.is in
+    record {
+      front = [];
+      line = line;
+      after = after;
+      begins = split.whole;
+      is_line = split.is_line;
+      ended = split.ends;
+      place = omega arith;
+      fault = inr (record {
+        words = fault.words;
+        octets = next.0;
+        are = fault.are;
+        is = next.1;
+        ends = fault.ends;
+        place = fault.place;
+      });
+      ends = ends;
+    }
+
+-- ---- the header
+
+header_next : Leads (IsNextLine IsAnyText []) HeaderTexts []
+header_next = record {
+  into = λ words octets is. (
+    [],
+    (
+      [],
+      (
+        is.0,
+        [],
+        record {
+          first = words;
+          others = [];
+          lines_are = refl;
+          header_is = is.1;
+          entries_are = refl;
+        },
+      ),
+    ),
+  );
+  out = λ words octets next.
+      let say = next.1.2 in
+      let same : words ≡ say.first = cc (say.lines_are) in
+      ([], (next.1.0, subst (IsHeaderLine next.1.0) (sym same) say.header_is));
+}
+
+no_lines_at_all : ¬ IsAnyText []
+no_lines_at_all (header, entries, say) = absurd (cc (say.lines_are))
+
+pub header_fault : (text : List ℕ) (offset : ℕ) → IsFaultyHeader text offset → IsLineFault IsAnyText text 1 1 offset
+header_fault text offset fault =
+    line_fault IsAnyText HeaderTexts text fault.line fault.after 1 offset header_next fault.split fault.fault
+    (λ over. no_lines_at_all)
+
+-- ---- entries
+
+abbrev pub AnyEntries : ℕ → List Line → Type 0
+AnyEntries from lines = (entries : List Entry) × AreEntries from entries lines
+
+pub after_header : (header : Header) (first : Line) → IsHeaderLine header first
+    → LeadsLines IsAnyText (AnyEntries 0) (first ∷ [])
+after_header header first is = record {
+  into = λ lines all. (
+    header,
+    all.0,
+    record {
+      first = first;
+      others = lines;
+      lines_are = refl;
+      header_is = is;
+      entries_are = all.1;
+    },
+  );
+  out = λ lines all.
+      let say = all.2 in
+      let same : lines ≡ say.others = cc (say.lines_are) in
+      (all.1, subst (AreEntries 0 all.1) (sym same) say.entries_are);
+}
+
+-- the word for a section, by its length
+abbrev section_in : List ℕ → ℕ
+section_in word = cond (nat_eq (length word) 8) 0 (cond (nat_eq (length word) 6) 1 (cond (nat_eq (length word) 9) 2 3))
+
+abbrev pub word_of : Entry → List ℕ
+word_of (Entry.question q) = codes "question"
+word_of (Entry.answer said) = codes "answer"
+word_of (Entry.authority said) = codes "authority"
+word_of (Entry.additional said) = codes "additional"
+
+word_is : (entry : Entry) (word : List ℕ) (words : Line) → IsEntryLine entry (word ∷ words) → word ≡ word_of entry
+word_is (Entry.question q) word words is = is.0
+word_is (Entry.answer said) word words is = is.0
+word_is (Entry.authority said) word words is = is.0
+word_is (Entry.additional said) word words is = is.0
+
+section_is : (entry : Entry) → section_in (word_of entry) ≡ section_of entry
+section_is (Entry.question q) = refl
+section_is (Entry.answer said) = refl
+section_is (Entry.authority said) = refl
+section_is (Entry.additional said) = refl
+
+no_entry : (entry : Entry) → ¬ IsEntryLine entry []
+no_entry (Entry.question q) is = is
+no_entry (Entry.answer said) is = is
+no_entry (Entry.authority said) is = is
+no_entry (Entry.additional said) is = is
+
+same_section : (entry other : Entry) (words : Line) → IsEntryLine entry words → IsEntryLine other words
+    → section_of entry ≡ section_of other
+same_section entry other [] is also = absurd (no_entry entry is)
+same_section entry other (word ∷ words) is also =
+    sym (section_is entry) ∙ ap section_in (sym (word_is entry word words is) ∙ word_is other word words also)
+    ∙ section_is other
+
+-- after a line of a section, those of earlier ones are over
+one_entry : (entry : Entry) (words : Line) (from section : ℕ) → IsEntryLine entry words → section_of entry ≡ section
+    → from ≤ section → LeadsLines (AnyEntries from) (AnyEntries section) (words ∷ [])
+one_entry entry words from section is here less = record {
+  into = λ lines all. (
+    entry ∷ all.0,
+    (
+      entry,
+      all.0,
+      refl,
+      omega (arith, here, less),
+      is,
+      subst (λ s. AreEntries s all.0 lines) (sym here) all.1,
+    ),
+  );
+  out = λ lines all.
+      let same = same_section all.1.0 entry words all.1.4 is ∙ here in
+      (all.1.1, subst (λ s. AreEntries s all.1.1 lines) same all.1.5);
+}
+
+more_entries : {A : Type 0} (make : A → Entry) (IsText : A → Line → Type 0) (section from : ℕ) (value : A)
+    (words : Line) (values : List A) (lines : List Line) → ((a : A) → section_of (make a) ≡ section)
+    → ((a : A) (ws : Line) → IsText a ws → IsEntryLine (make a) ws) → from ≤ section → IsText value words
+    → AllZip IsText values lines → LeadsLines (AnyEntries from) (AnyEntries section) (words ∷ lines)
+more_entries make IsText section from value words [] [] of is less one all =
+    one_entry (make value) words from section (is value words one) (of value) less
+more_entries make IsText section from value words [] (w ∷ lines) of is less one all = absurd all
+more_entries make IsText section from value words (v ∷ values) [] of is less one all = absurd all
+more_entries make IsText section from value words (v ∷ values) (w ∷ lines) of is less one all =
+    let first = one_entry (make value) words from section (is value words one) (of value) less in
+    let rest = more_entries make IsText section section v w values lines of is (omega arith) all.0 all.1 in
+    record {
+      into = λ others entries. first.into (w ∷ (lines ++ others)) (rest.into others entries);
+      out = λ others entries. rest.out others (first.out (w ∷ (lines ++ others)) entries);
+    }
+
+-- Past the lines of a section: if there are some, those of earlier sections are over.
+pub past_section : {A : Type 0} (make : A → Entry) (IsText : A → Line → Type 0) (section from : ℕ) (values : List A)
+    (lines : List Line) (text ahead : List ℕ) (first now number offset : ℕ)
+    → ((a : A) → section_of (make a) ≡ section) → ((a : A) (ws : Line) → IsText a ws → IsEntryLine (make a) ws)
+    → from ≤ section → (read : HasRead IsText text ahead first now values) → read.lines ≡ lines
+    → AllZip IsText values lines
+    → ((to : ℕ) → (to ≡ section) ⊎ ((to ≡ from) × (ahead ≡ text))
+    → IsLineFault (AnyEntries to) ahead now number offset)
+    → IsLineFault (AnyEntries from) text first number offset
+past_section make IsText section from [] [] text ahead first now number offset of is less read same all fault =
+    led_line_fault (AnyEntries from) (AnyEntries from) [] (record { into = λ ls all. all; out = λ ls all. all })
+    text ahead first now number offset
+    (subst (λ ls. BeginsWithLines ls text ahead) same read.begins)
+    (let place = read.place in let size = ap length same in omega (arith, place, size))
+    (fault from (inr (refl, sym (subst (λ ls. BeginsWithLines ls text ahead) same read.begins))))
+past_section make IsText section from [] (w ∷ lines) text ahead first now number offset of is less read same all fault =
+    absurd all
+past_section make IsText section from (v ∷ values) [] text ahead first now number offset of is less read same all
+    fault =
+    absurd all
+past_section make IsText section from (v ∷ values) (w ∷ lines) text ahead first now number offset of is less read same
+    all fault =
+    led_line_fault (AnyEntries from) (AnyEntries section) (w ∷ lines)
+    (more_entries make IsText section from v w values lines of is less all.0 all.1) text ahead first now number offset
+    (subst (λ ls. BeginsWithLines ls text ahead) same read.begins)
+    (let place = read.place in let size = ap length same in omega (arith, place, size))
+    (fault section (inl refl))
+
+-- ---- a line of a section
+
+-- The words after the first one of a line of a section are texts of a kind.
+pub record IsSection (section : ℕ) (word : List ℕ) (Texts : Line → List ℕ → Type 0) : Type 0 where
+  pub first : section_in word ≡ section
+  pub makes : (words : Line) (octets : List ℕ) → Texts words octets
+      → (entry : Entry) × (section_of entry ≡ section) × IsEntryLine entry (word ∷ words)
+  pub takes : (entry : Entry) (words : Line) → section_of entry ≡ section → IsEntryLine entry (word ∷ words)
+      → (octets : List ℕ) × Texts words octets
+
+section_next : (section from : ℕ) (word : List ℕ) (Texts : Line → List ℕ → Type 0) → IsSection section word Texts
+    → from ≤ section → Leads (IsNextLine (AnyEntries from) []) Texts (word ∷ [])
+section_next section from word Texts of less = record {
+  into = λ words octets is.
+      let one = of.makes words octets is in
+      let here = one.1 in
+      ([], ([], (one.0 ∷ [], (one.0, [], refl, omega (arith, here, less), one.2, refl))));
+  out = λ words octets next.
+      let all = next.1.1 in
+      let same = sym (section_is all.0) ∙ ap section_in (sym (word_is all.0 word words all.4)) ∙ of.first in
+      of.takes all.0 words same all.4;
+}
+
+front_empty : (xs ys : List ℕ) → xs ++ ys ≡ [] → xs ≡ []
+front_empty [] ys none = refl
+front_empty (x ∷ xs) ys none = absurd (cc)
+
+either_fault : (section from : ℕ) (word : List ℕ) (Texts : Line → List ℕ → Type 0) (offset : ℕ)
+    → IsSection section word Texts → from ≤ section → (line after rest : List ℕ) (start : ℕ)
+    → TakesWord word line rest → start + length rest ≡ length line
+    → IsFault Texts rest start offset ⊎ IsUnended Texts rest after start offset
+    → IsFault (IsNextLine (AnyEntries from) []) line 0 offset
+    ⊎ IsUnended (IsNextLine (AnyEntries from) []) line after 0 offset
+either_fault section from word Texts offset of less line after rest start taken place (inl fault) =
+    inl (led_fault (IsNextLine (AnyEntries from) []) Texts (word ∷ []) (section_next section from word Texts of less)
+    line rest 0 start offset (rest, taken, refl) (omega (arith, place)) fault)
+either_fault section from word Texts offset of less line after rest start taken place (inr fault) =
+    let next = (section_next section from word Texts of less).into fault.words fault.octets fault.is in
+    let here = fault.place in
+    inr (record {
+      words = word ∷ fault.words;
+      octets = next.0;
+      are = (rest, taken, fault.are);
+      is = next.1;
+      ends = fault.ends;
+      place = omega (arith, here, place);
+    })
+
+pub entry_fault : (section from : ℕ) (word : List ℕ) (Texts : Line → List ℕ → Type 0) (text : List ℕ)
+    (number offset : ℕ) → IsSection section word Texts → from ≤ section → IsFaultyLine word Texts text offset
+    → IsLineFault (AnyEntries from) text number number offset
+entry_fault section from word Texts text number offset of less faulty = record {
+  front = [];
+  line = faulty.line;
+  after = faulty.after;
+  begins = faulty.split.whole;
+  is_line = faulty.split.is_line;
+  ended = faulty.split.ends;
+  place = omega arith;
+  fault = either_fault section from word Texts offset of less faulty.line faulty.after faulty.rest faulty.start
+      faulty.taken faulty.place faulty.fault;
+  ends = λ over.
+      absurd (some_word word faulty.line faulty.rest faulty.taken (front_empty faulty.line faulty.after over));
+}
+
+-- ---- a line of no section that may follow
+
+split_octet : (x : ℕ) (text : List ℕ) (feed : Bool) → nat_eq x 10 ≡ feed
+    → (line after : List ℕ) × Splits text line after → (line after : List ℕ) × Splits (x ∷ text) line after
+split_octet x text true is rest =
+    let feed : x ≡ 10 = grind (arith, nat_tests) in
+    ([], x ∷ text, record { whole = refl; is_line = tt; ends = feed })
+split_octet x text false is rest =
+    let other : ¬ (x ≡ 10) = grind (arith, nat_tests) in (
+      x ∷ rest.0,
+      rest.1,
+      record {
+        whole = ap (λ l. x ∷ l) rest.2.whole;
+        is_line = (other, rest.2.is_line);
+        ends = rest.2.ends;
+      },
+    )
+
+split_text : (text : List ℕ) → (line after : List ℕ) × Splits text line after
+split_text [] = ([], [], record { whole = refl; is_line = tt; ends = tt })
+split_text (x ∷ text) = split_octet x text (nat_eq x 10) refl (split_text text)
+
+-- none of the sections from `from` on, and before `to`, is next
+abbrev pub NoneFrom : ℕ → ℕ → List ℕ → Type 0
+NoneFrom from to text =
+    (entry : Entry) → from ≤ section_of entry → section_of entry < to → IsNoneOf (word_of entry) text
+
+below_four : (entry : Entry) → section_of entry < 4
+below_four (Entry.question q) = omega arith
+below_four (Entry.answer said) = omega arith
+below_four (Entry.authority said) = omega arith
+below_four (Entry.additional said) = omega arith
+
+pub other_fault : (from : ℕ) (text : List ℕ) (number : ℕ) → from ≤ 3 → ¬ (text ≡ []) → NoneFrom from 4 text
+    → IsLineFault (AnyEntries from) text number number 0
+other_fault from text number less some none =
+    let split = split_text text in
+    let sample = record_goes None in
+    let one = Entry.additional (record { head = sample.2.0; octets = sample.1 }) in
+    let Next = IsNextLine (AnyEntries from) [] in
+    record {
+      front = [];
+      line = split.0;
+      after = split.1;
+      begins = split.2.whole;
+      is_line = split.2.is_line;
+      ended = split.2.ends;
+      place = omega arith;
+      fault = inl (first_fault Next split.0 0
+          (codes "additional" ∷ sample.0, [], ([], (one ∷ [], (one, [], refl, less, (refl, sample.2.1), refl))))
+          (λ word left taken goes.
+          let all = goes.2.1.1 in
+          none all.0 all.3 (below_four all.0) split.0 split.1 left split.2
+          (subst (λ w. TakesWord w split.0 left) (word_is all.0 word goes.0 all.4) taken))
+          (λ over octets next. no_entry next.1.1.0 next.1.1.4));
+      ends = λ over. absurd (some (split.2.whole ∙ over));
+    }
+
+none_case : (from to section : ℕ) (text ahead : List ℕ) → NoneFrom from section text
+    → ((entry : Entry) → section_of entry ≡ section → IsNoneOf (word_of entry) ahead) → (entry : Entry) (is : Bool)
+    → nat_eq (section_of entry) section ≡ is → from ≤ section_of entry → section_of entry < section + 1
+    → ahead ≡ text → IsNoneOf (word_of entry) ahead
+none_case from to section text ahead none here entry true is after before same =
+    let at : section_of entry ≡ section = grind (arith, nat_tests) in
+    here entry at
+none_case from to section text ahead none here entry false is after before same =
+    let other : ¬ (section_of entry ≡ section) = grind (arith, nat_tests) in
+    subst (IsNoneOf (word_of entry)) (sym same) (none entry after (omega (arith, other, before)))
+
+-- past the lines of a section, it is over too
+pub none_step : (from to section : ℕ) (text ahead : List ℕ) → NoneFrom from section text
+    → ((entry : Entry) → section_of entry ≡ section → IsNoneOf (word_of entry) ahead) → from ≤ section
+    → (to ≡ section) ⊎ ((to ≡ from) × (ahead ≡ text)) → NoneFrom to (section + 1) ahead
+none_step from to section text ahead none here less (inl same) entry after before =
+    here entry (omega (arith, same, after, before))
+none_step from to section text ahead none here less (inr same) entry after before =
+    let first = same.0 in
+    none_case from to section text ahead none here entry (nat_eq (section_of entry) section) refl
+    (omega (arith, first, after)) before same.1
+
+-- ---- the sections
+
+question_taken : (entry : Entry) (words : Line) → section_of entry ≡ 0 → IsEntryLine entry (codes "question" ∷ words)
+    → (octets : List ℕ) × IsAnyQuestion words octets
+question_taken (Entry.question q) words here is = ([], (q.labels, q.qclass, q.qtype, is.1))
+question_taken (Entry.answer said) words here is = absurd (omega (arith, here))
+question_taken (Entry.authority said) words here is = absurd (omega (arith, here))
+question_taken (Entry.additional said) words here is = absurd (omega (arith, here))
+
+pub of_questions : IsSection 0 (codes "question") IsAnyQuestion
+of_questions = record {
+  first = refl;
+  makes = λ words octets is.
+      (Entry.question (record { labels = is.0; qtype = is.2; qclass = is.1 }), refl, (refl, is.3));
+  takes = question_taken;
+}
+
+answer_taken : (entry : Entry) (words : Line) → section_of entry ≡ 1 → IsEntryLine entry (codes "answer" ∷ words)
+    → (octets : List ℕ) × IsAnyRecord None words octets
+answer_taken (Entry.question q) words here is = absurd (omega (arith, here))
+answer_taken (Entry.answer said) words here is = (said.octets, (said.head, is.1))
+answer_taken (Entry.authority said) words here is = absurd (omega (arith, here))
+answer_taken (Entry.additional said) words here is = absurd (omega (arith, here))
+
+pub of_answers : IsSection 1 (codes "answer") (IsAnyRecord None)
+of_answers = record {
+  first = refl;
+  makes = λ words octets is. (Entry.answer (record { head = is.0; octets = octets }), refl, (refl, is.1));
+  takes = answer_taken;
+}
+
+authority_taken : (entry : Entry) (words : Line) → section_of entry ≡ 2
+    → IsEntryLine entry (codes "authority" ∷ words) → (octets : List ℕ) × IsAnyRecord None words octets
+authority_taken (Entry.question q) words here is = absurd (omega (arith, here))
+authority_taken (Entry.answer said) words here is = absurd (omega (arith, here))
+authority_taken (Entry.authority said) words here is = (said.octets, (said.head, is.1))
+authority_taken (Entry.additional said) words here is = absurd (omega (arith, here))
+
+pub of_authorities : IsSection 2 (codes "authority") (IsAnyRecord None)
+of_authorities = record {
+  first = refl;
+  makes = λ words octets is. (Entry.authority (record { head = is.0; octets = octets }), refl, (refl, is.1));
+  takes = authority_taken;
+}
+
+additional_taken : (entry : Entry) (words : Line) → section_of entry ≡ 3
+    → IsEntryLine entry (codes "additional" ∷ words) → (octets : List ℕ) × IsAnyRecord None words octets
+additional_taken (Entry.question q) words here is = absurd (omega (arith, here))
+additional_taken (Entry.answer said) words here is = absurd (omega (arith, here))
+additional_taken (Entry.authority said) words here is = absurd (omega (arith, here))
+additional_taken (Entry.additional said) words here is = (said.octets, (said.head, is.1))
+
+pub of_additionals : IsSection 3 (codes "additional") (IsAnyRecord None)
+of_additionals = record {
+  first = refl;
+  makes = λ words octets is. (Entry.additional (record { head = is.0; octets = octets }), refl, (refl, is.1));
+  takes = additional_taken;
+}
+
+-- ---- where reading stops
+
+at_most : (to from section : ℕ) (P : Type 0) → from ≤ section → (to ≡ section) ⊎ ((to ≡ from) × P) → to ≤ section
+at_most to from section P less (inl same) = omega (arith, same)
+at_most to from section P less (inr same) = let first = same.0 in omega (arith, first, less)
+
+-- after the header
+pub after_first : (header : Header) (words : Line) (text ahead : List ℕ) (next number offset : ℕ)
+    → TakesLine words text ahead → IsHeaderLine header words → next ≡ 2
+    → IsLineFault (AnyEntries 0) ahead next number offset → IsLineFault IsAnyText text 1 number offset
+after_first header words text ahead next number offset taken is two fault =
+    led_line_fault IsAnyText (AnyEntries 0) (words ∷ []) (after_header header words is) text ahead 1 next number offset
+    (ahead, taken, refl) (omega (arith, two)) fault
+
+-- in a section
+pub stop_fault : {A : Type 0} (make : A → Entry) (IsText : A → Line → Type 0) (section from : ℕ) (word : List ℕ)
+    (Texts : Line → List ℕ → Type 0) (text : List ℕ) (first number offset : ℕ)
+    → ((a : A) → section_of (make a) ≡ section) → ((a : A) (ws : Line) → IsText a ws → IsEntryLine (make a) ws)
+    → IsSection section word Texts → from ≤ section → IsStop IsText word Texts text first number offset
+    → IsLineFault (AnyEntries from) text first number offset
+stop_fault make IsText section from word Texts text first number offset of is sect less stop =
+    past_section make IsText section from stop.values stop.read.lines text stop.ahead first stop.now number offset of is
+    less stop.read refl stop.read.are
+    (λ to either. subst (λ n. IsLineFault (AnyEntries to) stop.ahead stop.now n offset) (sym stop.at)
+    (entry_fault section to word Texts stop.ahead stop.now offset sect
+    (at_most to from section (stop.ahead ≡ text) less either) stop.fault))
+
+-- past one
+pub go_past : {A : Type 0} (make : A → Entry) (IsText : A → Line → Type 0) (section from : ℕ) (values : List A)
+    (text ahead : List ℕ) (first now number offset : ℕ) → ((a : A) → section_of (make a) ≡ section)
+    → ((a : A) (ws : Line) → IsText a ws → IsEntryLine (make a) ws) → from ≤ section
+    → HasRead IsText text ahead first now values
+    → ((to : ℕ) → to ≤ section → IsLineFault (AnyEntries to) ahead now number offset)
+    → IsLineFault (AnyEntries from) text first number offset
+go_past make IsText section from values text ahead first now number offset of is less read fault =
+    past_section make IsText section from values read.lines text ahead first now number offset of is less read refl
+    read.are (λ to either. fault to (at_most to from section (ahead ≡ text) less either))
+
+-- the word for a section, of its entries alone
+here_question : (text : List ℕ) → IsNoneOf (codes "question") text → (entry : Entry) → section_of entry ≡ 0
+    → IsNoneOf (word_of entry) text
+here_question text none (Entry.question q) here = none
+here_question text none (Entry.answer said) here = absurd (omega (arith, here))
+here_question text none (Entry.authority said) here = absurd (omega (arith, here))
+here_question text none (Entry.additional said) here = absurd (omega (arith, here))
+
+here_answer : (text : List ℕ) → IsNoneOf (codes "answer") text → (entry : Entry) → section_of entry ≡ 1
+    → IsNoneOf (word_of entry) text
+here_answer text none (Entry.question q) here = absurd (omega (arith, here))
+here_answer text none (Entry.answer said) here = none
+here_answer text none (Entry.authority said) here = absurd (omega (arith, here))
+here_answer text none (Entry.additional said) here = absurd (omega (arith, here))
+
+here_authority : (text : List ℕ) → IsNoneOf (codes "authority") text → (entry : Entry) → section_of entry ≡ 2
+    → IsNoneOf (word_of entry) text
+here_authority text none (Entry.question q) here = absurd (omega (arith, here))
+here_authority text none (Entry.answer said) here = absurd (omega (arith, here))
+here_authority text none (Entry.authority said) here = none
+here_authority text none (Entry.additional said) here = absurd (omega (arith, here))
+
+here_additional : (text : List ℕ) → IsNoneOf (codes "additional") text → (entry : Entry) → section_of entry ≡ 3
+    → IsNoneOf (word_of entry) text
+here_additional text none (Entry.question q) here = absurd (omega (arith, here))
+here_additional text none (Entry.answer said) here = absurd (omega (arith, here))
+here_additional text none (Entry.authority said) here = absurd (omega (arith, here))
+here_additional text none (Entry.additional said) here = none
+
+-- after all of them
+pub end_fault : (a b c d e : List ℕ) (i j k l n : ℕ) (questions : List Question)
+    (answers authorities additionals : List Said) → HasRead IsQuestionLine a b i j questions
+    → IsNoneOf (codes "question") b → HasRead (IsRecordLine (codes "answer")) b c j k answers
+    → IsNoneOf (codes "answer") c → HasRead (IsRecordLine (codes "authority")) c d k l authorities
+    → IsNoneOf (codes "authority") d → HasRead (IsRecordLine (codes "additional")) d e l n additionals
+    → IsNoneOf (codes "additional") e → ¬ (e ≡ []) → IsLineFault (AnyEntries 0) a i n 0
+end_fault a b c d e i j k l n questions answers authorities additionals q_read no_q r_read no_r u_read no_u d_read no_d
+    some =
+    past_section Entry.question IsQuestionLine 0 0 questions q_read.lines a b i j n 0 (λ q. refl) (λ q ws is. is)
+    (omega arith) q_read refl q_read.are (λ s one.
+    let none1 = none_step 0 s 0 a b (λ entry from less. absurd (omega (arith, less))) (here_question b no_q)
+    (omega arith) one in
+    let at1 = at_most s 0 0 (b ≡ a) (omega arith) one in
+    past_section Entry.answer (IsRecordLine (codes "answer")) 1 s answers r_read.lines b c j k n 0 (λ q. refl)
+    (λ q ws is. is) (omega (arith, at1)) r_read refl r_read.are (λ t two.
+    let none2 = none_step s t 1 b c none1 (here_answer c no_r) (omega (arith, at1)) two in
+    let at2 = at_most t s 1 (c ≡ b) (omega (arith, at1)) two in
+    past_section Entry.authority (IsRecordLine (codes "authority")) 2 t authorities u_read.lines c d k l n 0 (λ q. refl)
+    (λ q ws is. is) (omega (arith, at2)) u_read refl u_read.are (λ u three.
+    let none3 = none_step t u 2 c d none2 (here_authority d no_u) (omega (arith, at2)) three in
+    let at3 = at_most u t 2 (d ≡ c) (omega (arith, at2)) three in
+    past_section Entry.additional (IsRecordLine (codes "additional")) 3 u additionals d_read.lines d e l n n 0
+    (λ q. refl) (λ q ws is. is) (omega (arith, at3)) d_read refl d_read.are (λ v four.
+    let none4 = none_step u v 3 d e none3 (here_additional e no_d) (omega (arith, at3)) four in
+    let at4 = at_most v u 3 (e ≡ d) (omega (arith, at3)) four in
+    other_fault v e n at4 some none4))))

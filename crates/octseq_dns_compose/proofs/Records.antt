@@ -1,0 +1,235 @@
+-- The text of a record, and where it is none.
+use Rattle.std.proofs.Common.{◌≡◌, ◌⊎◌, ℕ, ◌+◌, Option, List, [], ◌∷◌, length, codes}
+use Rattle.std.proofs.Common.{refl, ap, subst, inl, inr, arith}
+use Rattle.octseq_dns_scan.specs.Word.{TakesWord, AreWords}
+use Rattle.octseq_dns_text.specs.DataText.{IsDataText}
+use Rattle.octseq_dns_text.specs.Scans.{Goes, IsFault}
+use Rattle.octseq_dns_compose.specs.RecordText.{Head, IsNameWord, IsTtlWord, IsClassWord, IsRtypeWord}
+use Rattle.octseq_dns_compose.specs.RecordText.{TtlAndClass, IsRecordText, IsAnyRecord}
+use Rattle.octseq_dns_compose.specs.Take.{Then}
+use Rattle.octseq_dns_compose.specs.TakeOrder.{NoneNext, IsNoOrder}
+use Rattle.octseq_dns_compose.proofs.Faults.{Leads, led_fault, first_fault}
+use Rattle.octseq_dns_compose.proofs.Named.{no_number}
+use Rattle.octseq_dns_compose.proofs.Samples.{class_sample, one_class, one_rtype, name_sample, rtype_sample, ttl_sample}
+use Rattle.octseq_dns_compose.proofs.Samples.{data_sample}
+
+-- ---- what follows each word
+
+abbrev pub AfterClass : Option (List (List ℕ)) → ℕ → List (List ℕ) → List ℕ → Type 0
+AfterClass origin class words octets =
+    (rtype : ℕ) × Then (IsRtypeWord rtype) (λ more. IsDataText origin rtype class more octets) words
+
+abbrev pub OfHead : Option (List (List ℕ)) → ℕ → ℕ → ℕ → List (List ℕ) → List ℕ → Type 0
+OfHead origin ttl class rtype words octets =
+    TtlAndClass ttl class (Then (IsRtypeWord rtype) (λ more. IsDataText origin rtype class more octets)) words
+
+abbrev pub AfterOwner : Option (List (List ℕ)) → List (List ℕ) → List ℕ → Type 0
+AfterOwner origin words octets = (ttl class rtype : ℕ) × OfHead origin ttl class rtype words octets
+
+-- ---- samples
+
+class_goes : (origin : Option (List (List ℕ))) (class : ℕ) → Goes (AfterClass origin class) []
+class_goes origin class =
+    let more = data_sample origin 1 class in
+    (codes "A" ∷ more.0, more.1, (1, (rtype_sample, more.2)))
+
+owner_goes : (origin : Option (List (List ℕ))) → Goes (AfterOwner origin) []
+owner_goes origin =
+    let more = class_goes origin 1 in
+    (codes "0" ∷ codes "IN" ∷ more.0, more.1, (0, 1, more.2.0, inl (ttl_sample, (class_sample, more.2.1))))
+
+pub record_goes : (origin : Option (List (List ℕ))) → Goes (IsAnyRecord origin) []
+record_goes origin =
+    let more = owner_goes origin in
+    let is = more.2 in (
+      codes "." ∷ more.0,
+      more.1,
+      (record { labels = []; ttl = is.0; class = is.1; rtype = is.2 }, (name_sample origin, is.3)),
+    )
+
+-- ---- from the whole to what follows
+
+owner_leads : (origin : Option (List (List ℕ))) (labels : List (List ℕ)) (word : List ℕ) → IsNameWord origin labels word
+    → Leads (IsAnyRecord origin) (AfterOwner origin) (word ∷ [])
+owner_leads origin labels word is = record {
+  into = λ words octets rest.
+      (octets, (record { labels = labels; ttl = rest.0; class = rest.1; rtype = rest.2 }, (is, rest.3)));
+  out = λ words octets all. (octets, (all.0.ttl, all.0.class, all.0.rtype, all.1.1));
+}
+
+-- what a TTL and a class are followed by
+ttl_out : (origin : Option (List (List ℕ))) (n class : ℕ) (first second : List ℕ) → IsTtlWord n first
+    → IsClassWord class second → (words : List (List ℕ)) (octets : List ℕ)
+    → AfterOwner origin (first ∷ second ∷ words) octets → AfterClass origin class words octets
+ttl_out origin n class first second is_ttl is_class words octets (ttl, other, rtype, inl (a, (b, rest))) =
+    let same = one_class second other class b is_class in
+    (rtype, subst (λ k. Then (IsRtypeWord rtype) (λ more. IsDataText origin rtype k more octets) words) same rest)
+ttl_out origin n class first second is_ttl is_class words octets (ttl, other, rtype, inr (a, rest)) =
+    absurd (no_number first other a is_ttl.0)
+
+class_out : (origin : Option (List (List ℕ))) (n class : ℕ) (first second : List ℕ) → IsClassWord class first
+    → IsTtlWord n second → (words : List (List ℕ)) (octets : List ℕ)
+    → AfterOwner origin (first ∷ second ∷ words) octets → AfterClass origin class words octets
+class_out origin n class first second is_class is_ttl words octets (ttl, other, rtype, inl (a, rest)) =
+    absurd (no_number first class is_class a.0)
+class_out origin n class first second is_class is_ttl words octets (ttl, other, rtype, inr (a, (b, rest))) =
+    let same = one_class first other class a is_class in
+    (rtype, subst (λ k. Then (IsRtypeWord rtype) (λ more. IsDataText origin rtype k more octets) words) same rest)
+
+order_leads : (origin : Option (List (List ℕ))) (ttl class : ℕ) (first second : List ℕ)
+    → (IsTtlWord ttl first × IsClassWord class second) ⊎ (IsClassWord class first × IsTtlWord ttl second)
+    → Leads (AfterOwner origin) (AfterClass origin class) (first ∷ second ∷ [])
+order_leads origin ttl class first second (inl is) = record {
+  into = λ words octets rest. (octets, (ttl, class, rest.0, inl (is.0, (is.1, rest.1))));
+  out = λ words octets all. (octets, ttl_out origin ttl class first second is.0 is.1 words octets all);
+}
+order_leads origin ttl class first second (inr is) = record {
+  into = λ words octets rest. (octets, (ttl, class, rest.0, inr (is.0, (is.1, rest.1))));
+  out = λ words octets all. (octets, class_out origin ttl class first second is.0 is.1 words octets all);
+}
+
+rtype_leads : (origin : Option (List (List ℕ))) (class rtype : ℕ) (word : List ℕ) → IsRtypeWord rtype word
+    → Leads (AfterClass origin class) (IsDataText origin rtype class) (word ∷ [])
+rtype_leads origin class rtype word is = record {
+  into = λ words octets rest. (octets, (rtype, (is, rest)));
+  out = λ words octets all.
+      let same = one_rtype word all.0 rtype all.1.0 is in
+      (octets, subst (λ k. IsDataText origin k class words octets) same all.1.1);
+}
+
+-- ---- faults
+
+-- at the owner
+pub fault_at_owner : (origin : Option (List (List ℕ))) (ahead : List ℕ) (start : ℕ)
+    → ((word rest : List ℕ) (labels : List (List ℕ)) → TakesWord word ahead rest → ¬ IsNameWord origin labels word)
+    → IsFault (IsAnyRecord origin) ahead start start
+fault_at_owner origin ahead start none =
+    first_fault (IsAnyRecord origin) ahead start (record_goes origin)
+    (λ word left taken goes. none word left goes.2.0.labels taken goes.2.1.0) (λ over octets is. is.1)
+
+pub fault_after_owner : (origin : Option (List (List ℕ))) (labels : List (List ℕ)) (word ahead mid : List ℕ)
+    (start next offset : ℕ) → IsNameWord origin labels word → TakesWord word ahead mid
+    → next + length mid ≡ start + length ahead → IsFault (AfterOwner origin) mid next offset
+    → IsFault (IsAnyRecord origin) ahead start offset
+fault_after_owner origin labels word ahead mid start next offset is taken place fault =
+    led_fault (IsAnyRecord origin) (AfterOwner origin) (word ∷ []) (owner_leads origin labels word is) ahead mid start
+    next offset (mid, taken, refl) place fault
+
+-- at the TTL and the class
+no_first_on : (origin : Option (List (List ℕ))) (ahead word left : List ℕ) → NoneNext IsTtlWord ahead
+    → NoneNext IsClassWord ahead → TakesWord word ahead left → ¬ Goes (AfterOwner origin) (word ∷ [])
+no_first_on origin ahead word left no_ttl no_class taken (more, octets, (ttl, class, rtype, inl is)) =
+    no_ttl word left ttl taken is.0
+no_first_on origin ahead word left no_ttl no_class taken (more, octets, (ttl, class, rtype, inr is)) =
+    no_class word left class taken is.0
+
+no_end : (origin : Option (List (List ℕ))) (octets : List ℕ) → ¬ AfterOwner origin [] octets
+no_end origin octets (ttl, class, rtype, inl is) = is
+no_end origin octets (ttl, class, rtype, inr is) = is
+
+no_end_one : (origin : Option (List (List ℕ))) (word octets : List ℕ) → ¬ AfterOwner origin (word ∷ []) octets
+no_end_one origin word octets (ttl, class, rtype, inl is) = is.1
+no_end_one origin word octets (ttl, class, rtype, inr is) = is.1
+
+no_class_on : (origin : Option (List (List ℕ))) (ttl : ℕ) (first after word left : List ℕ) → IsTtlWord ttl first
+    → NoneNext IsClassWord after → TakesWord word after left → ¬ Goes (AfterOwner origin) (first ∷ word ∷ [])
+no_class_on origin n first after word left is none taken (more, octets, (ttl, class, rtype, inl on)) =
+    none word left class taken on.1.0
+no_class_on origin n first after word left is none taken (more, octets, (ttl, class, rtype, inr on)) =
+    absurd (no_number first class on.0 is.0)
+
+no_ttl_on : (origin : Option (List (List ℕ))) (class : ℕ) (first after word left : List ℕ) → IsClassWord class first
+    → NoneNext IsTtlWord after → TakesWord word after left → ¬ Goes (AfterOwner origin) (first ∷ word ∷ [])
+no_ttl_on origin n first after word left is none taken (more, octets, (ttl, class, rtype, inl on)) =
+    absurd (no_number first n is on.0.0)
+no_ttl_on origin n first after word left is none taken (more, octets, (ttl, class, rtype, inr on)) =
+    none word left ttl taken on.1.0
+
+pub fault_at_order : (origin : Option (List (List ℕ))) (ahead after : List ℕ) (start next : ℕ)
+    → next + length after ≡ start + length ahead → IsNoOrder ahead after → IsFault (AfterOwner origin) ahead start next
+fault_at_order origin ahead after start next place (IsNoOrder.no_first same no_ttl no_class) =
+    let size = ap length same in
+    let at : start ≡ next = omega (arith, place, size) in
+    subst (IsFault (AfterOwner origin) ahead start) at
+    (first_fault (AfterOwner origin) ahead start (owner_goes origin)
+    (λ word left taken. no_first_on origin ahead word left no_ttl no_class taken) (λ over octets. no_end origin octets))
+fault_at_order origin ahead after start next place (IsNoOrder.no_class ttl word is taken none) =
+    let more = class_goes origin 1 in
+    record {
+      front = word ∷ [];
+      rest = after;
+      begins = (after, taken, refl);
+      place = place;
+      goes = (codes "IN" ∷ more.0, more.1, (ttl, 1, more.2.0, inl (is, (class_sample, more.2.1))));
+      stops = λ other left on. no_class_on origin ttl word after other left is none on;
+      ends = λ over octets. no_end_one origin word octets;
+    }
+fault_at_order origin ahead after start next place (IsNoOrder.no_ttl class word is taken none) =
+    let more = class_goes origin class in
+    record {
+      front = word ∷ [];
+      rest = after;
+      begins = (after, taken, refl);
+      place = place;
+      goes = (codes "0" ∷ more.0, more.1, (0, class, more.2.0, inr (is, (ttl_sample, more.2.1))));
+      stops = λ other left on. no_ttl_on origin class word after other left is none on;
+      ends = λ over octets. no_end_one origin word octets;
+    }
+
+pub fault_after_order : (origin : Option (List (List ℕ))) (ttl class : ℕ) (first second ahead mid after : List ℕ)
+    (start next offset : ℕ)
+    → (IsTtlWord ttl first × IsClassWord class second) ⊎ (IsClassWord class first × IsTtlWord ttl second)
+    → TakesWord first ahead mid → TakesWord second mid after → next + length after ≡ start + length ahead
+    → IsFault (AfterClass origin class) after next offset → IsFault (AfterOwner origin) ahead start offset
+fault_after_order origin ttl class first second ahead mid after start next offset are one two place fault =
+    led_fault (AfterOwner origin) (AfterClass origin class) (first ∷ second ∷ [])
+    (order_leads origin ttl class first second are) ahead after start next offset (mid, one, (after, two, refl)) place
+    fault
+
+-- at the type
+pub fault_at_rtype : (origin : Option (List (List ℕ))) (class : ℕ) (ahead : List ℕ) (start : ℕ)
+    → NoneNext IsRtypeWord ahead → IsFault (AfterClass origin class) ahead start start
+fault_at_rtype origin class ahead start none =
+    first_fault (AfterClass origin class) ahead start (class_goes origin class)
+    (λ word left taken goes. none word left goes.2.0 taken goes.2.1.0) (λ over octets is. is.1)
+
+pub fault_after_rtype : (origin : Option (List (List ℕ))) (class rtype : ℕ) (word ahead mid : List ℕ)
+    (start next offset : ℕ) → IsRtypeWord rtype word → TakesWord word ahead mid
+    → next + length mid ≡ start + length ahead → IsFault (IsDataText origin rtype class) mid next offset
+    → IsFault (AfterClass origin class) ahead start offset
+fault_after_rtype origin class rtype word ahead mid start next offset is taken place fault =
+    led_fault (AfterClass origin class) (IsDataText origin rtype class) (word ∷ [])
+    (rtype_leads origin class rtype word is) ahead mid start next offset (mid, taken, refl) place fault
+
+-- ---- a record that is read
+
+order_text : (ttl class : ℕ) (Rest : List (List ℕ) → Type 0) (first second : List ℕ) (words : List (List ℕ))
+    → (IsTtlWord ttl first × IsClassWord class second) ⊎ (IsClassWord class first × IsTtlWord ttl second) → Rest words
+    → TtlAndClass ttl class Rest (first ∷ second ∷ words)
+order_text ttl class Rest first second words (inl is) rest = inl (is.0, (is.1, rest))
+order_text ttl class Rest first second words (inr is) rest = inr (is.0, (is.1, rest))
+
+pub record_words : (origin : Option (List (List ℕ))) (head : Head) (owner first second kind : List ℕ)
+    (ahead a b c d : List ℕ) (words : List (List ℕ)) (octets : List ℕ) → TakesWord owner ahead a
+    → IsNameWord origin head.labels owner → TakesWord first a b → TakesWord second b c
+    → (IsTtlWord head.ttl first × IsClassWord head.class second)
+    ⊎ (IsClassWord head.class first × IsTtlWord head.ttl second)
+    → TakesWord kind c d → IsRtypeWord head.rtype kind → AreWords words d
+    → IsDataText origin head.rtype head.class words octets
+    → (all : List (List ℕ)) × AreWords all ahead × IsRecordText origin head all octets
+record_words origin head owner first second kind ahead a b c d words octets w1 is_name w2 w3 order w4 is_rtype are
+    is = (
+      owner ∷ first ∷ second ∷ kind ∷ words,
+      (a, w1, (b, w2, (c, w3, (d, w4, are)))),
+      (
+        is_name,
+        order_text head.ttl head.class
+            (Then (IsRtypeWord head.rtype) (λ more. IsDataText origin head.rtype head.class more octets)) first second
+            (kind ∷ words) order (is_rtype, is),
+      ),
+    )
+
+-- the same text ahead
+pub none_next : (Is : ℕ → List ℕ → Type 0) (a b : List ℕ) → b ≡ a → NoneNext Is a → NoneNext Is b
+none_next Is a b same none word rest value taken =
+    none word rest value (subst (λ t. TakesWord word t rest) same taken)

@@ -1,0 +1,57 @@
+use Rattle.std.proofs.Common.{◌≡◌, ◌+◌, None, [], length, refl, sym, ap, subst, arith, rules}
+use Rattle.octseq.specs.Limit.{IsPast}
+use Rattle.octseq_dns_compose.specs.RecordText.{IsAnyRecord}
+use Rattle.octseq_dns_compose.specs.TextLines.{IsFaultyLine}
+use Rattle.octseq_dns_compose.proofs.LineFaults.{faulty_words, no_feed, none_of}
+use Rattle.octseq_dns_compose.proofs.Places.{malformed_at}
+use Rattle.octseq_dns_compose.proofs.entry.next_record.Goals as goal
+
+pub returns-in_default-clause-none : goal.returns-in_default-clause-none
+returns-in_default-clause-none g c =
+    (none_of _ _ _ _ c.split_line-line.ensures (c.in_default.ensures.none (search rules)), refl, refl)
+
+pub returns-in-Err-Malformed-clause-malformed : goal.returns-in-Err-Malformed-clause-malformed
+returns-in-Err-Malformed-clause-malformed g c = λ place is.
+    let both = malformed_at _ _ place _ c.malformed.ensures is in
+    let taken = c.in-Some.ensures.some in
+    let at : place.offset ≡ c.in-Err-Malformed.offset =
+    first_of (search (rules, both.1), cc (both.1, c.in-Err-Malformed.offset-is)) in
+    let fault = c.in-Err-Malformed.ensures.fault c.in-Err-Malformed.offset (search rules) in (
+      both.0,
+      subst (IsFaultyLine c.args.first.now (IsAnyRecord None) c.args.lines.now.ahead.now) (sym at)
+          (faulty_words c.args.first.now (IsAnyRecord None) c.args.lines.now.ahead.now _ _ _ _ _ c.split_line-line.ensures
+          taken.0 taken.1 fault),
+    )
+
+pub returns-in-Err-Short-clause-short : goal.returns-in-Err-Short-clause-short
+returns-in-Err-Short-clause-short g c = λ _.
+    let taken = c.in-Some.ensures.some in
+    let long = c.in-Err-Short.ensures.short (search rules) in
+    let empty : length (g.D.AsOctets.content c.truncate.new.self) ≡ 0 = ap length c.truncate.ensures.content in
+    let size : length (g.D.AsOctets.content c.truncate.new.self) + length long.1 ≡ length long.1 =
+    omega (arith, empty) in
+    record {
+      line = c.split_line-line.result.0.now;
+      after = c.split_line-line.result.1.now;
+      split = c.split_line-line.ensures;
+      rest = _;
+      taken = taken.0;
+      words = long.0;
+      octets = long.1;
+      are = long.2;
+      is = long.3;
+      past = subst (IsPast g.D.AsOctets.limit) size long.4;
+    }
+
+pub returns-in_default-after_feed-clause-malformed : goal.returns-in_default-after_feed-clause-malformed
+returns-in_default-after_feed-clause-malformed g c = λ place is.
+    let both = malformed_at _ _ place _ c.malformed-in_default-after_feed.ensures is in
+    let at : place.offset ≡ length c.split_line-line.result.0.now = both.1 in
+    let taken = c.in-Some.ensures.some in
+    let all = c.in-Ok.ensures.ok in
+    let over : c.split_line-line.result.1.now ≡ [] = c.in_default-after_feed.ensures.none (search rules) in (
+      both.0,
+      subst (IsFaultyLine c.args.first.now (IsAnyRecord None) c.args.lines.now.ahead.now) (sym at)
+          (no_feed c.args.first.now (IsAnyRecord None) c.args.lines.now.ahead.now _ _ _ _ all.0 all.1
+          c.split_line-line.ensures taken.0 taken.1 all.2 (_, all.3) over),
+    )

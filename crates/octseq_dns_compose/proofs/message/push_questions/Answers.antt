@@ -1,0 +1,50 @@
+use Rattle.std.proofs.Common.{[], ◌∷◌, ◌++◌, ◌∙◌, codes, refl, sym, subst, rules}
+use Rattle.octseq_dns_compose.specs.MessageText.{IsQuestionLine}
+use Rattle.octseq_dns_compose.specs.QuestionText.{IsQuestionText}
+use Rattle.octseq_dns_compose.specs.TextLines.{IsNoneOf}
+use Rattle.octseq_dns.specs.Pushed.{pushed_question}
+use Rattle.octseq_dns_compose.proofs.MessageTexts.{if_none, if_some}
+use Rattle.octseq_dns_compose.proofs.MessageTexts.{questions_more, read_more, read_none, read_same}
+use Rattle.octseq_dns_compose.proofs.message.push_questions.Goals as goal
+
+pub lines-init : goal.lines-init
+lines-init g c = ([], read_none IsQuestionLine _ _ _ _ refl refl, λ m writes. writes, refl)
+
+pub returns-in_default-clause-ok : goal.returns-in_default-clause-ok
+returns-in_default-clause-ok g c =
+    let so_far = c.lines.invariant in
+    let none = if_none c.in-Ok.next _ (search rules) c.in-Ok.ensures.none in (
+      so_far.0,
+      read_same IsQuestionLine _ _ _ _ _ _ so_far.0 so_far.1 none.1 none.2,
+      subst (IsNoneOf (codes "question")) (sym none.1) none.0,
+      so_far.2,
+    )
+
+pub lines-preserved : goal.lines-preserved
+lines-preserved g c =
+    let so_far = c.lines.invariant in
+    let some = if_some c.in-Ok.next _ _ c.in-Some.is c.in-Ok.ensures.some in
+    let q = pushed_question c.parsed-qname.result c.in-Some.question.qtype c.in-Some.question.qclass in (
+      so_far.0 ++ q ∷ [],
+      read_more IsQuestionLine _ _ _ _ _ _ so_far.0 q (codes "question" ∷ some.0) so_far.1 some.1 some.3 (
+        refl,
+        subst (λ labels. IsQuestionText labels c.in-Some.question.qclass c.in-Some.question.qtype some.0)
+            (sym c.parsed-qname.ensures) some.2,
+      ),
+      λ m writes. questions_more g.T.Compressor.most m so_far.0 q _ _ _
+          (c.in-Ok-push_question.ensures.written _ (so_far.2 m writes)),
+      c.in-Ok-push_question.ensures.borrows ∙ so_far.3,
+    )
+
+pub returns-in-Err-clause-malformed : goal.returns-in-Err-clause-malformed
+returns-in-Err-clause-malformed g c = λ place is.
+    let so_far = c.lines.invariant in
+    let found = c.in-Err.ensures.malformed place (search (rules, is)) in
+    record {
+      values = so_far.0;
+      ahead = c.lines.lines.ahead.now;
+      now = c.lines.lines.number;
+      read = so_far.1;
+      at = found.0;
+      fault = found.1;
+    }

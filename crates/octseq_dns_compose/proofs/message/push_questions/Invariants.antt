@@ -1,0 +1,17 @@
+-- Questions were read, and written.
+use Rattle.std.proofs.Common.{◌≡◌, List, length}
+use Rattle.octseq_dns.specs.Contents.{Message, Question}
+use Rattle.octseq_dns.specs.Writes.{Writes, all_more, more_questions}
+use Rattle.octseq_dns_compose.specs.MessageText.{HasRead, IsQuestionLine}
+use Rattle.octseq_dns_compose.proofs.message.push_questions.Given as goal
+
+abbrev pub invariant-lines : goal.invariant-lines
+invariant-lines g l = (questions : List Question)
+    × HasRead IsQuestionLine l.fn.lines.ahead.now l.lines.ahead.now l.fn.lines.number l.lines.number questions
+    × ((m : Message) → Writes g.T.Compressor.most m l.fn.message.state l.fn.message.header l.fn.message.counts
+    → Writes g.T.Compressor.most (all_more more_questions m questions) l.message.state l.message.header
+    l.message.counts)
+    × (g.B.AsOctets.borrows l.message.octets ≡ g.B.AsOctets.borrows l.fn.message.octets)
+
+abbrev pub decreases-lines : goal.decreases-lines
+decreases-lines g l = length l.lines.ahead.now

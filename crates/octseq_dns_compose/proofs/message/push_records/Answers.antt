@@ -1,0 +1,50 @@
+use Rattle.std.proofs.Common.{None, [], ◌∷◌, ◌++◌, ◌∙◌, refl, sym, subst, rules}
+use Rattle.octseq_dns_compose.specs.MessageText.{IsRecordLine, Said}
+use Rattle.octseq_dns_compose.specs.Read.{head_of}
+use Rattle.octseq_dns_compose.specs.RecordText.{IsRecordText}
+use Rattle.octseq_dns_compose.specs.TextLines.{IsNoneOf}
+use Rattle.octseq_dns_compose.proofs.MessageTexts.{if_none, if_some}
+use Rattle.octseq_dns_compose.proofs.MessageTexts.{read_more, read_none, read_same, written_more, written_none}
+use Rattle.octseq_dns_compose.proofs.message.push_records.Goals as goal
+
+pub lines-init : goal.lines-init
+lines-init g c =
+    ([], read_none (IsRecordLine c.args.section.now) _ _ _ _ refl refl, written_none _ _ _ _ _, refl)
+
+pub returns-in_default-clause-ok : goal.returns-in_default-clause-ok
+returns-in_default-clause-ok g c =
+    let so_far = c.lines.invariant in
+    let none = if_none c.in-Ok.next _ (search rules) c.in-Ok.ensures.none in (
+      so_far.0,
+      read_same (IsRecordLine c.args.section.now) _ _ _ _ _ _ so_far.0 so_far.1 none.1 none.2,
+      subst (IsNoneOf c.args.section.now) (sym none.1) none.0,
+      so_far.2,
+    )
+
+pub lines-preserved : goal.lines-preserved
+lines-preserved g c =
+    let so_far = c.lines.invariant in
+    let some = if_some c.in-Ok.next _ _ c.in-Some.is c.in-Ok.ensures.some in
+    let pushed = c.in-Ok-push_record.ensures.written in
+    let one : Said = record { head = head_of c.in-Some.head; octets = c.as_ref.result.now } in (
+      so_far.0 ++ one ∷ [],
+      read_more (IsRecordLine c.args.section.now) _ _ _ _ _ _ so_far.0 one (c.args.section.now ∷ some.0) so_far.1
+          some.1 some.3
+          (refl, subst (IsRecordText None (head_of c.in-Some.head) some.0) (sym c.as_ref.ensures.value) some.2),
+      written_more g.T.Compressor.most g.S.RecordSection.more so_far.0 one pushed.0 _ _ _ _ _ _ _ _ _ so_far.2 pushed.1
+          pushed.2,
+      c.in-Ok-push_record.ensures.borrows ∙ so_far.3,
+    )
+
+pub returns-in-Err-clause-malformed : goal.returns-in-Err-clause-malformed
+returns-in-Err-clause-malformed g c = λ place is.
+    let so_far = c.lines.invariant in
+    let found = c.in-Err.ensures.malformed place (search (rules, is)) in
+    record {
+      values = so_far.0;
+      ahead = c.lines.lines.ahead.now;
+      now = c.lines.lines.number;
+      read = so_far.1;
+      at = found.0;
+      fault = found.1;
+    }

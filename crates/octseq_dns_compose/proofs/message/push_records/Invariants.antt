@@ -1,0 +1,14 @@
+-- What lines say was read, and records were written for it.
+use Rattle.std.proofs.Common.{◌≡◌, List, length}
+use Rattle.octseq_dns_compose.specs.MessageText.{HasRead, HasWritten, IsRecordLine, Said}
+use Rattle.octseq_dns_compose.proofs.message.push_records.Given as goal
+
+abbrev pub invariant-lines : goal.invariant-lines
+invariant-lines g l = (said : List Said)
+    × HasRead (IsRecordLine l.section) l.fn.lines.ahead.now l.lines.ahead.now l.fn.lines.number l.lines.number said
+    × HasWritten g.T.Compressor.most g.S.RecordSection.more said l.fn.message.state l.message.state
+    l.fn.message.header l.message.header l.fn.message.counts l.message.counts
+    × (g.B.AsOctets.borrows l.message.octets ≡ g.B.AsOctets.borrows l.fn.message.octets)
+
+abbrev pub decreases-lines : goal.decreases-lines
+decreases-lines g l = length l.lines.ahead.now

@@ -1,0 +1,5 @@
+use Rattle.octseq_dns_compose.proofs.Named.{class_utf8}
+use Rattle.octseq_dns_compose.proofs.numbers.scan_class.Goals as goal
+
+pub returns-in-Err-clause-none : goal.returns-in-Err-clause-none
+returns-in-Err-clause-none c = λ _ number is. c.in-Err.ensures.cases.0 (class_utf8 _ number is)

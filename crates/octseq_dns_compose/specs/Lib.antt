@@ -1,0 +1,9 @@
+pub mod HeaderLine
+pub mod MessageText
+pub mod QuestionText
+pub mod Read
+pub mod RecordText
+pub mod Shown
+pub mod Take
+pub mod TakeOrder
+pub mod TextLines

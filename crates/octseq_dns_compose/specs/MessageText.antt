@@ -1,0 +1,138 @@
+-- The text of a message: a line for its header, and one for each question and each record, section by section.
+use Rattle.std.specs.Prelude.{◌≡◌, ℕ, ◌+◌, ◌≤◌, None, List, [], ◌∷◌, length, codes}
+use Rattle.std.specs.List.{AllZip}
+use Rattle.octseq.specs.Window.{whole}
+use Rattle.octseq_dns.specs.Blank.{blank_message}
+use Rattle.octseq_dns.specs.Contents.{Message, Question, Record}
+use Rattle.octseq_dns.specs.Rdata.{bare_rdata, rdata_fields}
+use Rattle.octseq_dns.specs.Writes.{Writes, all_more, more_questions, more_answers, more_authorities, more_additionals}
+use Rattle.octseq_dns_compress.specs.State.{State}
+use Rattle.octseq_dns_data.specs.Data.{ParsedRdata, SaysData}
+use Rattle.octseq_dns_message.specs.declared.header.Header.{Header}
+use Rattle.octseq_dns_message.specs.declared.header.HeaderCounts.{HeaderCounts}
+use Rattle.octseq_dns_compose.specs.HeaderLine.{IsHeaderLine}
+use Rattle.octseq_dns_compose.specs.QuestionText.{IsQuestionText}
+use Rattle.octseq_dns_compose.specs.RecordText.{Head, IsRecordText}
+use Rattle.octseq_dns_compose.specs.Take.{IsGiven, Then}
+use Rattle.octseq_dns_compose.specs.TextLines.{AreLines, BeginsWithLines, IsFaultyLine}
+
+-- ---- what the lines say
+
+-- What the line of a record says: its head, and the octets of its data.
+pub record Said : Type 0 where
+  pub head : Head
+  pub octets : List ℕ
+
+-- What the line of an entry says: a question, or a record of one of the three sections.
+pub data Entry : Type 0 where
+  question : Question → Entry
+  answer : Said → Entry
+  authority : Said → Entry
+  additional : Said → Entry
+
+-- the sections, in their order
+abbrev pub section_of : Entry → ℕ
+section_of (Entry.question q) = 0
+section_of (Entry.answer said) = 1
+section_of (Entry.authority said) = 2
+section_of (Entry.additional said) = 3
+
+-- the line of a question, and that of a record after the word for its section
+abbrev pub IsQuestionLine : Question → List (List ℕ) → Type 0
+IsQuestionLine q = Then (IsGiven (codes "question")) (IsQuestionText q.labels q.qclass q.qtype)
+
+abbrev pub IsRecordLine : List ℕ → Said → List (List ℕ) → Type 0
+IsRecordLine section said = Then (IsGiven section) (λ words. IsRecordText None said.head words said.octets)
+
+abbrev pub IsEntryLine : Entry → List (List ℕ) → Type 0
+IsEntryLine (Entry.question q) = IsQuestionLine q
+IsEntryLine (Entry.answer said) = IsRecordLine (codes "answer") said
+IsEntryLine (Entry.authority said) = IsRecordLine (codes "authority") said
+IsEntryLine (Entry.additional said) = IsRecordLine (codes "additional") said
+
+-- Lines of entries, none of which is of an earlier section than `from`, or than the entry before it.
+abbrev pub AreEntries : ℕ → List Entry → List (List (List ℕ)) → Type 0
+AreEntries from entries [] = entries ≡ []
+AreEntries from entries (words ∷ lines) = (entry : Entry) × (more : List Entry) × (entries ≡ entry ∷ more)
+    × (from ≤ section_of entry) × IsEntryLine entry words × AreEntries (section_of entry) more lines
+
+-- The lines of a message: that of its header, and those of its entries.
+pub record SayEntries (lines : List (List (List ℕ))) (header : Header) (entries : List Entry) : Type 0 where
+  pub first : List (List ℕ)
+  pub others : List (List (List ℕ))
+  pub lines_are : lines ≡ first ∷ others
+  pub header_is : IsHeaderLine header first
+  pub entries_are : AreEntries 0 entries others
+
+-- lines of any message
+abbrev pub IsAnyText : List (List (List ℕ)) → Type 0
+IsAnyText lines = (header : Header) × (entries : List Entry) × SayEntries lines header entries
+
+-- ---- the message
+
+-- The record that a line says: its data is what its octets say by themselves, by its type and its class.
+pub record IsRecordOf (said : Said) (r : Record) : Type 0 where
+  pub parsed : ParsedRdata
+  pub says : SaysData said.head.rtype said.head.class (whole said.octets) (whole said.octets) parsed
+  pub is : r ≡ record {
+    labels = said.head.labels;
+    rtype = said.head.rtype;
+    class = said.head.class;
+    ttl = said.head.ttl;
+    fields = rdata_fields (bare_rdata parsed);
+  }
+
+-- a message with one more entry
+abbrev pub IsWith : Message → Entry → Message → Type 0
+IsWith m (Entry.question q) more = more ≡ more_questions m q
+IsWith m (Entry.answer said) more = (r : Record) × IsRecordOf said r × (more ≡ more_answers m r)
+IsWith m (Entry.authority said) more = (r : Record) × IsRecordOf said r × (more ≡ more_authorities m r)
+IsWith m (Entry.additional said) more = (r : Record) × IsRecordOf said r × (more ≡ more_additionals m r)
+
+-- and with one after another
+abbrev pub IsWithAll : Message → List Entry → Message → Type 0
+IsWithAll m [] all = all ≡ m
+IsWithAll m (entry ∷ entries) all = (more : Message) × IsWith m entry more × IsWithAll more entries all
+
+-- a message with a header alone
+abbrev pub headed_message : Header → Message
+headed_message header = record blank_message { header = header }
+
+-- A text is that of a message: its header, and its questions and records, section by section, each on a line of its
+-- own, in their order.
+pub record IsMessageText (text : List ℕ) (m : Message) : Type 0 where
+  pub lines : List (List (List ℕ))
+  pub header : Header
+  pub entries : List Entry
+  pub lines_are : AreLines lines text
+  pub say : SayEntries lines header entries
+  pub message_is : IsWithAll (headed_message header) entries m
+
+-- ---- what was read so far
+
+-- Lines were read as these values, up to what is ahead. `first` is the number of the first line, `now` of the next.
+pub record HasRead {A : Type 0} (IsText : A → List (List ℕ) → Type 0) (text ahead : List ℕ) (first now : ℕ)
+    (values : List A) : Type 0 where
+  pub lines : List (List (List ℕ))
+  pub begins : BeginsWithLines lines text ahead
+  pub place : now ≡ first + length lines
+  pub are : AllZip IsText values lines
+
+-- Records were written for what lines say.
+pub record HasWritten (most : ℕ) (more : Message → Record → Message) (said : List Said) (before after : State)
+    (old_header new_header : Header) (old_counts new_counts : HeaderCounts) : Type 0 where
+  pub records : List Record
+  pub are : AllZip IsRecordOf said records
+  pub written : (m : Message) → Writes most m before old_header old_counts
+      → Writes most (all_more more m records) after new_header new_counts
+
+-- Lines were read as values, and the next one begins with a word, but what follows it is no text, or no line feed ends
+-- it.
+pub record IsStop {A : Type 0} (IsText : A → List (List ℕ) → Type 0) (word : List ℕ)
+    (Texts : List (List ℕ) → List ℕ → Type 0) (text : List ℕ) (first number offset : ℕ) : Type 0 where
+  pub values : List A
+  pub ahead : List ℕ
+  pub now : ℕ
+  pub read : HasRead IsText text ahead first now values
+  pub at : number ≡ now
+  pub fault : IsFaultyLine word Texts ahead offset

@@ -1,0 +1,20 @@
+//! Records and messages read from their text, and messages composed of it: RFC 1035, 5.1.
+//!
+//! [`scan_record`] reads a record from the words of one line, as a zone file has it. [`compose_text`] reads the text of
+//! a whole message, as `octseq_dns` shows it, and composes the message with its names compressed.
+#![tactic(auto)]
+
+mod entry;
+pub mod error;
+mod head;
+mod header;
+mod lines;
+pub mod message;
+mod numbers;
+mod question;
+pub mod record;
+mod take;
+
+pub use error::{ComposeError, Place};
+pub use message::{a_refused_text_is_no_message, compose_text};
+pub use record::{RecordHead, scan_record};

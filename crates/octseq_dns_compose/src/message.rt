@@ -1,0 +1,202 @@
+//! Messages, composed of their text.
+ghost use Rattle.std.specs.Prelude.{◌≡◌, ◌⊎◌, ℕ, List, None, true, codes, IfOk, OnOk, IsErrOf};
+ghost use Rattle.octseq.specs.Refusal.{IsMemory, append_error};
+ghost use Rattle.octseq.specs.Window.{whole};
+ghost use Rattle.octseq_dns.specs.Blank.{blank_message};
+ghost use Rattle.octseq_dns.specs.Contents.{Message, Question, Record};
+ghost use Rattle.octseq_dns.specs.Writes.{Writes, all_more, more_questions};
+ghost use Rattle.octseq_dns_data.specs.Data.{SaysData};
+ghost use Rattle.octseq_dns_data.specs.Typed.{rdata_of};
+ghost use Rattle.octseq_dns_compose.specs.MessageText.{HasRead, HasWritten, IsMessageText, IsQuestionLine};
+ghost use Rattle.octseq_dns_compose.specs.MessageText.{IsAnyText, IsRecordLine, IsRecordOf, IsStop, Said};
+ghost use Rattle.octseq_dns_compose.specs.QuestionText.{IsAnyQuestion};
+ghost use Rattle.octseq_dns_compose.specs.Read.{head_of};
+ghost use Rattle.octseq_dns_compose.specs.RecordText.{IsAnyRecord};
+ghost use Rattle.octseq_dns_compose.specs.TextLines.{IsLineFault, IsNoneOf};
+
+use crate::entry::{Lines, next_header, next_question, next_record};
+use crate::error::{ComposeError, Place};
+use crate::record::RecordHead;
+use octseq::builder::AsOctetsMut;
+use octseq::{AppendError, Array, OctetsBuilder, Parser, Truncate, Turns};
+use octseq_dns::builder::section::RecordSection;
+use octseq_dns::{AdditionalBuilder, Compressor, MessageBuilder, QuestionBuilder, SectionBuilder};
+use octseq_dns_data::data::data_has_the_records_type;
+use octseq_dns_data::{Class, Data, Rtype};
+use std::alloc::Global;
+
+/// A text that is refused as malformed is that of no message.
+///
+/// It does nothing. Calling it brings the law into the caller's proof.
+pub fn a_refused_text_is_no_message()
+    ensures { (text : List ℕ) (first number offset : ℕ) (m : Message)
+        → IsLineFault IsAnyText text first number offset → ¬ IsMessageText text m }
+{}
+
+/// Composes the message of a text, in place of what a builder and a table hold. The text has a line for the header, as
+/// `id 4660 opcode 0 rcode 0 flags QR AA RD`; one for each question, as `question example.com. IN A`; and one for each
+/// record after the word for its section, as `answer example.com. 300 IN A 1.2.3.4`, section by section. A line feed
+/// ends each. Names are compressed with the table.
+///
+/// # Errors
+///
+/// The text is read line by line, and the first fault decides: `Malformed` with the place of the first word that isn't
+/// what has to come there, `Short` if the message would exceed the limit of the builder's type or 65,535 octets or data
+/// has more, `Memory` if a request for memory was refused. The builder and the table are then dropped.
+pub fn compose_text<B: OctetsBuilder + Truncate + AsOctetsMut, T: Compressor>(
+    alloc: Global,
+    text: &[u8],
+    octets: B,
+    table: T,
+) -> Result<AdditionalBuilder<B, T>, ComposeError>
+    ensures ok { IfOk result (λ b. (m : Message) × IsMessageText text.now m
+        × Writes T.most m b.state b.header b.counts) }
+    ensures malformed { (place : Place) → IsErrOf result (ComposeError.Malformed place)
+        → IsLineFault IsAnyText text.now 1 place.line place.offset }
+    ensures borrows { IfOk result (λ b. B.borrows b.octets ≡ B.borrows octets) }
+{
+    let mut lines = Lines::new(text);
+    let header = next_header(&mut lines)?;
+    let mut message = started(octets, table)?;
+    message.set_header(header);
+    let mut questions = message.question();
+    push_questions(&mut lines, &mut questions)?;
+    let mut data = Array::<65535>::new();
+    let mut answers = questions.answer();
+    push_records(alloc, &mut lines, b"answer", &mut answers, &mut data)?;
+    let mut authorities = answers.authority();
+    push_records(alloc, &mut lines, b"authority", &mut authorities, &mut data)?;
+    let mut additionals = authorities.additional();
+    push_records(
+        alloc,
+        &mut lines,
+        b"additional",
+        &mut additionals,
+        &mut data,
+    )?;
+    if !lines.ahead.is_empty() {
+        return Err(lines.malformed(0));
+    }
+    Ok(additionals)
+}
+
+/// Starts a message.
+fn started<B: OctetsBuilder + Truncate + AsOctetsMut, T: Compressor>(
+    octets: B,
+    table: T,
+) -> Result<MessageBuilder<B, T>, ComposeError>
+    ensures written { IfOk result (λ m. Writes T.most blank_message m.state m.header m.counts) }
+    ensures other { (place : Place) → ¬ IsErrOf result (ComposeError.Malformed place) }
+    ensures memory { IsErrOf result ComposeError.Memory → B.asks ≡ true }
+    ensures borrows { IfOk result (λ m. B.borrows m.octets ≡ B.borrows octets) }
+{
+    match MessageBuilder::from_builder(octets, table) {
+        Ok(message) => Ok(message),
+        Err(AppendError::Short(_)) => Err(ComposeError::Short),
+        Err(AppendError::Memory) => Err(ComposeError::Memory),
+    }
+}
+
+/// Pushes the questions of the lines that come next.
+fn push_questions<B: OctetsBuilder + Truncate + AsOctetsMut, T: Compressor>(
+    lines: &mut Lines,
+    message: &mut QuestionBuilder<B, T>,
+) -> Result<(), ComposeError>
+    ensures ok { OnOk result ((questions : List Question)
+        × HasRead IsQuestionLine lines.old.ahead.now lines.new.ahead.now lines.old.number lines.new.number questions
+        × IsNoneOf (codes "question") lines.new.ahead.now
+        × ((m : Message) → Writes T.most m message.old.state message.old.header message.old.counts
+        → Writes T.most (all_more more_questions m questions) message.new.state message.new.header
+        message.new.counts)) }
+    ensures malformed { (place : Place) → IsErrOf result (ComposeError.Malformed place)
+        → IsStop IsQuestionLine (codes "question") IsAnyQuestion lines.old.ahead.now lines.old.number place.line
+        place.offset }
+    ensures memory { IsErrOf result ComposeError.Memory → (B.asks ≡ true) ⊎ (T.asks ≡ true) }
+    ensures borrows { B.borrows message.new.octets ≡ B.borrows message.old.octets }
+{
+    'lines: loop {
+        let next = match next_question(lines) {
+            Ok(next) => next,
+            Err(error) => return Err(error),
+        };
+        let Some(question) = next else {
+            return Ok(());
+        };
+        let qname = question.qname.parsed();
+        match message.push_question(&qname, question.qtype, question.qclass) {
+            Ok(()) => {}
+            Err(AppendError::Short(_)) => return Err(ComposeError::Short),
+            Err(AppendError::Memory) => return Err(ComposeError::Memory),
+        }
+    }
+}
+
+/// Pushes the records of the lines that come next and begin with the word for a section.
+fn push_records<
+    B: OctetsBuilder + Truncate + AsOctetsMut,
+    T: Compressor,
+    S: RecordSection,
+    D: OctetsBuilder + Truncate,
+>(
+    alloc: Global,
+    lines: &mut Lines,
+    section: &[u8],
+    message: &mut SectionBuilder<B, T, S>,
+    target: &mut D,
+) -> Result<(), ComposeError>
+    ensures ok { OnOk result ((said : List Said)
+        × HasRead (IsRecordLine section.now) lines.old.ahead.now lines.new.ahead.now lines.old.number
+        lines.new.number said
+        × IsNoneOf section.now lines.new.ahead.now
+        × HasWritten T.most S.more said message.old.state message.new.state message.old.header message.new.header
+        message.old.counts message.new.counts) }
+    ensures malformed { (place : Place) → IsErrOf result (ComposeError.Malformed place)
+        → IsStop (IsRecordLine section.now) section.now (IsAnyRecord None) lines.old.ahead.now lines.old.number
+        place.line place.offset }
+    ensures borrows { B.borrows message.new.octets ≡ B.borrows message.old.octets }
+{
+    'lines: loop {
+        let next = match next_record(alloc, lines, section, target) {
+            Ok(next) => next,
+            Err(error) => return Err(error),
+        };
+        let Some(head) = next else {
+            return Ok(());
+        };
+        match push_record(message, &head, target.as_ref()) {
+            Ok(()) => {}
+            Err(AppendError::Short(_)) => return Err(ComposeError::Short),
+            Err(AppendError::Memory) => return Err(ComposeError::Memory),
+        }
+    }
+}
+
+/// Pushes a record with data of these octets.
+fn push_record<B: OctetsBuilder + Truncate + AsOctetsMut, T: Compressor, S: RecordSection>(
+    message: &mut SectionBuilder<B, T, S>,
+    head: &RecordHead,
+    octets: &[u8],
+) -> Result<(), AppendError>
+    ensures written { OnOk result ((r : Record)
+        × IsRecordOf (record { head = head_of head.now; octets = octets.now }) r
+        × ((m : Message) → Writes T.most m message.old.state message.old.header message.old.counts
+        → Writes T.most (S.more m r) message.new.state message.new.header message.new.counts)) }
+    ensures memory { IsMemory append_error result → (B.asks ≡ true) ⊎ (T.asks ≡ true) }
+    ensures borrows { B.borrows message.new.octets ≡ B.borrows message.old.octets }
+{
+    let said = data_of(octets, head.rtype, head.class);
+    data_has_the_records_type();
+    let owner = head.owner.parsed();
+    message.push_record(&owner, head.class, head.ttl, &said)
+}
+
+/// Returns what the octets of data say by themselves, by a type and a class.
+fn data_of(octets: &[u8], rtype: Rtype, class: Class) -> Data<&[u8]>
+    ensures { SaysData rtype class (whole octets.now) (whole octets.now) (rdata_of result) }
+{
+    let inside = Parser::from_ref(octets);
+    match Data::parse(inside, inside, rtype, class, &mut Turns::new()) {
+        Ok(found) => found,
+        Err(_) => Data::Unknown(rtype, inside),
+    }
+}
