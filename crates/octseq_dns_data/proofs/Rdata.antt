@@ -1,16 +1,16 @@
 -- The form of data follows from its type: what is there for each type, and where there is none.
 use Rattle.std.proofs.Common.{◌≡◌, ◌≢◌, ◌⊎◌, ℕ, true, false, if◌then◌else◌, nat_eq, refl, sym, ap, ◌∙◌, subst, arith}
-use Rattle.std.proofs.Common.{List, [], ◌∷◌}
+use Rattle.std.proofs.Common.{List, [], ◌∷◌, None}
 use Rattle.std.proofs.Math.Bool.{true≢false}
 use Rattle.std.proofs.lemmas.Bool.{eqb-true, ne_eqb, or_cases}
-use Rattle.std.specs.List.{list_any}
 use mathlib.Core.Logic.{inl, inr}
 use Rattle.octseq.specs.Window.{Window}
 use Rattle.octseq_dns_data.specs.Data.{ParsedRdata, Mx, Soa, Srv, Naptr, HasRdata, HasOctets, HasStrings}
 use Rattle.octseq_dns_data.specs.Data.{HasMx, HasSoa, HasSrv, HasNaptr, IsInMessage, IsTypedData, SaysData}
-use Rattle.octseq_dns_data.specs.Data.{is_in_message, message_types, naptr_form, naptr_parts, rtype_of}
+use Rattle.octseq_dns_data.specs.Data.{is_in_message, naptr_form, naptr_parts, rtype_of}
 use Rattle.octseq_dns_data.specs.Local.{IsLocal, IsWhole, NoneLocal, form}
-use Rattle.octseq_dns_data.specs.Typed.{KnownType, known_in, known_types, pick, mx_form, mx_parts, soa_form, soa_parts, srv_form, srv_parts}
+use Rattle.octseq_dns_data.specs.Typed.{KnownType, has_number, known_in, known_types, pick, all_types, layout_of, message_types}
+use Rattle.octseq_dns_data.specs.Typed.{reading_in, mx_form, mx_parts, soa_form, soa_parts, srv_form, srv_parts}
 use Rattle.octseq_dns_name.specs.Name.{Name, HasName}
 use Rattle.octseq_dns_name.specs.NameFormat.{one_named}
 use Rattle.octseq_dns_data.specs.OneRow.{one_row_at, string_item}
@@ -225,18 +225,19 @@ typed_rtype rtype class w v (ParsedRdata.unknown other x) is = absurd is
 
 -- ---- data in its own window
 
--- a fact of each number of a list
-abbrev AllOf : (ℕ → Type 0) → List ℕ → Type 0
+-- a fact of the number of each type
+abbrev AllOf : (ℕ → Type 0) → List KnownType → Type 0
 AllOf P [] = Unit {0}
-AllOf P (n ∷ ns) = P n × AllOf P ns
+AllOf P (it ∷ more) = P it.number × AllOf P more
 
--- is a fact of a number in the list
-in_list : (P : ℕ → Type 0) (ns : List ℕ) (n : ℕ) → AllOf P ns → list_any (λ m. nat_eq m n) ns ≡ true → P n
+-- is a fact of the number of one of them
+in_list : (P : ℕ → Type 0) (types : List KnownType) (n : ℕ) → AllOf P types
+    → has_number types n ≡ true → P n
 in_list P [] n all is = absurd (true≢false (sym is))
-in_list P (m ∷ ns) n all is =
-    elim (or_cases (nat_eq m n) (list_any (λ m. nat_eq m n) ns) is) [
-      | inl same ↦ subst P (eqb-true m n same) all.0
-      | inr later ↦ in_list P ns n all.1 later
+in_list P (it ∷ more) n all is =
+    elim (or_cases (nat_eq it.number n) (has_number more n) is) [
+      | inl same ↦ subst P (eqb-true it.number n same) all.0
+      | inr later ↦ in_list P more n all.1 later
     ]
 
 -- none of the types that are read in the message has a form of its own
@@ -260,6 +261,16 @@ none_known (it ∷ more) n others =
     subst (λ b. (w v : Window) (found : (pick b it (known_in more n)).form.Found)
     → (pick b it (known_in more n)).form.Is w found v → ⊥) (sym (ne_eqb it.number n (λ same. others.0 (sym same))))
     (none_known more n others.1)
+
+-- and no layout
+none_read : (types : List KnownType) (n : ℕ) → AreOthers types n → reading_in types n ≡ None
+none_read [] n others = refl
+none_read (it ∷ more) n others =
+    rw (ne_eqb it.number n (λ same. others.0 (sym same))) (none_read more n others.1)
+
+pub no_layout : (n class : ℕ) → AreOthers all_types n → layout_of n class ≡ None
+unfolding layout_of
+no_layout n class others = rw (none_read all_types n others) refl
 
 pub none_other : (rtype class : ℕ) (inside : Window) → AreOthers known_types rtype → NoneLocal rtype class inside
 none_other rtype class inside others k found is =

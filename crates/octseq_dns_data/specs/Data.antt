@@ -4,7 +4,7 @@ use Rattle.std.specs.Prelude.{◌≡◌, ℕ, ◌≤◌, ◌⊎◌, Bool, nat_eq
 use Rattle.std.specs.List.{list_any}
 use Rattle.octseq.specs.Window.{Window, left, next, past}
 use Rattle.octseq_dns_data.specs.Local.{IsLocal, form}
-use Rattle.octseq_dns_data.specs.Typed.{mx_form, mx_parts, soa_form, soa_parts, srv_form, srv_parts}
+use Rattle.octseq_dns_data.specs.Typed.{has_number, message_types, mx_form, mx_parts, soa_form, soa_parts, srv_form, srv_parts}
 use Rattle.octseq_dns_name.specs.Name.{Name, HasName}
 use Rattle.octseq_dns_data.specs.Rtype as types
 pub use Rattle.octseq_dns_data.specs.Strings.{HasString, HasStrings}
@@ -74,12 +74,9 @@ abbrev pub SaysData : (rtype class : ℕ) (w inside : Window) → ParsedRdata �
 SaysData rtype class w inside rdata = IsTypedData rtype class w inside rdata
     ⊎ (rdata ≡ ParsedRdata.unknown rtype inside) × ((other : ParsedRdata) → ¬ IsTypedData rtype class w inside other)
 
--- the types whose data is read in the message
-abbrev pub message_types : List ℕ
-message_types = 1 ∷ 2 ∷ 5 ∷ 6 ∷ 12 ∷ 15 ∷ 16 ∷ 28 ∷ 33 ∷ 35 ∷ []
-
+-- whether data of a type is read in the message
 abbrev pub is_in_message : ℕ → Bool
-is_in_message rtype = list_any (λ t. nat_eq t rtype) message_types
+is_in_message = has_number message_types
 
 -- Data that is written by its form has octets: its parts fit.
 abbrev pub FitsForm : ParsedRdata → Type 0

@@ -1,11 +1,16 @@
 -- Forms of data: parts, one after another. The last one may take all the octets that are left. What is written is read
--- back. Each part has its text, and the least number of turns that reading it takes.
-use Rattle.std.specs.Prelude.{ℕ, ◌<◌, ◌^◌, List, [], ◌∷◌, ◌++◌}
+-- back. Each part has its text, what its text is read as, and the least number of turns that reading it takes.
+use Rattle.std.specs.Prelude.{ℕ, ◌<◌, ◌^◌, nat_eq, if◌then◌else◌, List, [], ◌∷◌, ◌++◌}
 use Rattle.std.specs.Fmt.{decimal}
 use Rattle.octseq.specs.Integer.{be, octets_be}
 use Rattle.octseq.specs.Window.{Window, rest}
 use Rattle.octseq_dns_data.specs.Formed.{IsFormed, FormedFits, one_formed, formed_read_back}
+use Rattle.octseq_dns_data.specs.Layout.{TextLayout, layout_value}
 use Rattle.octseq_dns_data.specs.PlainName.{HasPlainName, one_plain, delimited_plain}
+use Rattle.octseq_dns_data.specs.declared.layout.Field.{Field}
+use Rattle.octseq_dns_data.specs.declared.layout.Field.TheVariants as field
+use Rattle.octseq_dns_data.specs.declared.layout.Tail.{Tail}
+use Rattle.octseq_dns_data.specs.declared.layout.Tail.TheVariants as tail
 use Rattle.octseq_dns_name.specs.Name.{Name, HasName}
 use Rattle.octseq_dns_name.specs.NameFormat.{NameFits, least_turns, name_labels, one_named, delimited_name}
 use Rattle.octseq_dns_name.specs.Text.{name_text}
@@ -18,7 +23,7 @@ use Rattle.octseq_format.specs.Pair.{◌then◌, ◌and◌, ◌before◌, ◌als
 use Rattle.octseq_format.specs.Rest.{IsRest, one_rest, rest_read_back}
 
 -- A part that shows its own end: what is found, what it says wherever it is, the octets that say it, which values have
--- octets, the least number of turns that reading it takes, and its text.
+-- octets, the least number of turns that reading it takes, its text, and the fields that its text is read as.
 pub record Part : Type 1 where
   pub Found : Type 0
   pub Said : Type 0
@@ -30,8 +35,9 @@ pub record Part : Type 1 where
   pub next : IsDelimited Is says octets Fits
   pub turns : Found → ℕ
   pub text : Found → List ℕ
+  pub fields : List Field
 
--- A form, which takes the whole window.
+-- A form, which takes the whole window, with the layout that its text is read by.
 pub record Form : Type 1 where
   pub Found : Type 0
   pub Said : Type 0
@@ -43,6 +49,7 @@ pub record Form : Type 1 where
   pub back : IsReadBack Is says octets Fits
   pub turns : Found → ℕ
   pub text : Found → List ℕ
+  pub layout : TextLayout
 
 -- a part, followed by a form: their texts are separated by a space (32)
 infixr 5 ◌followed_by◌
@@ -58,6 +65,7 @@ first followed_by second = record {
   back = first.next back_then second.back;
   turns = first.turns plus second.turns;
   text = λ found. first.text found.0 ++ 32 ∷ second.text found.1;
+  layout = layout_value (first.fields ++ second.layout.fields) second.layout.tail;
 }
 
 -- the same, if the text of the form has a space before each item
@@ -80,6 +88,7 @@ first and_then second = record {
   next = first.next delimited_then second.next;
   turns = first.turns plus second.turns;
   text = λ found. first.text found.0 ++ 32 ∷ second.text found.1;
+  fields = first.fields ++ second.fields;
 }
 
 -- a part alone
@@ -95,6 +104,7 @@ alone part = record {
   back = back_of part.next;
   turns = part.turns;
   text = part.text;
+  layout = layout_value part.fields tail.Nothing;
 }
 
 -- no form: nothing is of it
@@ -110,7 +120,12 @@ no_form = record {
   back = record { back = λ w said fits is last. absurd fits };
   turns = λ _. 0;
   text = λ _. [];
+  layout = layout_value [] tail.Nothing;
 }
+
+-- what a number of 1, 2 or 4 octets is read as
+abbrev pub number_field : ℕ → Field
+number_field k = if nat_eq k 1 then field.U8 else if nat_eq k 2 then field.U16 else field.U32
 
 -- a number of k octets, big-endian
 abbrev pub number : ℕ → Part
@@ -125,6 +140,7 @@ number k = record {
   next = delimited_fixed (are_be k);
   turns = λ _. 0;
   text = decimal;
+  fields = number_field k ∷ [];
 }
 
 -- a name, which may have pointers when it is read, and has none when it is written
@@ -140,6 +156,7 @@ domain_name = record {
   next = delimited_name;
   turns = least_turns;
   text = λ name. name_text name.labels;
+  fields = field.Name ∷ [];
 }
 
 -- a name without pointers
@@ -155,11 +172,12 @@ plain_name = record {
   next = delimited_plain;
   turns = least_turns;
   text = λ name. name_text name.labels;
+  fields = field.Name ∷ [];
 }
 
--- octets of a form, after their length of one octet, and their text
-abbrev pub string : (List ℕ → Type 0) → (List ℕ → List ℕ) → Part
-string HasForm text = record {
+-- octets of a form, after their length of one octet, with their text and what it is read as
+abbrev pub string : (List ℕ → Type 0) → (List ℕ → List ℕ) → Field → Part
+string HasForm text read_as = record {
   Found = Window;
   Said = List ℕ;
   Is = Counted 1 0 (IsFormed HasForm);
@@ -170,11 +188,12 @@ string HasForm text = record {
   next = delimited_counted (formed_read_back HasForm);
   turns = λ _. 0;
   text = λ place. text (rest place);
+  fields = read_as ∷ [];
 }
 
--- all octets up to the end, which have a form, and their text
-abbrev pub octets_of : (List ℕ → Type 0) → (List ℕ → List ℕ) → Form
-octets_of HasForm text = record {
+-- all octets up to the end, which have a form, with their text and what it is read as
+abbrev pub octets_of : (List ℕ → Type 0) → (List ℕ → List ℕ) → Tail → Form
+octets_of HasForm text read_as = record {
   Found = Window;
   Said = List ℕ;
   Is = IsFormed HasForm;
@@ -185,11 +204,12 @@ octets_of HasForm text = record {
   back = formed_read_back HasForm;
   turns = λ _. 0;
   text = λ place. text (rest place);
+  layout = layout_value [] read_as;
 }
 
--- all octets up to the end, whatever they are, and their text
-abbrev pub all_octets : (List ℕ → List ℕ) → Form
-all_octets text = record {
+-- all octets up to the end, whatever they are, with their text and what it is read as
+abbrev pub all_octets : (List ℕ → List ℕ) → Tail → Form
+all_octets text read_as = record {
   Found = Window;
   Said = List ℕ;
   Is = IsRest;
@@ -200,4 +220,5 @@ all_octets text = record {
   back = rest_read_back;
   turns = λ _. 0;
   text = λ place. text (rest place);
+  layout = layout_value [] read_as;
 }

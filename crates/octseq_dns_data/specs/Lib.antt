@@ -4,6 +4,7 @@ pub mod DataTurns
 pub mod Form
 pub mod Format
 pub mod Formed
+pub mod Layout
 pub mod Local
 pub mod Mnemonic
 pub mod OneBitmap

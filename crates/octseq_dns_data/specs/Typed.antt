@@ -1,5 +1,6 @@
 -- The types of data: the form of each, which has its octets and its text, and what contracts see of data that was read.
-use Rattle.std.specs.Prelude.{◌≡◌, ℕ, Bool, true, false, nat_eq, List, [], ◌∷◌}
+use Rattle.std.specs.Prelude.{◌≡◌, ℕ, Bool, true, false, nat_eq, not, ◌&&◌, if◌then◌else◌, List, [], ◌∷◌, ◌++◌}
+use Rattle.std.specs.Prelude.{◌||◌, Option, None, Some}
 use Rattle.std.specs.List.{flat_map}
 use Rattle.octseq.specs.declared.AsOctets.{Ghosts}
 use Rattle.octseq.specs.OctetsText.{hex_text, string_text}
@@ -8,6 +9,7 @@ use Rattle.octseq.specs.Window.{Window, rest}
 use Rattle.octseq_dns_data.specs.Form.{Part, Form, ◌and_then◌, ◌followed_by◌, ◌then_each◌, alone, no_form, number}
 use Rattle.octseq_dns_data.specs.Form.{domain_name, plain_name, string, octets_of, all_octets}
 use Rattle.octseq_dns_data.specs.Formed.{IsString, IsSome, IsSomeString}
+use Rattle.octseq_dns_data.specs.Layout.{TextLayout, layout_value}
 use Rattle.octseq_dns_data.specs.Mnemonic.{rtype_text}
 use Rattle.octseq_dns_data.specs.Places.{some_place, hash_place, tag_place}
 use Rattle.octseq_dns_data.specs.RtypeBitmap.{IsRtypeBitmap, bitmap_turns, types_of}
@@ -22,6 +24,9 @@ use Rattle.octseq_dns_name.specs.Name.{Name}
 use Rattle.octseq_dns_name.specs.Read.{name_of}
 use Rattle.octseq_dns_scan.specs.Base32hex.{base32hex_text}
 use Rattle.octseq_dns_scan.specs.Base64.{base64_text}
+use Rattle.octseq_dns_data.specs.declared.layout.Field.{Field}
+use Rattle.octseq_dns_data.specs.declared.layout.Field.TheVariants as field
+use Rattle.octseq_dns_data.specs.declared.layout.Tail.TheVariants as tail
 use Rattle.octseq_dns_data.specs.declared.data.Data.{Data}
 use Rattle.octseq_dns_data.specs.declared.data.Data.TheVariants as kind
 use Rattle.octseq_dns_data.specs.declared.data.caa.Caa.{Caa}
@@ -58,21 +63,39 @@ salt_text (octet ∷ octets) = hexadecimal (octet ∷ octets)
 
 -- a character string, in quotation marks
 abbrev pub quoted : Part
-quoted = string IsString string_text
+quoted = string IsString string_text field.String
+
+-- a salt, and the hash of an owner name
+abbrev pub salt : Part
+salt = string IsString salt_text field.Salt
+
+abbrev pub owner_hash : Part
+owner_hash = string IsSomeString base32hex_text field.OwnerHash
 
 -- the number of a type, as its mnemonic
 abbrev pub rtype_number : Part
-rtype_number = record (number 2) { text = rtype_text }
+rtype_number = record (number 2) { text = rtype_text; fields = field.Rtype ∷ [] }
+
+-- a time, which is shown as its number, and may be read as a date
+abbrev pub time : Part
+time = record (number 4) { fields = field.Time ∷ [] }
+
+-- one or more octets, in hexadecimal and in base 64
+abbrev pub some_hexadecimal : Form
+some_hexadecimal = octets_of IsSome hexadecimal tail.Hex
+
+abbrev pub some_base64 : Form
+some_base64 = octets_of IsSome base64_text tail.Base64
 
 -- the types of a bitmap; reading it takes a turn for each window block
 abbrev pub bitmap : Form
-bitmap = record (octets_of IsRtypeBitmap (λ octets. rtypes_text (types_of octets))) {
+bitmap = record (octets_of IsRtypeBitmap (λ octets. rtypes_text (types_of octets)) tail.Types) {
   turns = λ place. bitmap_turns (rest place);
 }
 
 -- service parameters
 abbrev pub svc_params : Form
-svc_params = record (octets_of IsSvcParams svc_params_text) { turns = λ place. params_turns (rest place) }
+svc_params = record (octets_of IsSvcParams svc_params_text tail.Params) { turns = λ place. params_turns (rest place) }
 
 -- ---- types whose names may have pointers: what was found of each, and its parts
 
@@ -171,14 +194,14 @@ hinfo_of hinfo = (string_place hinfo.cpu, string_place hinfo.os)
 
 -- The digest of a key, in DS and CDS: the key tag, the algorithm, the digest type, the digest (RFC 4034, 5.1 and 5.3).
 abbrev pub digest_form : Form
-digest_form = number 2 followed_by number 1 followed_by number 1 followed_by octets_of IsSome hexadecimal
+digest_form = number 2 followed_by number 1 followed_by number 1 followed_by some_hexadecimal
 
 abbrev pub ds_of : {R : Type 0} {g : Ghosts R} → Ds R g → digest_form.Found
 ds_of ds = (ds.key_tag, (ds.algorithm, (ds.digest_type, some_place ds.digest)))
 
 -- The fingerprint of a key: its algorithm, the algorithm of the fingerprint, the fingerprint (RFC 4255, 3).
 abbrev pub sshfp_form : Form
-sshfp_form = number 1 followed_by number 1 followed_by octets_of IsSome hexadecimal
+sshfp_form = number 1 followed_by number 1 followed_by some_hexadecimal
 
 abbrev pub sshfp_of : {R : Type 0} {g : Ghosts R} → Sshfp R g → sshfp_form.Found
 sshfp_of sshfp = (sshfp.algorithm, (sshfp.fingerprint_type, some_place sshfp.fingerprint))
@@ -186,8 +209,8 @@ sshfp_of sshfp = (sshfp.algorithm, (sshfp.fingerprint_type, some_place sshfp.fin
 -- A signature: the type covered, the algorithm, the number of labels, the TTL, the expiration, the inception, the key
 -- tag, the signer's name, the signature (RFC 4034, 3.1 and 3.2).
 abbrev pub rrsig_form : Form
-rrsig_form = rtype_number followed_by number 1 followed_by number 1 followed_by number 4 followed_by number 4
-    followed_by number 4 followed_by number 2 followed_by plain_name followed_by octets_of IsSome base64_text
+rrsig_form = rtype_number followed_by number 1 followed_by number 1 followed_by number 4 followed_by time
+    followed_by time followed_by number 2 followed_by plain_name followed_by some_base64
 
 abbrev pub rrsig_of : {R : Type 0} {g : Ghosts R} → Rrsig R g → rrsig_form.Found
 rrsig_of sig = (
@@ -213,22 +236,22 @@ nsec_of nsec = (name_of nsec.next_name, bitmap_place nsec.types)
 
 -- A key, in DNSKEY and CDNSKEY: the flags, the protocol, the algorithm, the public key (RFC 4034, 2.1 and 2.2).
 abbrev pub key_form : Form
-key_form = number 2 followed_by number 1 followed_by number 1 followed_by octets_of IsSome base64_text
+key_form = number 2 followed_by number 1 followed_by number 1 followed_by some_base64
 
 abbrev pub dnskey_of : {R : Type 0} {g : Ghosts R} → Dnskey R g → key_form.Found
 dnskey_of key = (key.flags, (key.protocol, (key.algorithm, some_place key.public_key)))
 
 -- Which DHCP client a name belongs to (RFC 4701, 3.1 and 3.2).
 abbrev pub dhcid_form : Form
-dhcid_form = octets_of IsSome base64_text
+dhcid_form = some_base64
 
 abbrev pub dhcid_of : {R : Type 0} {g : Ghosts R} → Dhcid R g → dhcid_form.Found
 dhcid_of dhcid = some_place dhcid.identity
 
 -- The next hashed name: the algorithm, the flags, the iterations, the salt, the hash, the types (RFC 5155, 3.2, 3.3).
 abbrev pub nsec3_form : Form
-nsec3_form = number 1 followed_by number 1 followed_by number 2 followed_by string IsString salt_text
-    followed_by string IsSomeString base32hex_text then_each bitmap
+nsec3_form = number 1 followed_by number 1 followed_by number 2 followed_by salt followed_by owner_hash
+    then_each bitmap
 
 abbrev pub nsec3_of : {R : Type 0} {g : Ghosts R} → Nsec3 R g → nsec3_form.Found
 nsec3_of nsec = (
@@ -241,8 +264,7 @@ nsec3_of nsec = (
 
 -- How names are hashed: the algorithm, the flags, the iterations, the salt (RFC 5155, 4.2 and 4.3).
 abbrev pub nsec3param_form : Form
-nsec3param_form =
-    number 1 followed_by number 1 followed_by number 2 followed_by alone (string IsString salt_text)
+nsec3param_form = number 1 followed_by number 1 followed_by number 2 followed_by alone salt
 
 abbrev pub nsec3param_of : {R : Type 0} {g : Ghosts R} → Nsec3param R g → nsec3param_form.Found
 nsec3param_of param = (param.hash_algorithm, (param.flags, (param.iterations, string_place param.salt)))
@@ -250,14 +272,14 @@ nsec3param_of param = (param.hash_algorithm, (param.flags, (param.iterations, st
 -- A certificate association, in TLSA and SMIMEA: the usage, the selector, the matching type, the data (RFC 6698, 2.1
 -- and 2.2).
 abbrev pub certificate_form : Form
-certificate_form = number 1 followed_by number 1 followed_by number 1 followed_by octets_of IsSome hexadecimal
+certificate_form = number 1 followed_by number 1 followed_by number 1 followed_by some_hexadecimal
 
 abbrev pub tlsa_of : {R : Type 0} {g : Ghosts R} → Tlsa R g → certificate_form.Found
 tlsa_of tlsa = (tlsa.cert_usage, (tlsa.selector, (tlsa.matching_type, some_place tlsa.cert_assoc_data)))
 
 -- An OpenPGP key (RFC 7929, 2.1 and 2.3).
 abbrev pub openpgpkey_form : Form
-openpgpkey_form = octets_of IsSome base64_text
+openpgpkey_form = some_base64
 
 abbrev pub openpgpkey_of : {R : Type 0} {g : Ghosts R} → Openpgpkey R g → openpgpkey_form.Found
 openpgpkey_of openpgpkey = some_place openpgpkey.key
@@ -271,7 +293,7 @@ csync_of csync = (csync.serial, (csync.flags, bitmap_place csync.types))
 
 -- Who may issue certificates: the flags, the tag, which is shown as it is, the value (RFC 8659, 4.1).
 abbrev pub caa_form : Form
-caa_form = number 1 followed_by string IsCaaTag (λ tag. tag) followed_by all_octets string_text
+caa_form = number 1 followed_by string IsCaaTag (λ tag. tag) field.Tag followed_by all_octets string_text tail.Value
 
 abbrev pub caa_of : {R : Type 0} {g : Ghosts R} → Caa R g → caa_form.Found
 caa_of caa = (caa.flags, (tag_place caa.tag, window caa.value))
@@ -285,25 +307,49 @@ svcb_of svcb = (svcb.priority, (name_of svcb.target, params_place svcb.params))
 
 -- The location of a service: the priority, the weight, the URI (RFC 7553, 4).
 abbrev pub uri_form : Form
-uri_form = number 2 followed_by number 2 followed_by octets_of IsSome string_text
+uri_form = number 2 followed_by number 2 followed_by octets_of IsSome string_text tail.Target
 
 abbrev pub uri_of : {R : Type 0} {g : Ghosts R} → Uri R g → uri_form.Found
 uri_of uri = (uri.priority, (uri.weight, some_place uri.target))
 
 -- ---- the types by number
 
--- A type: its number, whether data of a class may have its form, and the form.
+-- A type: its number, whether its data is of class IN only, the form that its data has by itself, and the layout that
+-- its text is read by.
 pub record KnownType : Type 1 where
   pub number : ℕ
-  pub IsOfClass : ℕ → Type 0
+  pub is_of_class_in : Bool
   pub form : Form
+  pub layout : TextLayout
 
 abbrev pub in_any_class : ℕ → Form → KnownType
-in_any_class number form = record { number = number; IsOfClass = λ _. Unit {0}; form = form }
+in_any_class number form = record { number = number; is_of_class_in = false; form = form; layout = form.layout }
 
--- in class IN only
 abbrev pub in_class_in : ℕ → Form → KnownType
-in_class_in number form = record { number = number; IsOfClass = λ class. class ≡ 1; form = form }
+in_class_in number form = record { number = number; is_of_class_in = true; form = form; layout = form.layout }
+
+-- a type that is read in the message has no form by itself
+abbrev pub in_message : Bool → ℕ → TextLayout → KnownType
+in_message is_of_class_in number layout =
+    record { number = number; is_of_class_in = is_of_class_in; form = no_form; layout = layout }
+
+-- a layout of fields alone
+abbrev pub of_fields : List Field → TextLayout
+of_fields fields = layout_value fields tail.Nothing
+
+-- The types that are read in the message: those whose names may have pointers, and A, AAAA and TXT.
+abbrev pub message_types : List KnownType
+message_types = in_message true types.a (of_fields (field.Ipv4 ∷ []))
+    ∷ in_message false types.ns (of_fields domain_name.fields)
+    ∷ in_message false types.cname (of_fields domain_name.fields)
+    ∷ in_message false types.soa (of_fields soa_form.fields)
+    ∷ in_message false types.ptr (of_fields domain_name.fields)
+    ∷ in_message false types.mx (of_fields mx_form.fields)
+    ∷ in_message false types.txt (layout_value [] tail.Strings)
+    ∷ in_message true types.aaaa (of_fields (field.Ipv6 ∷ []))
+    ∷ in_message true types.srv (of_fields srv_form.fields)
+    ∷ in_message true types.naptr (of_fields naptr_form.fields)
+    ∷ []
 
 -- The types that are read without the message. DNAME is of RFC 6672, 2.1, SMIMEA of RFC 8162, 2, CDS and CDNSKEY are of
 -- RFC 7344, 3.
@@ -330,6 +376,11 @@ known_types = in_any_class types.hinfo hinfo_form
     ∷ in_any_class types.uri uri_form
     ∷ []
 
+-- whether one of the types has this number
+abbrev pub has_number : List KnownType → ℕ → Bool
+has_number [] n = false
+has_number (it ∷ more) n = nat_eq it.number n || has_number more n
+
 -- the first, or else the second
 abbrev pub pick : Bool → KnownType → KnownType → KnownType
 pick true first second = first
@@ -344,8 +395,29 @@ known_in (it ∷ more) n = pick (nat_eq it.number n) it (known_in more n)
 abbrev pub form : ℕ → Form
 form n = (known_in known_types n).form
 
+abbrev pub IsClass : Bool → ℕ → Type 0
+IsClass true class = class ≡ 1
+IsClass false class = Unit {0}
+
 abbrev pub IsOfClass : ℕ → ℕ → Type 0
-IsOfClass n = (known_in known_types n).IsOfClass
+IsOfClass n = IsClass (known_in known_types n).is_of_class_in
+
+-- how the text of a type is read: whether in class IN only, and by which layout
+abbrev pub reading_in : List KnownType → ℕ → Option (Bool × TextLayout)
+reading_in [] n = None
+reading_in (it ∷ more) n = if nat_eq it.number n then Some (it.is_of_class_in, it.layout) else reading_in more n
+
+abbrev pub all_types : List KnownType
+all_types = message_types ++ known_types
+
+abbrev pub layout_in : ℕ → Option (Bool × TextLayout) → Option TextLayout
+layout_in class None = None
+layout_in class (Some (is_of_class_in, layout)) =
+    if is_of_class_in && not (nat_eq class 1) then None else Some layout
+
+-- the layout that the text of a type and a class is read by, if it has one
+unfoldable pub layout_of : ℕ → ℕ → Option TextLayout
+layout_of n class = layout_in class (reading_in all_types n)
 
 -- ---- data
 

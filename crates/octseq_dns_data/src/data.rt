@@ -1,5 +1,6 @@
 //! Record data, read by the record's type and class: RFC 1035, 3.3 and 3.4.
-ghost use Rattle.std.specs.Prelude.{◌≡◌, ◌≢◌, ℕ, ◌+◌, ◌-◌, ◌≤◌, List, Some, true, IsTrue, IsErr, IfOk, OnOk, ⊤};
+ghost use Rattle.std.specs.Prelude.{◌≡◌, ◌≢◌, ℕ, ◌+◌, ◌-◌, ◌≤◌, List, Some, true, false, IsTrue, IsErr, IfOk, OnOk, ⊤};
+ghost use Rattle.std.specs.Prelude.{option_map};
 ghost use Rattle.std.specs.Net.Addr.{IsIpv4Mapped, segments_of};
 ghost use Rattle.octseq.specs.Parser.{window};
 ghost use Rattle.octseq.specs.Window.{Window, left};
@@ -7,13 +8,15 @@ ghost use Rattle.octseq_dns_data.specs.Data.{ParsedRdata, FitsForm, HasRdata, Is
 ghost use Rattle.octseq_dns_data.specs.Data.{rtype_of};
 ghost use Rattle.octseq_dns_data.specs.Local.{Agrees, IsOfClass, IsWhole, NoneLocal};
 ghost use Rattle.octseq_dns_data.specs.RdataText.{rdata_text};
-ghost use Rattle.octseq_dns_data.specs.Typed.{rdata_of};
+ghost use Rattle.octseq_dns_data.specs.Layout.{layout_value};
+ghost use Rattle.octseq_dns_data.specs.Typed.{all_types, layout_of, rdata_of, reading_in};
 ghost use Rattle.octseq_format.specs.Turns.{TakesTurns};
 ghost use Rattle.octseq_dns_data.specs.DataTurns.{rdata_turns};
 ghost use Rattle.octseq.specs.OctetsText.{is_compatible, ipv6_address_text};
 ghost use Rattle.octseq_dns_data.specs.DataText.{IsGroupsText};
 
 use crate::iana::{Class, Rtype};
+use crate::layout::{Layout, NAME};
 use octseq::octets_text::{write_ipv4, write_ipv6, write_opaque};
 use octseq::{AsOctets, Parser, Turns};
 use octseq_dns_name::name::a_name_has_labels;
@@ -456,6 +459,67 @@ impl<R: AsOctets + Copy> fmt::Display for Data<R> {
             Data::Uri(uri) => write!(f, "{uri}"),
             Data::Unknown(_, parser) => write_opaque(f, parser.peek_all()),
         }
+    }
+}
+
+/// Returns how the text of data of a type and a class is read, or `None` if such data has no form: its text is then
+/// that of data of an unknown type alone (RFC 3597, 5).
+pub fn layout_of(rtype: Rtype, class: Class) -> Option<Layout>
+    ensures { option_map (λ layout. layout_value layout.fields.now layout.tail) result ≡ layout_of rtype class }
+{
+    match rtype {
+        Rtype::A => in_class_in(Rtype::A, class, addresses::A_LAYOUT),
+        Rtype::NS => in_any_class(Rtype::NS, class, NAME),
+        Rtype::CNAME => in_any_class(Rtype::CNAME, class, NAME),
+        Rtype::SOA => in_any_class(Rtype::SOA, class, soa::LAYOUT),
+        Rtype::PTR => in_any_class(Rtype::PTR, class, NAME),
+        Rtype::HINFO => in_any_class(Rtype::HINFO, class, hinfo::LAYOUT),
+        Rtype::MX => in_any_class(Rtype::MX, class, mx::LAYOUT),
+        Rtype::TXT => in_any_class(Rtype::TXT, class, txt::LAYOUT),
+        Rtype::AAAA => in_class_in(Rtype::AAAA, class, addresses::AAAA_LAYOUT),
+        Rtype::SRV => in_class_in(Rtype::SRV, class, srv::LAYOUT),
+        Rtype::NAPTR => in_class_in(Rtype::NAPTR, class, naptr::LAYOUT),
+        Rtype::DNAME => in_any_class(Rtype::DNAME, class, NAME),
+        Rtype::DS => in_any_class(Rtype::DS, class, dnssec::DS_LAYOUT),
+        Rtype::SSHFP => in_any_class(Rtype::SSHFP, class, keys::SSHFP_LAYOUT),
+        Rtype::RRSIG => in_any_class(Rtype::RRSIG, class, dnssec::RRSIG_LAYOUT),
+        Rtype::NSEC => in_any_class(Rtype::NSEC, class, denial::NSEC_LAYOUT),
+        Rtype::DNSKEY => in_any_class(Rtype::DNSKEY, class, dnssec::DNSKEY_LAYOUT),
+        Rtype::DHCID => in_class_in(Rtype::DHCID, class, dhcid::LAYOUT),
+        Rtype::NSEC3 => in_any_class(Rtype::NSEC3, class, denial::NSEC3_LAYOUT),
+        Rtype::NSEC3PARAM => in_any_class(Rtype::NSEC3PARAM, class, denial::NSEC3PARAM_LAYOUT),
+        Rtype::TLSA => in_any_class(Rtype::TLSA, class, keys::TLSA_LAYOUT),
+        Rtype::SMIMEA => in_any_class(Rtype::SMIMEA, class, keys::TLSA_LAYOUT),
+        Rtype::CDS => in_any_class(Rtype::CDS, class, dnssec::DS_LAYOUT),
+        Rtype::CDNSKEY => in_any_class(Rtype::CDNSKEY, class, dnssec::DNSKEY_LAYOUT),
+        Rtype::OPENPGPKEY => in_any_class(Rtype::OPENPGPKEY, class, openpgpkey::LAYOUT),
+        Rtype::CSYNC => in_any_class(Rtype::CSYNC, class, csync::LAYOUT),
+        Rtype::CAA => in_any_class(Rtype::CAA, class, caa::LAYOUT),
+        Rtype::SVCB => in_class_in(Rtype::SVCB, class, svcb::LAYOUT),
+        Rtype::HTTPS => in_class_in(Rtype::HTTPS, class, svcb::LAYOUT),
+        Rtype::URI => in_any_class(Rtype::URI, class, uri::LAYOUT),
+        _ => None,
+    }
+}
+
+/// Returns how the text of a type is read, in any class.
+#[tactic(auto, unfolding(crate::specs::Typed::layout_of))]
+fn in_any_class(rtype: Rtype, class: Class, layout: Layout) -> Option<Layout>
+    requires { reading_in all_types rtype ≡ Some (false, layout_value layout.fields.now layout.tail) }
+    ensures { option_map (λ layout. layout_value layout.fields.now layout.tail) result ≡ layout_of rtype class }
+{
+    Some(layout)
+}
+
+/// Returns how the text of a type is read, in class IN only.
+#[tactic(auto, unfolding(crate::specs::Typed::layout_of))]
+fn in_class_in(rtype: Rtype, class: Class, layout: Layout) -> Option<Layout>
+    requires { reading_in all_types rtype ≡ Some (true, layout_value layout.fields.now layout.tail) }
+    ensures { option_map (λ layout. layout_value layout.fields.now layout.tail) result ≡ layout_of rtype class }
+{
+    match class {
+        Class::IN => Some(layout),
+        _ => None,
     }
 }
 

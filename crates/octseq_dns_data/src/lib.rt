@@ -5,6 +5,7 @@
 pub mod base_text;
 pub mod data;
 pub mod iana;
+pub mod layout;
 mod mnemonic;
 pub mod rtype_bitmap;
 pub mod svc_params;
@@ -12,7 +13,7 @@ pub mod tag;
 mod text;
 
 pub use base_text::{write_base32hex, write_base64};
-pub use data::Data;
+pub use data::{Data, layout_of};
 pub use iana::{Class, FromStrError, Opcode, Rcode, Rtype};
 pub use rtype_bitmap::{RtypeBitmap, RtypeBitmapIter};
 pub use svc_params::{AlpnIds, SvcParam, SvcParamIter, SvcParams};

@@ -31,10 +31,10 @@ use Rattle.octseq_dns_text.specs.Reached.{Reached, ReadsText}
 use Rattle.octseq_dns_text.specs.Scans.{Goes, BeginsWithWords, IsFault}
 use Rattle.octseq_dns_text.specs.Tails.{IsTailText}
 use Rattle.octseq_dns_text.specs.declared.error.ScanError.{ScanError}
-use Rattle.octseq_dns_text.specs.declared.field.Field.{Field}
-use Rattle.octseq_dns_text.specs.declared.field.Field.TheVariants as field
-use Rattle.octseq_dns_text.specs.declared.tail.Tail.{Tail}
-use Rattle.octseq_dns_text.specs.declared.tail.Tail.TheVariants as tail
+use Rattle.octseq_dns_data.specs.declared.layout.Field.{Field}
+use Rattle.octseq_dns_data.specs.declared.layout.Field.TheVariants as field
+use Rattle.octseq_dns_data.specs.declared.layout.Tail.{Tail}
+use Rattle.octseq_dns_data.specs.declared.layout.Tail.TheVariants as tail
 
 -- ---- each field and each tail has a text
 

@@ -15,10 +15,10 @@ pub mod Plain
 pub mod PlainNames
 pub mod ReadTexts
 pub mod ReaderLengths
-pub mod RtypeTexts
 pub mod RunTexts
 pub mod Shown
 pub mod ShownFields
+pub mod SizedHexLaws
 pub mod SomeTexts
 pub mod Sortings
 pub mod Splits

@@ -4,8 +4,6 @@ use Rattle.std.proofs.Common.{Some, None, inl, inr}
 use Rattle.std.specs.List.{concat}
 use Rattle.octseq.proofs.WrittenBack.{AreOctets}
 use Rattle.octseq.specs.Integer.{octets_be}
-use Rattle.octseq_dns_data.proofs.Mnemonics.{one_number, rtypes_unambiguous}
-use Rattle.octseq_dns_data.specs.Mnemonic.{ReadsRtype}
 use Rattle.octseq_dns_name.proofs.Readings.{name_once, name_once_with_origin}
 use Rattle.octseq_dns_name.specs.Wire.{wire, IsWireOf}
 use Rattle.octseq_dns_scan.proofs.Addresses.{one_ipv4, one_ipv6}
@@ -17,17 +15,17 @@ use Rattle.octseq_dns_scan.proofs.Spellings.{string_once}
 use Rattle.octseq_dns_scan.specs.Hex.{IsHexText}
 use Rattle.octseq_dns_scan.specs.Spelled.{SpellsString}
 use Rattle.octseq_dns_text.proofs.ParamsTexts.{params_once}
-use Rattle.octseq_dns_text.proofs.TypesTexts.{types_once}
+use Rattle.octseq_dns_text.proofs.TypesTexts.{type_once, types_once}
 use Rattle.octseq_dns_text.proofs.WordTexts.{hex_text_length}
 use Rattle.octseq_dns_text.specs.DataText.{IsSizedText, opaque_word, IsDataText}
 use Rattle.octseq_dns_text.specs.Fields.{SpellsAt, IsNameWord, IsTagWord, IsFieldText}
 use Rattle.octseq_dns_text.specs.Layouts.{TextLayout, IsLayoutText}
 use Rattle.octseq_dns_text.specs.Tails.{IsValue, AreStrings, IsTailText}
 use Rattle.octseq_dns_text.specs.Words.{IsNumber, IsCounted, IsStringWord, IsSomeHex, IsSomeBase32hex, IsSalt}
-use Rattle.octseq_dns_text.specs.declared.field.Field.{Field}
-use Rattle.octseq_dns_text.specs.declared.field.Field.TheVariants as field
-use Rattle.octseq_dns_text.specs.declared.tail.Tail.{Tail}
-use Rattle.octseq_dns_text.specs.declared.tail.Tail.TheVariants as tail
+use Rattle.octseq_dns_data.specs.declared.layout.Field.{Field}
+use Rattle.octseq_dns_data.specs.declared.layout.Field.TheVariants as field
+use Rattle.octseq_dns_data.specs.declared.layout.Tail.{Tail}
+use Rattle.octseq_dns_data.specs.declared.layout.Tail.TheVariants as tail
 
 number_one : (size : ℕ) (word octets other : List ℕ) → IsNumber size word octets → IsNumber size word other
     → octets ≡ other
@@ -63,17 +61,13 @@ name_one None word octets other (labels, spells, (same, are, short)) (others, al
 name_one (Some origin) word octets other (labels, spells, (same, are, short)) (others, also, (equal, too, few)) =
     same ∙ ap wire (name_once_with_origin origin labels others word are short too few spells also) ∙ sym equal
 
-rtype_one : (word : List ℕ) (a b : ℕ) → ReadsRtype word a → ReadsRtype word b → a ≡ b
-unfolding ReadsRtype
-rtype_one word a b = one_number _ _ rtypes_unambiguous word a b
-
 field_one : (origin : Option (List (List ℕ))) (it : Field) (word octets other : List ℕ)
     → IsFieldText origin it word octets → IsFieldText origin it word other → octets ≡ other
 field_one origin field.U8 word octets other is also = number_one 1 word octets other is also
 field_one origin field.U16 word octets other is also = number_one 2 word octets other is also
 field_one origin field.U32 word octets other is also = number_one 4 word octets other is also
 field_one origin field.Rtype word octets other (a, is, same) (b, also, equal) =
-    same ∙ ap (octets_be 2) (rtype_one word a b is also) ∙ sym equal
+    same ∙ ap (octets_be 2) (type_once word a b is also) ∙ sym equal
 field_one origin field.Time word octets other (a, is, same) (b, also, equal) =
     same ∙ ap (octets_be 4) (time_once word a b is also) ∙ sym equal
 field_one origin field.Ipv4 word octets other is also = one_ipv4 word octets other is also

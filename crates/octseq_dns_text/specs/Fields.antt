@@ -8,8 +8,8 @@ use Rattle.octseq_dns_name.specs.Spelling.{SpellsName}
 use Rattle.octseq_dns_name.specs.Wire.{IsWireOf}
 use Rattle.octseq_dns_scan.specs.Address.{IsIpv4Word}
 use Rattle.octseq_dns_text.specs.Words.{IsNumber, IsTimeWord, IsIpv6, IsCounted, IsStringWord, IsSomeBase32hex, IsSalt}
-use Rattle.octseq_dns_text.specs.declared.field.Field.{Field}
-use Rattle.octseq_dns_text.specs.declared.field.Field.TheVariants as field
+use Rattle.octseq_dns_data.specs.declared.layout.Field.{Field}
+use Rattle.octseq_dns_data.specs.declared.layout.Field.TheVariants as field
 
 -- a type, in two octets
 abbrev pub IsRtypeWord : List ℕ → List ℕ → Type 0

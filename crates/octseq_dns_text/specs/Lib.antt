@@ -12,7 +12,6 @@ pub mod Runs
 pub mod Scans
 pub mod Shown
 pub mod SizedHex
-pub mod SizedHexLaws
 pub mod Split
 pub mod Tails
 pub mod TypesText

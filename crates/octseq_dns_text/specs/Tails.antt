@@ -8,8 +8,8 @@ use Rattle.octseq_dns_text.specs.Runs.{AreRuns}
 use Rattle.octseq_dns_text.specs.Scans.{AreSome}
 use Rattle.octseq_dns_text.specs.TypesText.{IsTypesText}
 use Rattle.octseq_dns_text.specs.Words.{IsStringWord}
-use Rattle.octseq_dns_text.specs.declared.tail.Tail.{Tail}
-use Rattle.octseq_dns_text.specs.declared.tail.Tail.TheVariants as tail
+use Rattle.octseq_dns_data.specs.declared.layout.Tail.{Tail}
+use Rattle.octseq_dns_data.specs.declared.layout.Tail.TheVariants as tail
 
 -- no word
 abbrev pub IsNothing : List (List ℕ) → List ℕ → Type 0

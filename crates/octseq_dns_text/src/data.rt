@@ -1,6 +1,7 @@
 //! The data of a record.
 ghost use Rattle.std.specs.Prelude.{◌≡◌, ◌+◌, ◌||◌, true, ℕ, Option, List, length, option_map, IsNone, IfSome, IfOk};
 ghost use Rattle.std.specs.Prelude.{IfErr, OnErr, IsErrOf};
+ghost use Rattle.octseq_dns_data.specs.declared.layout.Tail.{Tail};
 ghost use Rattle.octseq_dns_name.specs.Read.{labels_of};
 ghost use Rattle.octseq_dns_scan.specs.Word.{TakesWord};
 ghost use Rattle.octseq_dns_scan.specs.Words.{ahead_of, offset_of};
@@ -11,16 +12,15 @@ ghost use Rattle.octseq_dns_text.specs.Output.{Adds, Grows, unless_full};
 ghost use Rattle.octseq_dns_text.specs.Reached.{Reached, ReadsText};
 ghost use Rattle.octseq_dns_text.specs.Scans.{Scans, IsFault};
 ghost use Rattle.octseq_dns_text.specs.Tails.{has_list};
-ghost use Rattle.octseq_dns_text.specs.declared.tail.Tail.{Tail};
 
 use crate::error::ScanError;
-use crate::field::{Field, field_octets};
-use crate::layout::{Layout, layout_of};
+use crate::field::field_octets;
 use crate::output::{append, kept, unless_full};
 use crate::runs::{SizedHexReader, scan_runs};
 use crate::tail::scan_tail;
 use octseq::{AsOctets, OctetsBuilder, ReadError, Truncate};
-use octseq_dns_data::{Class, Rtype};
+use octseq_dns_data::layout::{Field, Layout};
+use octseq_dns_data::{Class, Rtype, layout_of};
 use octseq_dns_name::ParsedName;
 use octseq_dns_scan::{Words, scan_u16};
 use std::alloc::Global;

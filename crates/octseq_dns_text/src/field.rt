@@ -6,45 +6,17 @@ ghost use Rattle.octseq_dns_name.specs.Wire.{IsWireOf};
 ghost use Rattle.octseq_dns_text.specs.Fields.{IsRtypeWord, IsNameWord, IsTagWord, IsFieldText};
 ghost use Rattle.octseq_dns_text.specs.Words.{IsCounted};
 
+use crate::types::scan_type;
 use crate::word::{
     counted, hash_octets, held, ipv4_octets, ipv6_octets, salt_octets, string_octets, time_octets,
     u8_octets, u16_octets, u32_octets,
 };
 use octseq::{Array, AsOctets};
-use octseq_dns_data::{Rtype, is_tag};
+use octseq_dns_data::is_tag;
+use octseq_dns_data::layout::Field;
 use octseq_dns_name::name::a_name_has_labels;
 use octseq_dns_name::{Name, ParsedName};
 use octseq_dns_scan::STRING_MAX;
-use std::str;
-
-/// A part of data that is one word of its text.
-#[derive(Clone, Copy, Debug, PartialEq, Eq)]
-pub(crate) enum Field {
-    /// A number of 8 bits.
-    U8,
-    /// A number of 16 bits.
-    U16,
-    /// A number of 32 bits.
-    U32,
-    /// A record type.
-    Rtype,
-    /// A time: RFC 4034, 3.2.
-    Time,
-    /// An IPv4 address.
-    Ipv4,
-    /// An IPv6 address.
-    Ipv6,
-    /// A domain name.
-    Name,
-    /// A character string.
-    String,
-    /// A property tag: RFC 8659, 4.1.
-    Tag,
-    /// A salt: RFC 5155, 3.3.
-    Salt,
-    /// A hashed owner name: RFC 5155, 3.3.
-    OwnerHash,
-}
 
 /// Returns the octets of a field, or `None` if the word isn't one.
 pub(crate) fn field_octets<R: AsOctets + Copy>(
@@ -73,17 +45,14 @@ pub(crate) fn field_octets<R: AsOctets + Copy>(
     }
 }
 
-/// Returns the octets of a type: a mnemonic, or `TYPE` and a number (RFC 3597, 5).
+/// Returns the octets of a type.
 fn rtype_octets(word: &[u8]) -> Option<Array<256>>
     ensures some { IfSome result (λ found. IsRtypeWord word.now found.content) }
     ensures none { IsNone result → (octets : List ℕ) → ¬ (IsRtypeWord word.now octets) }
 {
-    match str::from_utf8(word) {
-        Ok(text) => match text.parse::<Rtype>() {
-            Ok(rtype) => Some(held(&rtype.to_int().to_be_bytes())),
-            Err(_) => None,
-        },
-        Err(_) => None,
+    match scan_type(word) {
+        Some(rtype) => Some(held(&rtype.to_int().to_be_bytes())),
+        None => None,
     }
 }
 

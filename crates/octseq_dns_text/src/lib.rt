@@ -5,7 +5,6 @@ pub mod data;
 pub mod error;
 mod field;
 pub mod laws;
-mod layout;
 mod output;
 pub mod params;
 mod runs;

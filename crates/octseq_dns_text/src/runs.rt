@@ -38,26 +38,26 @@ pub(crate) trait RunReader: Copy {
         ensures open { IsFalse result → (start : Self) (text octets other : List ℕ)
             → has_read start self text octets → AreOctets other → ¬ (is_text start text other) };
 
-    // What was read is octets, and goes on to a text.
+    /// Some text goes on from what was read.
+    ///
+    /// It does nothing. Calling it brings the law into the caller's proof.
+    fn has_text(self)
+        ensures { (start : Self) (text octets : List ℕ) → has_read start self text octets
+            → (more all : List ℕ) × AreOctets all × is_text start (text ++ more) all };
+
+    // What was read is octets.
     ghost made: { (start reader : Self) (text octets : List ℕ) → has_read start reader text octets
         → AreOctets octets };
-
-    ghost goes: { (start reader : Self) (text octets : List ℕ) → has_read start reader text octets
-        → (more all : List ℕ) × AreOctets all × is_text start (text ++ more) all };
 }
 
 impl RunReader for HexReader {
     ghost use Rattle.octseq_dns_scan.specs.HexRead.{HasReadHex};
-    ghost use Rattle.octseq_dns_scan.proofs.HexTexts.{hex_goes_on};
 
     ghost is_text = { λ _. IsHexText };
 
     ghost has_read = { λ _. HasReadHex };
 
     ghost made = { λ start reader text octets read. read.each };
-
-    ghost goes = { λ start reader text octets read.
-        hex_goes_on reader.high text octets reader.small read.each read.same };
 
     fn take(self, octet: u8) -> Option<(HexReader, Array<4>)> {
         let mut made = Array::<4>::new();
@@ -70,20 +70,20 @@ impl RunReader for HexReader {
     fn is_whole(self) -> bool {
         self.finish().is_ok()
     }
+
+    fn has_text(self) {
+        HexReader::has_text(self);
+    }
 }
 
 impl RunReader for Base64Reader {
     ghost use Rattle.octseq_dns_scan.specs.Base64Read.{HasReadBase64};
-    ghost use Rattle.octseq_dns_scan.proofs.Base64Reading.{base64_goes_on};
 
     ghost is_text = { λ _. IsBase64Text };
 
     ghost has_read = { λ _. HasReadBase64 };
 
     ghost made = { λ start reader text octets read. read.0 };
-
-    ghost goes = { λ start reader text octets read.
-        base64_goes_on reader.place reader.bits text octets reader.few read };
 
     fn take(self, octet: u8) -> Option<(Base64Reader, Array<4>)> {
         let mut made = Array::<4>::new();
@@ -95,6 +95,10 @@ impl RunReader for Base64Reader {
 
     fn is_whole(self) -> bool {
         self.finish().is_ok()
+    }
+
+    fn has_text(self) {
+        Base64Reader::has_text(self);
     }
 }
 
@@ -121,7 +125,6 @@ impl SizedHexReader {
 }
 
 impl RunReader for SizedHexReader {
-    ghost use Rattle.octseq_dns_text.specs.SizedHexLaws.{sized_goes_on};
     ghost use Rattle.octseq_dns_text.specs.SizedHex.{IsSizedHexText, HasReadSizedHex};
 
     ghost is_text = { λ start. IsSizedHexText start.digits };
@@ -129,9 +132,6 @@ impl RunReader for SizedHexReader {
     ghost has_read = { HasReadSizedHex };
 
     ghost made = { λ start reader text octets read. read.read.each };
-
-    ghost goes = { λ start reader text octets read. sized_goes_on reader.reader.high reader.digits read.half text octets
-        reader.reader.small read.read.each read.read.same start.digits read.left read.even };
 
     fn take(self, octet: u8) -> Option<(SizedHexReader, Array<4>)> {
         if self.digits == 0 {
@@ -145,6 +145,8 @@ impl RunReader for SizedHexReader {
     fn is_whole(self) -> bool {
         self.digits == 0
     }
+
+    fn has_text(self) {}
 }
 
 /// Appends the octets of all words, which are one or more runs. If they aren't, the octets of some may be appended.
@@ -159,6 +161,7 @@ pub(crate) fn scan_some_runs<R: RunReader, B: OctetsBuilder>(
     ensures grows { Grows (B.content target.old) (B.content target.new) }
     ensures borrows { B.borrows target.new ≡ B.borrows target.old }
 {
+    reader.has_text();
     if words.is_at_end() {
         return Err(ScanError::Malformed(words.offset()));
     }
@@ -181,6 +184,7 @@ pub(crate) fn scan_runs<R: RunReader, B: OctetsBuilder>(
     let mut after = reader;
     let mut full = false;
     'words: while let Some(word) = ahead.next_word() {
+        after.has_text();
         match append_run(word.octets, after, target, full) {
             Ok(read) => {
                 after = read.0;
@@ -190,6 +194,7 @@ pub(crate) fn scan_runs<R: RunReader, B: OctetsBuilder>(
             Err(ReadError::Memory) => return Err(ScanError::Memory),
         }
     }
+    after.has_text();
     if !ahead.is_at_end() {
         return Err(ScanError::Malformed(ahead.offset()));
     }

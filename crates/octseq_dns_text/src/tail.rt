@@ -13,29 +13,9 @@ use crate::runs::scan_some_runs;
 use crate::types::scan_types;
 use crate::word::string_octets;
 use octseq::{OctetsBuilder, Truncate};
+use octseq_dns_data::layout::Tail;
 use octseq_dns_scan::{Base64Reader, HexReader, StringError, Words, scan_string, string_len};
 use std::alloc::Global;
-
-/// What comes after the fields, up to the end of the text.
-#[derive(Clone, Copy, Debug, PartialEq, Eq)]
-pub(crate) enum Tail {
-    /// Nothing.
-    Nothing,
-    /// A string of any length.
-    Value,
-    /// A string of one or more octets.
-    Target,
-    /// One or more character strings.
-    Strings,
-    /// Octets in hexadecimal, in one or more runs.
-    Hex,
-    /// Octets in base 64, in one or more runs.
-    Base64,
-    /// A set of record types.
-    Types,
-    /// Service parameters.
-    Params,
-}
 
 /// Appends the octets of all words, which are a tail. If they aren't, some may be appended.
 pub(crate) fn scan_tail<B: OctetsBuilder + Truncate>(

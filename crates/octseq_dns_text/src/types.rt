@@ -109,8 +109,8 @@ fn next_type(words: &mut Words) -> Option<Rtype>
     scan_type(word.octets)
 }
 
-/// Reads a word as a type.
-fn scan_type(word: &[u8]) -> Option<Rtype>
+/// Reads a word as a type: a mnemonic, or `TYPE` and a number (RFC 3597, 5).
+pub(crate) fn scan_type(word: &[u8]) -> Option<Rtype>
     ensures some { IfSome result (ReadsRtype word.now) }
     ensures none { IfNone result ((rtype : ℕ) → ¬ ReadsRtype word.now rtype) }
 {

@@ -5,6 +5,7 @@ ghost use Rattle.octseq_dns_data.specs.Data.{ParsedRdata};
 ghost use Rattle.octseq_dns_data.specs.Typed.{rdata_of};
 
 use crate::data::Data;
+use crate::layout::{Field, Layout, Tail};
 use octseq::AsOctets;
 use std::net::{Ipv4Addr, Ipv6Addr};
 
@@ -48,3 +49,15 @@ impl<R: AsOctets> Data<R> {
         }
     }
 }
+
+/// How the text of an IPv4 address is read: RFC 1035, 3.4.1.
+pub(crate) const A_LAYOUT: Layout = Layout {
+    fields: &[Field::Ipv4],
+    tail: Tail::Nothing,
+};
+
+/// How the text of an IPv6 address is read: RFC 3596, 2.4.
+pub(crate) const AAAA_LAYOUT: Layout = Layout {
+    fields: &[Field::Ipv6],
+    tail: Tail::Nothing,
+};

@@ -4,6 +4,7 @@ ghost use Rattle.octseq_dns_data.specs.Typed.{caa_form, caa_of};
 
 use crate::data::formed::Formed;
 use crate::data::some_octets::CaaTag;
+use crate::layout::{Field, Layout, Tail};
 use crate::tag::write_tag;
 use octseq::octets_text::write_string;
 use octseq::{AsOctets, Parser};
@@ -48,6 +49,12 @@ impl<R: AsOctets + Copy> Fields<R> for Caa<R> {
         (self.flags, self.tag, self.value)
     }
 }
+
+/// How its text is read: RFC 8659, 4.1.1.
+pub(crate) const LAYOUT: Layout = Layout {
+    fields: &[Field::U8, Field::Tag],
+    tail: Tail::Value,
+};
 
 /// Prints the flags, the tag as it is, and the value as a string in `"`.
 impl<R: AsOctets + Copy> fmt::Display for Caa<R> {

@@ -3,6 +3,7 @@ ghost use Rattle.std.specs.Prelude.{◌≡◌, ⊤, Some};
 ghost use Rattle.octseq_dns_data.specs.Typed.{csync_form, csync_of};
 
 use crate::data::formed::Formed;
+use crate::layout::{Field, Layout, Tail};
 use crate::rtype_bitmap::RtypeBitmap;
 use octseq::AsOctets;
 use octseq_format::{Fields, Format, U16Be, U32Be};
@@ -50,6 +51,12 @@ impl<R: AsOctets + Copy> Fields<R> for Csync<R> {
         (self.serial, self.flags, self.types)
     }
 }
+
+/// How its text is read: RFC 7477, 2.2.
+pub(crate) const LAYOUT: Layout = Layout {
+    fields: &[Field::U32, Field::U16],
+    tail: Tail::Types,
+};
 
 /// Prints the serial number, the flags, and each type after a space.
 impl<R: AsOctets + Copy> fmt::Display for Csync<R> {

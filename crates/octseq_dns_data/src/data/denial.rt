@@ -11,6 +11,7 @@ use crate::data::formed::Formed;
 use crate::data::plain_name::PlainName;
 use crate::data::some_octets::OwnerHash;
 use crate::data::txt::CharStr;
+use crate::layout::{Field, Layout, Tail};
 use crate::rtype_bitmap::RtypeBitmap;
 use octseq::AsOctets;
 use octseq::octets_text::write_hex;
@@ -54,6 +55,12 @@ impl<R: AsOctets + Copy> Fields<R> for Nsec<R> {
         (self.next_name, self.types)
     }
 }
+
+/// How the text of a next name is read: RFC 4034, 4.2.
+pub(crate) const NSEC_LAYOUT: Layout = Layout {
+    fields: &[Field::Name],
+    tail: Tail::Types,
+};
 
 /// Prints the next name, and each type after a space.
 impl<R: AsOctets + Copy> fmt::Display for Nsec<R> {
@@ -137,6 +144,18 @@ impl<R: AsOctets + Copy> Fields<R> for Nsec3<R> {
     }
 }
 
+/// How the text of a next hashed name is read: RFC 5155, 3.3.
+pub(crate) const NSEC3_LAYOUT: Layout = Layout {
+    fields: &[
+        Field::U8,
+        Field::U8,
+        Field::U16,
+        Field::Salt,
+        Field::OwnerHash,
+    ],
+    tail: Tail::Types,
+};
+
 /// Prints the three numbers, the salt in hexadecimal, the next hash in base 32, and each type after a space.
 impl<R: AsOctets + Copy> fmt::Display for Nsec3<R> {
     ghost output = { λ nsec. Some (nsec3_form.text (nsec3_of nsec)) };
@@ -194,6 +213,12 @@ impl<R: AsOctets + Copy> Fields<R> for Nsec3param<R> {
         (self.hash_algorithm, self.flags, self.iterations, self.salt)
     }
 }
+
+/// How the text of parameters is read: RFC 5155, 4.3.
+pub(crate) const NSEC3PARAM_LAYOUT: Layout = Layout {
+    fields: &[Field::U8, Field::U8, Field::U16, Field::Salt],
+    tail: Tail::Nothing,
+};
 
 /// Prints the three numbers, and the salt in hexadecimal, or `-` if it is empty.
 impl<R: AsOctets + Copy> fmt::Display for Nsec3param<R> {

@@ -5,6 +5,7 @@ ghost use Rattle.octseq_dns_data.specs.Typed.{dhcid_form, dhcid_of};
 use crate::base_text::write_base64;
 use crate::data::formed::Formed;
 use crate::data::some_octets::SomeOctets;
+use crate::layout::{Layout, Tail};
 use octseq::AsOctets;
 use octseq_format::{Fields, Format};
 use std::alloc::AllocError;
@@ -42,6 +43,12 @@ impl<R: AsOctets + Copy> Fields<R> for Dhcid<R> {
         self.identity
     }
 }
+
+/// How its text is read: RFC 4701, 3.2.
+pub(crate) const LAYOUT: Layout = Layout {
+    fields: &[],
+    tail: Tail::Base64,
+};
 
 /// Prints the octets in base 64.
 impl<R: AsOctets + Copy> fmt::Display for Dhcid<R> {

@@ -11,6 +11,7 @@ use crate::data::formed::Formed;
 use crate::data::plain_name::PlainName;
 use crate::data::some_octets::SomeOctets;
 use crate::iana::Rtype;
+use crate::layout::{Field, Layout, Tail};
 use octseq::AsOctets;
 use octseq::octets_text::write_hex;
 use octseq_dns_name::ParsedName;
@@ -62,6 +63,12 @@ impl<R: AsOctets + Copy> Fields<R> for Ds<R> {
         (self.key_tag, self.algorithm, self.digest_type, self.digest)
     }
 }
+
+/// How the text of a digest is read: RFC 4034, 5.3.
+pub(crate) const DS_LAYOUT: Layout = Layout {
+    fields: &[Field::U16, Field::U8, Field::U8],
+    tail: Tail::Hex,
+};
 
 /// Prints the three numbers, and the digest in hexadecimal.
 impl<R: AsOctets + Copy> fmt::Display for Ds<R> {
@@ -123,6 +130,12 @@ impl<R: AsOctets + Copy> Fields<R> for Dnskey<R> {
         (self.flags, self.protocol, self.algorithm, self.public_key)
     }
 }
+
+/// How the text of a key is read: RFC 4034, 2.2.
+pub(crate) const DNSKEY_LAYOUT: Layout = Layout {
+    fields: &[Field::U16, Field::U8, Field::U8],
+    tail: Tail::Base64,
+};
 
 /// Prints the three numbers, and the key in base 64.
 impl<R: AsOctets + Copy> fmt::Display for Dnskey<R> {
@@ -235,6 +248,21 @@ impl<R: AsOctets + Copy> Fields<R> for Rrsig<R> {
         )
     }
 }
+
+/// How the text of a signature is read: RFC 4034, 3.2.
+pub(crate) const RRSIG_LAYOUT: Layout = Layout {
+    fields: &[
+        Field::Rtype,
+        Field::U8,
+        Field::U8,
+        Field::U32,
+        Field::Time,
+        Field::Time,
+        Field::U16,
+        Field::Name,
+    ],
+    tail: Tail::Base64,
+};
 
 /// Prints the type covered, the numbers, the signer's name, and the signature in base 64.
 impl<R: AsOctets + Copy> fmt::Display for Rrsig<R> {

@@ -4,6 +4,7 @@ ghost use Rattle.octseq_dns_data.specs.Typed.{hinfo_form, hinfo_of};
 
 use crate::data::formed::Formed;
 use crate::data::txt::CharStr;
+use crate::layout::{Field, Layout, Tail};
 use octseq::AsOctets;
 use octseq_format::{Counted, Fields, Format, U8};
 use std::alloc::AllocError;
@@ -47,6 +48,12 @@ impl<R: AsOctets + Copy> Fields<R> for Hinfo<R> {
         (self.cpu, self.os)
     }
 }
+
+/// How its text is read: RFC 1035, 3.3.2.
+pub(crate) const LAYOUT: Layout = Layout {
+    fields: &[Field::String, Field::String],
+    tail: Tail::Nothing,
+};
 
 /// Prints both strings.
 impl<R: AsOctets + Copy> fmt::Display for Hinfo<R> {

@@ -4,6 +4,7 @@ ghost use Rattle.octseq_dns_data.specs.Typed.{certificate_form, sshfp_form, sshf
 
 use crate::data::formed::Formed;
 use crate::data::some_octets::SomeOctets;
+use crate::layout::{Field, Layout, Tail};
 use octseq::AsOctets;
 use octseq::octets_text::write_hex;
 use octseq_format::{Fields, Format, U8};
@@ -59,6 +60,12 @@ impl<R: AsOctets + Copy> Fields<R> for Tlsa<R> {
         )
     }
 }
+
+/// How the text of a certificate association is read: RFC 6698, 2.2.
+pub(crate) const TLSA_LAYOUT: Layout = Layout {
+    fields: &[Field::U8, Field::U8, Field::U8],
+    tail: Tail::Hex,
+};
 
 /// Prints the three numbers, and the octets in hexadecimal.
 impl<R: AsOctets + Copy> fmt::Display for Tlsa<R> {
@@ -117,6 +124,12 @@ impl<R: AsOctets + Copy> Fields<R> for Sshfp<R> {
         (self.algorithm, self.fingerprint_type, self.fingerprint)
     }
 }
+
+/// How the text of a fingerprint is read: RFC 4255, 3.2.
+pub(crate) const SSHFP_LAYOUT: Layout = Layout {
+    fields: &[Field::U8, Field::U8],
+    tail: Tail::Hex,
+};
 
 /// Prints both numbers, and the fingerprint in hexadecimal.
 impl<R: AsOctets + Copy> fmt::Display for Sshfp<R> {

@@ -2,6 +2,7 @@
 ghost use Rattle.std.specs.Prelude.{◌≡◌, ⊤, Some};
 ghost use Rattle.octseq_dns_data.specs.Typed.{mx_form, mx_of, mx_parts};
 
+use crate::layout::{Field, Layout, Tail};
 use octseq::AsOctets;
 use octseq_dns_name::{DomainName, ParsedName};
 use octseq_format::{Fields, Format, U16Be};
@@ -46,6 +47,12 @@ impl<R: AsOctets + Copy> Fields<R> for Mx<R> {
         (self.preference, self.exchange)
     }
 }
+
+/// How its text is read: RFC 1035, 3.3.9.
+pub(crate) const LAYOUT: Layout = Layout {
+    fields: &[Field::U16, Field::Name],
+    tail: Tail::Nothing,
+};
 
 /// Prints the preference and the exchange.
 impl<R: AsOctets + Copy> fmt::Display for Mx<R> {

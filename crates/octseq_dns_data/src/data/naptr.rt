@@ -4,6 +4,7 @@ ghost use Rattle.octseq_dns_data.specs.Typed.{naptr_form, naptr_of, naptr_parts}
 
 use crate::data::formed::Formed;
 use crate::data::txt::CharStr;
+use crate::layout::{Field, Layout, Tail};
 use octseq::AsOctets;
 use octseq_dns_name::{DomainName, ParsedName};
 use octseq_format::{Counted, Fields, Format, U8, U16Be};
@@ -81,6 +82,19 @@ impl<R: AsOctets + Copy> Fields<R> for Naptr<R> {
         )
     }
 }
+
+/// How its text is read: RFC 3403, 4.1.
+pub(crate) const LAYOUT: Layout = Layout {
+    fields: &[
+        Field::U16,
+        Field::U16,
+        Field::String,
+        Field::String,
+        Field::String,
+        Field::Name,
+    ],
+    tail: Tail::Nothing,
+};
 
 /// Prints the order, the preference, the three strings and the replacement.
 impl<R: AsOctets + Copy> fmt::Display for Naptr<R> {

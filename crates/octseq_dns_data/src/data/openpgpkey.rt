@@ -5,6 +5,7 @@ ghost use Rattle.octseq_dns_data.specs.Typed.{openpgpkey_form, openpgpkey_of};
 use crate::base_text::write_base64;
 use crate::data::formed::Formed;
 use crate::data::some_octets::SomeOctets;
+use crate::layout::{Layout, Tail};
 use octseq::AsOctets;
 use octseq_format::{Fields, Format};
 use std::alloc::AllocError;
@@ -42,6 +43,12 @@ impl<R: AsOctets + Copy> Fields<R> for Openpgpkey<R> {
         self.key
     }
 }
+
+/// How its text is read: RFC 7929, 2.3.
+pub(crate) const LAYOUT: Layout = Layout {
+    fields: &[],
+    tail: Tail::Base64,
+};
 
 /// Prints the key in base 64.
 impl<R: AsOctets + Copy> fmt::Display for Openpgpkey<R> {

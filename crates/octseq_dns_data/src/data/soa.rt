@@ -2,6 +2,7 @@
 ghost use Rattle.std.specs.Prelude.{◌≡◌, ⊤, Some};
 ghost use Rattle.octseq_dns_data.specs.Typed.{soa_form, soa_of, soa_parts};
 
+use crate::layout::{Field, Layout, Tail};
 use octseq::AsOctets;
 use octseq_dns_name::{DomainName, ParsedName};
 use octseq_format::{Fields, Format, U32Be};
@@ -77,6 +78,20 @@ impl<R: AsOctets + Copy> Fields<R> for Soa<R> {
         )
     }
 }
+
+/// How its text is read: RFC 1035, 3.3.13.
+pub(crate) const LAYOUT: Layout = Layout {
+    fields: &[
+        Field::Name,
+        Field::Name,
+        Field::U32,
+        Field::U32,
+        Field::U32,
+        Field::U32,
+        Field::U32,
+    ],
+    tail: Tail::Nothing,
+};
 
 /// Prints both names and the five numbers in order.
 impl<R: AsOctets + Copy> fmt::Display for Soa<R> {

@@ -2,6 +2,7 @@
 ghost use Rattle.std.specs.Prelude.{◌≡◌, ⊤, Some};
 ghost use Rattle.octseq_dns_data.specs.Typed.{srv_form, srv_of, srv_parts};
 
+use crate::layout::{Field, Layout, Tail};
 use octseq::AsOctets;
 use octseq_dns_name::{DomainName, ParsedName};
 use octseq_format::{Fields, Format, U16Be};
@@ -52,6 +53,12 @@ impl<R: AsOctets + Copy> Fields<R> for Srv<R> {
         (self.priority, self.weight, self.port, self.target)
     }
 }
+
+/// How its text is read: RFC 2782.
+pub(crate) const LAYOUT: Layout = Layout {
+    fields: &[Field::U16, Field::U16, Field::U16, Field::Name],
+    tail: Tail::Nothing,
+};
 
 /// Prints the priority, the weight, the port and the target.
 impl<R: AsOctets + Copy> fmt::Display for Srv<R> {

@@ -4,6 +4,7 @@ ghost use Rattle.octseq_dns_data.specs.Typed.{service_form, svcb_of};
 
 use crate::data::formed::Formed;
 use crate::data::plain_name::PlainName;
+use crate::layout::{Field, Layout, Tail};
 use crate::svc_params::SvcParams;
 use octseq::AsOctets;
 use octseq_dns_name::ParsedName;
@@ -52,6 +53,12 @@ impl<R: AsOctets + Copy> Fields<R> for Svcb<R> {
         (self.priority, self.target, self.params)
     }
 }
+
+/// How its text is read: RFC 9460, 2.1.
+pub(crate) const LAYOUT: Layout = Layout {
+    fields: &[Field::U16, Field::Name],
+    tail: Tail::Params,
+};
 
 /// Prints the priority, the target, and each parameter after a space.
 impl<R: AsOctets + Copy> fmt::Display for Svcb<R> {

@@ -8,6 +8,7 @@ ghost use Rattle.octseq_dns_data.specs.Strings.{HasString, spelling};
 
 use crate::data::formed::FormedOctets;
 use crate::data::string::{CharacterString, take_string};
+use crate::layout::{Layout, Tail};
 use octseq::octets_text::write_string;
 use octseq::{AsOctets, Parser, Turns};
 use octseq_dns_name::Malformed;
@@ -227,6 +228,12 @@ impl<R: AsOctets + Copy> Txt<R> {
         }
     }
 }
+
+/// How its text is read: RFC 1035, 3.3.14.
+pub(crate) const LAYOUT: Layout = Layout {
+    fields: &[],
+    tail: Tail::Strings,
+};
 
 /// Prints the strings, separated by spaces.
 impl<R: AsOctets + Copy> fmt::Display for Txt<R> {

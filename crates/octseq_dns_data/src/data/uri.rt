@@ -4,6 +4,7 @@ ghost use Rattle.octseq_dns_data.specs.Typed.{uri_form, uri_of};
 
 use crate::data::formed::Formed;
 use crate::data::some_octets::SomeOctets;
+use crate::layout::{Field, Layout, Tail};
 use octseq::AsOctets;
 use octseq::octets_text::write_string;
 use octseq_format::{Fields, Format, U16Be};
@@ -51,6 +52,12 @@ impl<R: AsOctets + Copy> Fields<R> for Uri<R> {
         (self.priority, self.weight, self.target)
     }
 }
+
+/// How its text is read: RFC 7553, 4.5.
+pub(crate) const LAYOUT: Layout = Layout {
+    fields: &[Field::U16, Field::U16],
+    tail: Tail::Target,
+};
 
 /// Prints both numbers, and the URI as a string in `"`.
 impl<R: AsOctets + Copy> fmt::Display for Uri<R> {

@@ -11,8 +11,8 @@ use Rattle.octseq_dns_text.specs.Fields.{IsFieldText}
 use Rattle.octseq_dns_text.specs.Layouts.{IsLayoutText}
 use Rattle.octseq_dns_text.specs.Reached.{Reached}
 use Rattle.octseq_dns_text.specs.Scans.{IsFault}
-use Rattle.octseq_dns_text.specs.declared.field.Field.{Field}
-use Rattle.octseq_dns_text.specs.declared.tail.Tail.{Tail}
+use Rattle.octseq_dns_data.specs.declared.layout.Field.{Field}
+use Rattle.octseq_dns_data.specs.declared.layout.Tail.{Tail}
 use Rattle.octseq_dns_text.proofs.data.append_fields.Goals as goal
 
 pub fields-init : goal.fields-init

@@ -55,7 +55,7 @@ returns-in-Err-Malformed-clause-reads g c =
     (reached_fault (λ front made. g.R.RunReader.has_read start c.words.after (concat front) made) (AreRuns Is)
     (ahead_of c.args.words) (offset_of c.args.words) g.B.AsOctets.limit base ahead (offset_of c.words.ahead)
     c.words.full (g.B.AsOctets.content c.words.target) so_far.reached
-    (λ front made read. runs_go Is front (g.met.R.RunReader.goes start c.words.after (concat front) made read))
+    (λ front made read. runs_go Is front (c.has_text.ensures start (concat front) made read))
     (λ front made other left read takes. subst (λ w. ¬ Goes (AreRuns Is) (front ++ w ∷ []))
     (sym (word_once other word ahead left (ahead_of c.next_word.new.self) takes taken).0)
     (runs_stop Is front word (c.in-Err-Malformed.ensures.malformed (cc) start (concat front) made read)))
@@ -79,7 +79,7 @@ returns-then-not-is_at_end-clause-reads g c =
     (g.B.AsOctets.content c.words.target)
     (reached_fault IsFront (AreRuns Is) (ahead_of c.args.words) (offset_of c.args.words) g.B.AsOctets.limit base ahead
     (offset_of c.next_word.new.self) c.words.full (g.B.AsOctets.content c.words.target) reached
-    (λ front made read. runs_go Is front (g.met.R.RunReader.goes start c.words.after (concat front) made read))
+    (λ front made read. runs_go Is front (c.has_text.ensures start (concat front) made read))
     (λ front made word left read takes. absurd (c.in_default.ensures.none refl word left
     (subst (λ text. TakesWord word text left) c.in_default.ensures.kept takes)))
     (λ front made octets read none. absurd (some none))))
@@ -101,7 +101,7 @@ returns-then-not-is_whole-clause-reads g c =
     (g.B.AsOctets.content c.words.target)
     (reached_fault IsFront (AreRuns Is) (ahead_of c.args.words) (offset_of c.args.words) g.B.AsOctets.limit base ahead
     (offset_of c.next_word.new.self) c.words.full (g.B.AsOctets.content c.words.target) reached
-    (λ front made read. runs_go Is front (g.met.R.RunReader.goes start c.words.after (concat front) made read))
+    (λ front made read. runs_go Is front (c.has_text.ensures start (concat front) made read))
     (λ front made word left read takes. absurd (c.in_default.ensures.none refl word left
     (subst (λ text. TakesWord word text left) c.in_default.ensures.kept takes)))
     (λ front made octets read none is. c.if-not-is_whole.ensures.open (search rules) start (concat front) made octets

@@ -12,7 +12,7 @@ returns-then-is_at_end-clause-reads g c =
     let start = c.args.reader in
     let Is = g.R.RunReader.is_text start in
     let none : ahead_of c.args.words ≡ [] = search rules in
-    let first = some_runs_go Is (g.met.R.RunReader.goes start start [] [] c.requires) in
+    let first = some_runs_go Is (c.has_text.ensures start [] [] c.requires) in
     rw c.offset.ensures (reads_malformed (AreSome (AreRuns Is)) g.B.AsOctets.limit g.B.AsOctets.asks
     (ahead_of c.args.words)
     (offset_of c.args.words) (offset_of c.args.words) (g.B.AsOctets.content c.args.target.now)
@@ -25,7 +25,7 @@ returns-clause-reads g c =
     let Is = g.R.RunReader.is_text start in
     let ahead = ahead_of c.args.words in
     let some : ¬ (ahead ≡ []) = search rules in
-    let first = some_runs_go Is (g.met.R.RunReader.goes start start [] [] c.requires) in
+    let first = some_runs_go Is (c.has_text.ensures start [] [] c.requires) in
     reads_less (AreRuns Is) (AreSome (AreRuns Is)) g.B.AsOctets.limit g.B.AsOctets.asks c.scan_runs.result ahead
     (offset_of c.args.words) (g.B.AsOctets.content c.args.target.now) (g.B.AsOctets.content c.scan_runs.new.target)
     (some_words (AreRuns Is) ahead some) (some_fault (AreRuns Is) ahead
