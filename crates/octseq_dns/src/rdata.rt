@@ -6,21 +6,18 @@ ghost use Rattle.octseq_dns_compress.specs.Composed.{Composes, message_limit};
 ghost use Rattle.octseq_dns_compress.specs.Fits.{FitsField};
 ghost use Rattle.octseq_dns_compress.specs.State.{Field, label_count, with_fields};
 ghost use Rattle.octseq_dns.specs.Rdata.{bare_rdata, rdata_fields, rtype_of};
-ghost use Rattle.octseq_dns_data.specs.Data.{ParsedRdata, FitsForm};
-ghost use Rattle.octseq_dns_data.specs.Rtype.{rrsig};
-ghost use Rattle.octseq_dns_data.specs.Typed.{rdata_of, mx_of, rrsig_of, soa_of, srv_of};
+ghost use Rattle.octseq_dns_data.specs.Data.{ParsedRdata};
+ghost use Rattle.octseq_dns_data.specs.Typed.{rdata_of, mx_of, soa_of, srv_of};
 
 use octseq::builder::{AsOctetsMut, infallible};
 use octseq::{AppendError, Array, AsOctets, OctetsBuilder, Truncate, Turns};
 use octseq_dns_compress::{Composer, Compressor};
-use octseq_dns_data::data::{
-    Caa, Csync, Dhcid, Dnskey, Ds, Hinfo, Mx, Naptr, Nsec, Nsec3, Nsec3param, Openpgpkey,
-    PlainName, Rrsig, Soa, Srv, Sshfp, Svcb, Tlsa, Uri,
-};
+use octseq_dns_data::data::{FormWriter, Mx, Soa, Srv};
 use octseq_dns_data::{Data, Rtype};
 use octseq_dns_name::DomainName;
 use octseq_dns_name::name::a_name_has_labels;
-use octseq_format::{Format, Of};
+use octseq_format::Format;
+use std::marker::PhantomData;
 
 /// Record data that can be written: its type, and its fields, each of which is a name that may be compressed, or
 /// octets.
@@ -107,7 +104,6 @@ impl<R: AsOctets + Copy> ComposeRecordData for Data<R> {
         message: &mut Composer<B, T>,
         turns: &mut Turns,
     ) -> Result<(), AppendError> {
-        self.has_octets();
         match self {
             Data::A(address) => message.append_slice(address),
             Data::Aaaa(address) => message.append_slice(address),
@@ -118,29 +114,31 @@ impl<R: AsOctets + Copy> ComposeRecordData for Data<R> {
             Data::Soa(soa) => compose_soa(message, soa, turns),
             Data::Txt(txt) => message.append_slice(txt.as_slice()),
             Data::Srv(srv) => compose_srv(message, srv),
-            Data::Naptr(naptr) => message.append_value::<R, Of<Naptr<R>>>(naptr),
-            Data::Hinfo(hinfo) => message.append_value::<R, Of<Hinfo<R>>>(hinfo),
-            Data::Dname(name) => message.append_value::<R, PlainName>(name),
-            Data::Ds(ds) => message.append_value::<R, Of<Ds<R>>>(ds),
-            Data::Sshfp(sshfp) => message.append_value::<R, Of<Sshfp<R>>>(sshfp),
-            Data::Rrsig(sig) => compose_rrsig(message, sig),
-            Data::Nsec(nsec) => message.append_value::<R, Of<Nsec<R>>>(nsec),
-            Data::Dnskey(key) => message.append_value::<R, Of<Dnskey<R>>>(key),
-            Data::Dhcid(dhcid) => message.append_value::<R, Of<Dhcid<R>>>(dhcid),
-            Data::Nsec3(nsec) => message.append_value::<R, Of<Nsec3<R>>>(nsec),
-            Data::Nsec3param(param) => message.append_value::<R, Of<Nsec3param<R>>>(param),
-            Data::Tlsa(tlsa) => message.append_value::<R, Of<Tlsa<R>>>(tlsa),
-            Data::Smimea(tlsa) => message.append_value::<R, Of<Tlsa<R>>>(tlsa),
-            Data::Cds(ds) => message.append_value::<R, Of<Ds<R>>>(ds),
-            Data::Cdnskey(key) => message.append_value::<R, Of<Dnskey<R>>>(key),
-            Data::Openpgpkey(key) => message.append_value::<R, Of<Openpgpkey<R>>>(key),
-            Data::Csync(csync) => message.append_value::<R, Of<Csync<R>>>(csync),
-            Data::Caa(caa) => message.append_value::<R, Of<Caa<R>>>(caa),
-            Data::Svcb(svcb) => message.append_value::<R, Of<Svcb<R>>>(svcb),
-            Data::Https(svcb) => message.append_value::<R, Of<Svcb<R>>>(svcb),
-            Data::Uri(uri) => message.append_value::<R, Of<Uri<R>>>(uri),
             Data::Unknown(_, octets) => message.append_slice(octets.peek_all()),
+            _ => self.write_form::<ToMessage<B, T>>(message),
         }
+    }
+}
+
+/// Writes the values of forms to a message.
+struct ToMessage<B, T> {
+    message: PhantomData<(B, T)>,
+}
+
+impl<R: AsOctets + Copy, B: OctetsBuilder + Truncate + AsOctetsMut, T: Compressor> FormWriter<R>
+    for ToMessage<B, T> {
+    ghost use Rattle.octseq_dns_compress.specs.State.{with_octets};
+
+    type Target = Composer<B, T>;
+
+    ghost writes = { λ octets old result new. Composes (message_limit B.limit) (B.asks ≡ true) result
+        (with_octets old.state octets) old new × (B.borrows new.octets ≡ B.borrows old.octets) };
+
+    fn write<F: Format<R>>(
+        message: &mut Composer<B, T>,
+        value: &F::Value,
+    ) -> Result<(), AppendError> {
+        message.append_value::<R, F>(value)
     }
 }
 
@@ -206,20 +204,6 @@ fn compose_soa<B: OctetsBuilder + Truncate + AsOctetsMut, T: Compressor, R: AsOc
     message.append_name(&soa.mname, turns)?;
     message.append_name(&soa.rname, turns)?;
     message.append_slice(&soa_numbers(soa))
-}
-
-/// Appends the fields of RRSIG data: RFC 4034, 3.1.
-fn compose_rrsig<B: OctetsBuilder + Truncate + AsOctetsMut, T: Compressor, R: AsOctets + Copy>(
-    message: &mut Composer<B, T>,
-    sig: &Rrsig<R>,
-) -> Result<(), AppendError>
-    requires { FitsForm (ParsedRdata.local rrsig (rrsig_of sig.now)) }
-    ensures composed { Composes (message_limit B.limit) ((B.asks ≡ true) ⊎ (T.asks ≡ true)) result
-        (with_fields T.most message.old.state
-        (rdata_fields (bare_rdata (ParsedRdata.local rrsig (rrsig_of sig.now))))) message.old message.new }
-    ensures borrows { B.borrows message.new.octets ≡ B.borrows message.old.octets }
-{
-    message.append_value::<R, Of<Rrsig<R>>>(sig)
 }
 
 /// Returns the octets of the three numbers of SRV data.

@@ -9,7 +9,8 @@ use Rattle.octseq_dns_data.specs.Data.{ParsedRdata, Mx, Soa, Srv, Naptr, HasRdat
 use Rattle.octseq_dns_data.specs.Data.{HasMx, HasSoa, HasSrv, HasNaptr, IsInMessage, IsTypedData, SaysData}
 use Rattle.octseq_dns_data.specs.Data.{is_in_message, naptr_form, naptr_parts, rtype_of}
 use Rattle.octseq_dns_data.specs.Local.{IsLocal, IsWhole, NoneLocal, form}
-use Rattle.octseq_dns_data.specs.Typed.{KnownType, has_number, known_in, known_types, pick, all_types, layout_of, message_types}
+use Rattle.octseq_dns_data.specs.Typed.{KnownType, has_number, known_in, known_types, pick, all_types, layout_of}
+use Rattle.octseq_dns_data.specs.Typed.{message_types}
 use Rattle.octseq_dns_data.specs.Typed.{reading_in, mx_form, mx_parts, soa_form, soa_parts, srv_form, srv_parts}
 use Rattle.octseq_dns_name.specs.Name.{Name, HasName}
 use Rattle.octseq_dns_name.specs.NameFormat.{one_named}

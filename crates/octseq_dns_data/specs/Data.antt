@@ -1,10 +1,10 @@
 -- Record data, by type and class: RFC 1035, 3.3 and 3.4, RFC 3596, 2.2 (AAAA), RFC 2782 (SRV) and RFC 3403, 4.1
 -- (NAPTR), whose names may have pointers; and the types of `Local`.
-use Rattle.std.specs.Prelude.{◌≡◌, ℕ, ◌≤◌, ◌⊎◌, Bool, nat_eq, List, [], ◌∷◌}
-use Rattle.std.specs.List.{list_any}
+use Rattle.std.specs.Prelude.{◌≡◌, ℕ, ◌≤◌, ◌⊎◌, Bool, true, false, List, []}
 use Rattle.octseq.specs.Window.{Window, left, next, past}
 use Rattle.octseq_dns_data.specs.Local.{IsLocal, form}
-use Rattle.octseq_dns_data.specs.Typed.{has_number, message_types, mx_form, mx_parts, soa_form, soa_parts, srv_form, srv_parts}
+use Rattle.octseq_dns_data.specs.Typed.{has_number, message_types, mx_form, mx_parts, soa_form, soa_parts}
+use Rattle.octseq_dns_data.specs.Typed.{srv_form, srv_parts}
 use Rattle.octseq_dns_name.specs.Name.{Name, HasName}
 use Rattle.octseq_dns_data.specs.Rtype as types
 pub use Rattle.octseq_dns_data.specs.Strings.{HasString, HasStrings}
@@ -83,3 +83,14 @@ abbrev pub FitsForm : ParsedRdata → Type 0
 FitsForm (ParsedRdata.naptr it) = naptr_form.Fits (naptr_form.says (naptr_parts it))
 FitsForm (ParsedRdata.local k found) = (form k).Fits ((form k).says found)
 FitsForm _ = Unit {0}
+
+-- whether data is written by its form, and the octets of it
+abbrev pub is_by_form : ParsedRdata → Bool
+is_by_form (ParsedRdata.naptr it) = true
+is_by_form (ParsedRdata.local k found) = true
+is_by_form _ = false
+
+abbrev pub form_octets : ParsedRdata → List ℕ
+form_octets (ParsedRdata.naptr it) = naptr_form.octets (naptr_form.says (naptr_parts it))
+form_octets (ParsedRdata.local k found) = (form k).octets ((form k).says found)
+form_octets _ = []

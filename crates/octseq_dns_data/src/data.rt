@@ -1,11 +1,11 @@
 //! Record data, read by the record's type and class: RFC 1035, 3.3 and 3.4.
 ghost use Rattle.std.specs.Prelude.{◌≡◌, ◌≢◌, ℕ, ◌+◌, ◌-◌, ◌≤◌, List, Some, true, false, IsTrue, IsErr, IfOk, OnOk, ⊤};
-ghost use Rattle.std.specs.Prelude.{option_map};
+ghost use Rattle.std.specs.Prelude.{Result, option_map};
 ghost use Rattle.std.specs.Net.Addr.{IsIpv4Mapped, segments_of};
 ghost use Rattle.octseq.specs.Parser.{window};
 ghost use Rattle.octseq.specs.Window.{Window, left};
 ghost use Rattle.octseq_dns_data.specs.Data.{ParsedRdata, FitsForm, HasRdata, IsTypedData, SaysData, is_in_message};
-ghost use Rattle.octseq_dns_data.specs.Data.{rtype_of};
+ghost use Rattle.octseq_dns_data.specs.Data.{form_octets, is_by_form, rtype_of};
 ghost use Rattle.octseq_dns_data.specs.Local.{Agrees, IsOfClass, IsWhole, NoneLocal};
 ghost use Rattle.octseq_dns_data.specs.RdataText.{rdata_text};
 ghost use Rattle.octseq_dns_data.specs.Layout.{layout_value};
@@ -18,7 +18,7 @@ ghost use Rattle.octseq_dns_data.specs.DataText.{IsGroupsText};
 use crate::iana::{Class, Rtype};
 use crate::layout::{Layout, NAME};
 use octseq::octets_text::{write_ipv4, write_ipv6, write_opaque};
-use octseq::{AsOctets, Parser, Turns};
+use octseq::{AppendError, AsOctets, Parser, Turns};
 use octseq_dns_name::name::a_name_has_labels;
 use octseq_dns_name::{DomainName, Malformed, ParsedName};
 use octseq_format::{Fields, Format, Octets, Of};
@@ -89,6 +89,26 @@ pub fn zero_groups_are_shortened()
     ensures { (octets : List ℕ) → ¬ IsTrue (is_compatible octets) → ¬ IsIpv4Mapped (segments_of octets)
         → IsGroupsText (segments_of octets) (ipv6_address_text octets) }
 {}
+
+/// What data is written by: a value in the format of its type, in one piece.
+pub trait FormWriter<R: AsOctets + Copy> {
+    ghost use Rattle.octseq.specs.declared.AppendError.{AppendError};
+
+    /// What it is written to.
+    type Target;
+
+    // `writes octets old result new`: the octets are written to the target, or it says why they aren't.
+    ghost writes: { List ℕ → Self.Target → Result (Unit {0}) AppendError → Self.Target → Type 0 };
+
+    /// Writes the octets of a value in a format.
+    ///
+    /// # Errors
+    ///
+    /// `Short` if there is no room, `Memory` if a request for memory was refused.
+    fn write<F: Format<R>>(target: &mut Self::Target, value: &F::Value) -> Result<(), AppendError>
+        requires { F.fits (F.says (F.found value.now)) }
+        ensures { writes (F.octets (F.says (F.found value.now))) target.old result target.new };
+}
 
 /// The data of a record. Names in it stay in the message, and no octet of them is copied.
 #[derive(Debug)]
@@ -264,6 +284,42 @@ impl<R: AsOctets + Copy> Data<R> {
                 a_name_has_labels(name);
             }
             _ => {}
+        }
+    }
+
+    /// Writes data by the form of its type: NAPTR, and data that is read by itself. Its octets are written at once.
+    ///
+    /// # Errors
+    ///
+    /// Those of the writer.
+    pub fn write_form<W: FormWriter<R>>(&self, target: &mut W::Target) -> Result<(), AppendError>
+        requires { is_by_form (rdata_of self.now) ≡ true }
+        ensures { W.writes (form_octets (rdata_of self.now)) target.old result target.new }
+    {
+        self.has_octets();
+        match self {
+            Data::Naptr(naptr) => W::write::<Of<Naptr<R>>>(target, naptr),
+            Data::Hinfo(hinfo) => W::write::<Of<Hinfo<R>>>(target, hinfo),
+            Data::Dname(name) => W::write::<PlainName>(target, name),
+            Data::Ds(ds) => W::write::<Of<Ds<R>>>(target, ds),
+            Data::Sshfp(sshfp) => W::write::<Of<Sshfp<R>>>(target, sshfp),
+            Data::Rrsig(sig) => W::write::<Of<Rrsig<R>>>(target, sig),
+            Data::Nsec(nsec) => W::write::<Of<Nsec<R>>>(target, nsec),
+            Data::Dnskey(key) => W::write::<Of<Dnskey<R>>>(target, key),
+            Data::Dhcid(dhcid) => W::write::<Of<Dhcid<R>>>(target, dhcid),
+            Data::Nsec3(nsec) => W::write::<Of<Nsec3<R>>>(target, nsec),
+            Data::Nsec3param(param) => W::write::<Of<Nsec3param<R>>>(target, param),
+            Data::Tlsa(tlsa) => W::write::<Of<Tlsa<R>>>(target, tlsa),
+            Data::Smimea(tlsa) => W::write::<Of<Tlsa<R>>>(target, tlsa),
+            Data::Cds(ds) => W::write::<Of<Ds<R>>>(target, ds),
+            Data::Cdnskey(key) => W::write::<Of<Dnskey<R>>>(target, key),
+            Data::Openpgpkey(key) => W::write::<Of<Openpgpkey<R>>>(target, key),
+            Data::Csync(csync) => W::write::<Of<Csync<R>>>(target, csync),
+            Data::Caa(caa) => W::write::<Of<Caa<R>>>(target, caa),
+            Data::Svcb(svcb) => W::write::<Of<Svcb<R>>>(target, svcb),
+            Data::Https(svcb) => W::write::<Of<Svcb<R>>>(target, svcb),
+            Data::Uri(uri) => W::write::<Of<Uri<R>>>(target, uri),
+            _ => unreachable!(),
         }
     }
 
