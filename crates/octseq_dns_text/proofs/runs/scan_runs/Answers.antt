@@ -79,7 +79,7 @@ returns-then-not-is_at_end-clause-reads g c =
     (g.B.AsOctets.content c.words.target)
     (reached_fault IsFront (AreRuns Is) (ahead_of c.args.words) (offset_of c.args.words) g.B.AsOctets.limit base ahead
     (offset_of c.next_word.new.self) c.words.full (g.B.AsOctets.content c.words.target) reached
-    (λ front made read. runs_go Is front (c.has_text.ensures start (concat front) made read))
+    (λ front made read. runs_go Is front (c.has_text-2.ensures start (concat front) made read))
     (λ front made word left read takes. absurd (c.in_default.ensures.none refl word left
     (subst (λ text. TakesWord word text left) c.in_default.ensures.kept takes)))
     (λ front made octets read none. absurd (some none))))
@@ -101,7 +101,7 @@ returns-then-not-is_whole-clause-reads g c =
     (g.B.AsOctets.content c.words.target)
     (reached_fault IsFront (AreRuns Is) (ahead_of c.args.words) (offset_of c.args.words) g.B.AsOctets.limit base ahead
     (offset_of c.next_word.new.self) c.words.full (g.B.AsOctets.content c.words.target) reached
-    (λ front made read. runs_go Is front (c.has_text.ensures start (concat front) made read))
+    (λ front made read. runs_go Is front (c.has_text-2.ensures start (concat front) made read))
     (λ front made word left read takes. absurd (c.in_default.ensures.none refl word left
     (subst (λ text. TakesWord word text left) c.in_default.ensures.kept takes)))
     (λ front made octets read none is. c.if-not-is_whole.ensures.open (search rules) start (concat front) made octets
