@@ -1,3 +1,4 @@
+pub mod Composing
 pub mod Faults
 pub mod Flags
 pub mod HeaderLines
@@ -5,7 +6,9 @@ pub mod LineFaults
 pub mod MessageFaults
 pub mod MessageTexts
 pub mod Named
+pub mod Overrun
 pub mod Places
+pub mod PlainNames
 pub mod Questions
 pub mod Records
 pub mod Samples

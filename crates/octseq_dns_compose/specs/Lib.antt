@@ -1,3 +1,4 @@
+pub mod Alone
 pub mod HeaderLine
 pub mod MessageText
 pub mod QuestionText
@@ -7,3 +8,4 @@ pub mod Shown
 pub mod Take
 pub mod TakeOrder
 pub mod TextLines
+pub mod TooLong

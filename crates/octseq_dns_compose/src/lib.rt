@@ -4,6 +4,7 @@
 //! a whole message, as `octseq_dns` shows it, and composes the message with its names compressed.
 #![tactic(auto)]
 
+mod alone;
 mod entry;
 pub mod error;
 mod head;

@@ -2,7 +2,7 @@ use Rattle.std.proofs.Common.{◌≡◌, ◌+◌, None, [], length, refl, sym, a
 use Rattle.octseq.specs.Limit.{IsPast}
 use Rattle.octseq_dns_compose.specs.RecordText.{IsAnyRecord}
 use Rattle.octseq_dns_compose.specs.TextLines.{IsFaultyLine}
-use Rattle.octseq_dns_compose.proofs.LineFaults.{faulty_words, no_feed, none_of}
+use Rattle.octseq_dns_compose.proofs.LineFaults.{faulty_words, list_line, no_feed, none_of}
 use Rattle.octseq_dns_compose.proofs.Places.{malformed_at}
 use Rattle.octseq_dns_compose.proofs.entry.next_record.Goals as goal
 
@@ -55,3 +55,8 @@ returns-in_default-after_feed-clause-malformed g c = λ place is.
           (no_feed c.args.first.now (IsAnyRecord None) c.args.lines.now.ahead.now _ _ _ _ all.0 all.1
           c.split_line-line.ensures taken.0 taken.1 all.2 (_, all.3) over),
     )
+
+pub returns-in-Err-Memory-clause-memory : goal.returns-in-Err-Memory-clause-memory
+returns-in-Err-Memory-clause-memory g c = λ _.
+    list_line _ c.args.first.now c.args.lines.now.ahead.now _ _ _ c.split_line-line.ensures c.in-Some.ensures.some.0
+    (c.in-Err-Memory.ensures.memory (search rules))

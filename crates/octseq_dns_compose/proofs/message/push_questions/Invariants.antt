@@ -11,6 +11,7 @@ invariant-lines g l = (questions : List Question)
     × ((m : Message) → Writes g.T.Compressor.most m l.fn.message.state l.fn.message.header l.fn.message.counts
     → Writes g.T.Compressor.most (all_more more_questions m questions) l.message.state l.message.header
     l.message.counts)
+    × (l.message.push_limit ≡ l.fn.message.push_limit)
     × (g.B.AsOctets.borrows l.message.octets ≡ g.B.AsOctets.borrows l.fn.message.octets)
 
 abbrev pub decreases-lines : goal.decreases-lines

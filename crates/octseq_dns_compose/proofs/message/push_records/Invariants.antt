@@ -8,6 +8,7 @@ invariant-lines g l = (said : List Said)
     × HasRead (IsRecordLine l.section) l.fn.lines.ahead.now l.lines.ahead.now l.fn.lines.number l.lines.number said
     × HasWritten g.T.Compressor.most g.S.RecordSection.more said l.fn.message.state l.message.state
     l.fn.message.header l.message.header l.fn.message.counts l.message.counts
+    × (l.message.push_limit ≡ l.fn.message.push_limit)
     × (g.B.AsOctets.borrows l.message.octets ≡ g.B.AsOctets.borrows l.fn.message.octets)
 
 abbrev pub decreases-lines : goal.decreases-lines
