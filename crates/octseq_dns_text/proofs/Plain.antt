@@ -235,7 +235,7 @@ with_commas_bare text (x ∷ xs) plain =
 
 -- ---- words
 
-plain_special : (octet : ℕ) → IsPlain octet → is_special octet ≡ false
+pub plain_special : (octet : ℕ) → IsPlain octet → is_special octet ≡ false
 plain_special octet is =
     let quote = ne_eqb 34 octet (λ e. is.0 (sym e)) in
     let backslash = ne_eqb 92 octet (λ e. is.3 (sym e)) in
