@@ -2,15 +2,17 @@
 use Rattle.std.proofs.Common.{◌≡◌, ℕ, ◌+◌, ◌/◌, ◌%◌, ◌<◌, Bool, true, false, inl, List, [], ◌∷◌, ◌++◌, length}
 use Rattle.std.proofs.Common.{refl, sym, ap, ◌∙◌, append_assoc, length-append, arith, rules, if◌then◌else◌}
 use Rattle.std.specs.Char.{is_ascii_graphic}
-use Rattle.std.specs.List.{All}
-use Rattle.octseq.specs.OctetsText.{string_text, three_digits}
+use Rattle.std.specs.List.{All, flat_map}
+use Rattle.std.specs.Prelude.{◌||◌, ◌==◌}
+use Rattle.std.proofs.Math.Bool.{true≢false}
+use Rattle.octseq.specs.OctetsText.{is_string_quoted, string_octet_text, string_text, three_digits}
 use Rattle.octseq_dns_name.specs.Text.{is_quoted, label_text, labels_text, name_text, octet_text}
 use Rattle.octseq_dns_scan.proofs.Mades.{head, made_append, made_first, made_none, tail}
 use Rattle.octseq_dns_scan.proofs.StringWords.{string_spelled, string_word}
 use Rattle.octseq_dns_scan.specs.Made.{IsMade}
 use Rattle.octseq_dns_scan.specs.Word.{is_special, IsPart, IsPieceBut}
 use Rattle.octseq_dns_text.specs.DataText.{opaque_word}
-use Rattle.octseq_dns_text.proofs.SpacedWords.{IsFirst, IsOrdinary, high_ordinary}
+use Rattle.octseq_dns_text.proofs.SpacedWords.{IsFeedless, IsFirst, IsOrdinary, feedless_both, high_ordinary}
 
 -- ---- names
 
@@ -48,6 +50,45 @@ labels_made (label ∷ labels) =
     made_append IsPart (label_text label ++ 46 ∷ []) (labels_text labels)
     (made_append IsPart (label_text label) (46 ∷ []) (label_made label) stop_made) (labels_made labels)
 
+-- no octet of it is a line feed
+digit_feedless : (n : ℕ) → ¬ (48 + n ≡ 10)
+digit_feedless n same = omega (arith, same)
+
+feedless_case : (octet : ℕ) (a b : Bool) → (a ≡ true → ¬ (octet ≡ 10)) → (b ≡ true → ¬ (octet ≡ 10))
+    → IsFeedless (if a then 92 ∷ octet ∷ [] else (if b then octet ∷ [] else 92 ∷ three_digits octet))
+feedless_case octet true b one two = (λ same. omega (arith, same), (one refl, tt))
+feedless_case octet false true one two = (two refl, tt)
+feedless_case octet false false one two = (
+  λ same. omega (arith, same),
+  (digit_feedless (octet / 100), (digit_feedless (octet / 10 % 10), (digit_feedless (octet % 10), tt))),
+)
+
+-- a test that a line feed doesn't pass
+other_than : (test : ℕ → Bool) (octet : ℕ) → test 10 ≡ false → test octet ≡ true → ¬ (octet ≡ 10)
+other_than test octet fails passes same = true≢false (sym passes ∙ ap test same ∙ fails)
+
+label_feedless : (label : List ℕ) → IsFeedless (label_text label)
+label_feedless [] = tt
+label_feedless (octet ∷ label) =
+    feedless_both (octet_text octet) (label_text label)
+    (feedless_case octet (is_quoted octet) (is_ascii_graphic octet) (other_than is_quoted octet refl)
+    (other_than is_ascii_graphic octet refl)) (label_feedless label)
+
+labels_feedless : (labels : List (List ℕ)) → IsFeedless (labels_text labels)
+labels_feedless [] = tt
+labels_feedless (label ∷ labels) =
+    feedless_both (label_text label ++ 46 ∷ []) (labels_text labels)
+    (feedless_both (label_text label) (46 ∷ []) (label_feedless label) (λ same. omega (arith, same), tt))
+    (labels_feedless labels)
+
+pub string_octets_feedless : (octets : List ℕ) → IsFeedless (flat_map string_octet_text octets)
+string_octets_feedless [] = tt
+string_octets_feedless (octet ∷ octets) =
+    feedless_both (string_octet_text octet) (flat_map string_octet_text octets)
+    (feedless_case octet (is_string_quoted octet) (octet == 32 || is_ascii_graphic octet)
+    (other_than is_string_quoted octet refl) (other_than (λ o. o == 32 || is_ascii_graphic o) octet refl))
+    (string_octets_feedless octets)
+
 -- a text with a full stop isn't the word before opaque data
 stop_apart : (front after : List ℕ) → ¬ (front ++ 46 ∷ after ≡ opaque_word)
 stop_apart [] after same = let first = head same in absurd (omega (arith, first))
@@ -58,7 +99,7 @@ stop_apart (a ∷ b ∷ front) after same =
     absurd (omega (arith, size, more))
 
 pub name_first : (labels : List (List ℕ)) → IsFirst (name_text labels)
-name_first [] = ((omega arith, stop_made), stop_apart [] [])
+name_first [] = ((omega arith, stop_made), (λ same. omega (arith, same), tt), stop_apart [] [])
 name_first (label ∷ labels) =
     let front = label_text label in
     let after = labels_text labels in
@@ -66,6 +107,7 @@ name_first (label ∷ labels) =
     let size = ap length same in
     let both = length-append front (46 ∷ after) in (
       (omega (arith, size, both), labels_made (label ∷ labels)),
+      labels_feedless (label ∷ labels),
       λ is. stop_apart front after (sym same ∙ is),
     )
 
@@ -74,5 +116,10 @@ name_first (label ∷ labels) =
 pub string_first : (octets : List ℕ) → All (λ octet. octet < 256) octets → IsFirst (string_text octets)
 string_first octets each = (
   string_word octets (string_text octets) (string_spelled octets each),
+  (
+    λ same. omega (arith, same),
+    feedless_both (flat_map string_octet_text octets) (34 ∷ []) (string_octets_feedless octets)
+        (λ same. omega (arith, same), tt),
+  ),
   λ same. let first = head same in omega (arith, first),
 )

@@ -11,7 +11,7 @@ use Rattle.std.specs.Prelude.{IsTrue, codes, unwrap_or}
 use Rattle.octseq.proofs.WrittenBack.{AreOctets}
 use Rattle.octseq.specs.OctetsText.{hex_text, ipv6_address_text}
 use Rattle.std.specs.Net.Text.{ipv4_text}
-use Rattle.octseq_dns_data.specs.Mnemonic.{name_in, rtype_text}
+use Rattle.octseq_dns_data.specs.Mnemonic.{Names, class_names, class_text, name_in, rtype_text}
 use Rattle.octseq_dns_data.specs.Rtype.{rtype_names}
 use Rattle.octseq_dns_data.specs.Tag.{IsTag}
 use Rattle.octseq_dns_data.specs.Typed.{salt_text}
@@ -21,38 +21,45 @@ use Rattle.octseq_dns_scan.specs.Base32hex.{base32hex_text, quintets}
 use Rattle.octseq_dns_scan.specs.Base64.{base64_digit, base64_text, sextets}
 use Rattle.octseq_dns_text.proofs.Plain.{ArePlain, IsPlain, all_append, all_weaker, colon_hex_plain, decimal_plain}
 use Rattle.octseq_dns_text.proofs.Plain.{dotted_plain, plain_special}
-use Rattle.octseq_dns_text.proofs.PlainNames.{among_plain, among_some, name_among, names_from, names_some, plain_from}
+use Rattle.octseq_dns_text.proofs.PlainNames.{among_plain, among_some, are_plain, name_among, named_plain, named_some}
+use Rattle.octseq_dns_text.proofs.PlainNames.{names_from, names_some, plain_from}
 use Rattle.octseq_dns_text.proofs.SpacedWords.{AreOrdinary, IsFirst, IsOrdinary, high_ordinary, ordinary_first}
 
 pub plain_first : (text : List ℕ) → 1 ≤ length text → ArePlain text → IsFirst text
 plain_first text some plain =
     ordinary_first text some (all_weaker IsPlain IsOrdinary plain_special text plain)
 
--- ---- numbers and types
+-- ---- numbers, types and classes
+
+some_left : (xs ys : List ℕ) → 1 ≤ length xs → 1 ≤ length (xs ++ ys)
+some_left xs ys some = let size = length-append xs ys in omega (arith, size, some)
 
 pub decimal_first : (n : ℕ) → n < 2 ^ 64 → IsFirst (decimal n)
 decimal_first n small =
     let some = (shown_digits n small).0 in plain_first (decimal n) (omega (arith, some)) (decimal_plain n small)
 
-found_first : (rtype : ℕ) → rtype < 65536 → (found : Option (List ℕ)) → name_in rtype_names rtype ≡ found
-    → IsFirst (unwrap_or found (codes "TYPE" ++ decimal rtype))
-found_first rtype bits (Some name) is =
-    let among = name_among rtype_names rtype name is in
-    plain_first name (among_some rtype rtype_names name (names_some rtype_names refl) among)
-    (among_plain rtype_names rtype name (names_from rtype_names refl) among)
-found_first rtype bits None is =
-    plain_first (codes "TYPE" ++ decimal rtype) (omega (arith, length-append (codes "TYPE") (decimal rtype)))
-    (all_append IsPlain (codes "TYPE") (decimal rtype) (plain_from (codes "TYPE") refl)
-    (decimal_plain rtype (omega (arith, bits))))
+found_first : (front : List ℕ) (names : Names) (n : ℕ) → n < 65536 → 1 ≤ length front → are_plain front ≡ true
+    → named_plain names ≡ true → named_some names ≡ true → (found : Option (List ℕ)) → name_in names n ≡ found
+    → IsFirst (unwrap_or found (front ++ decimal n))
+found_first front names n bits some plain all each (Some name) is =
+    let among = name_among names n name is in
+    plain_first name (among_some n names name (names_some names each) among)
+    (among_plain names n name (names_from names all) among)
+found_first front names n bits some plain all each None is =
+    plain_first (front ++ decimal n) (some_left front (decimal n) some)
+    (all_append IsPlain front (decimal n) (plain_from front plain) (decimal_plain n (omega (arith, bits))))
 
 pub rtype_first : (rtype : ℕ) → rtype < 65536 → IsFirst (rtype_text rtype)
 unfolding rtype_text
-rtype_first rtype bits = found_first rtype bits (name_in rtype_names rtype) refl
+rtype_first rtype bits =
+    found_first (codes "TYPE") rtype_names rtype bits (omega arith) refl refl refl (name_in rtype_names rtype) refl
+
+pub class_first : (class : ℕ) → class < 65536 → IsFirst (class_text class)
+unfolding class_text
+class_first class bits =
+    found_first (codes "CLASS") class_names class bits (omega arith) refl refl refl (name_in class_names class) refl
 
 -- ---- addresses
-
-some_left : (xs ys : List ℕ) → 1 ≤ length xs → 1 ≤ length (xs ++ ys)
-some_left xs ys some = let size = length-append xs ys in omega (arith, size, some)
 
 some_right : (xs ys : List ℕ) → 1 ≤ length ys → 1 ≤ length (xs ++ ys)
 some_right xs ys some = let size = length-append xs ys in omega (arith, size, some)

@@ -16,19 +16,20 @@ use Rattle.octseq_dns_data.specs.Rtype as types
 use Rattle.octseq_dns_data.specs.Strings.{HasString, HasStrings}
 use Rattle.octseq_dns_data.specs.Typed.{ParsedRdata, mx_parts, naptr_parts, soa_parts, srv_parts}
 use Rattle.octseq_dns_scan.proofs.Addresses.{ipv4_word, ipv6_word}
-use Rattle.octseq_dns_scan.proofs.Numerals.{shown_digits, shown_value, shown_word}
+use Rattle.octseq_dns_scan.proofs.Numerals.{shown_digits, shown_value}
 use Rattle.octseq_dns_scan.proofs.Taken.{escaped_word}
 use Rattle.octseq_dns_scan.specs.Hex.{IsHexText}
-use Rattle.octseq_dns_scan.specs.Word.{AreWords, IsWord}
+use Rattle.octseq_dns_scan.specs.Word.{AreWords}
 use Rattle.octseq_format.specs.Canonical.{IsSound, each_next, many_next, many_rest, sound_nested, sound_past}
 use Rattle.octseq_format.specs.Row.{Row}
 use Rattle.octseq_dns_text.proofs.NameWords.{string_first}
-use Rattle.octseq_dns_text.proofs.OrdinaryTexts.{hex_first, ipv4_first, ipv6_first}
+use Rattle.octseq_dns_text.proofs.OrdinaryTexts.{decimal_first, hex_first, ipv4_first, ipv6_first}
 use Rattle.octseq_dns_text.proofs.ShownFields.{hex_shown, string_shown}
 use Rattle.octseq_dns_text.proofs.ShownForms.{Shown, ◌shown_before◌, a_name, a_string, all_octets_of}
 use Rattle.octseq_dns_text.proofs.ShownForms.{each_rest, four_octets, one_be, shown_alone, two_octets}
 use Rattle.octseq_dns_text.proofs.ShownTypes.{data_shown, local_shown}
-use Rattle.octseq_dns_text.proofs.SpacedWords.{IsFirst, spaced, spaced_map, spaced_words}
+use Rattle.octseq_dns_text.proofs.SpacedWords.{IsFeedless, IsFirst, IsLineWord, spaced, spaced_feedless, spaced_map}
+use Rattle.octseq_dns_text.proofs.SpacedWords.{spaced_words}
 use Rattle.octseq_dns_text.specs.DataShown.{ShowsData, rdata_octets}
 use Rattle.octseq_dns_text.specs.DataText.{opaque_word}
 use Rattle.octseq_dns_text.specs.Fields.{IsFieldText}
@@ -106,11 +107,12 @@ strings_read w v (string ∷ strings) sound (u, is, row) =
     )
 
 strings_words : (w v : Window) (strings : List (List ℕ)) → IsSound w → Row HasString w strings v
-    → AllByRecursion IsWord (map string_text strings)
+    → AllByRecursion IsLineWord (map string_text strings)
 strings_words w v [] sound row = tt
 strings_words w v (string ∷ strings) sound (u, is, row) =
     let at = string_at w u string sound is in
-    ((string_first string (all_octets_of string at.0)).0, strings_words u v strings at.2 row)
+    let first = string_first string (all_octets_of string at.0) in
+    ((first.0, first.1), strings_words u v strings at.2 row)
 
 strings_shown : (w v : Window) (strings : List (List ℕ)) → IsSound w → HasStrings w strings v
     → Shown (IsLayoutText None [] tail.Strings) (strings_text strings) (flat_map (part_of 1) strings)
@@ -194,9 +196,11 @@ runs_spelled : (octets : List ℕ) → octets_after octets ≡ spaced (hex_runs 
 runs_spelled [] = refl
 runs_spelled (octet ∷ octets) = ap (λ t. 32 ∷ t) (sym (append-nil (flat_map hex_text (octet ∷ octets))))
 
-runs_words : (octets : List ℕ) → AllByRecursion IsWord (hex_runs octets)
+runs_words : (octets : List ℕ) → AllByRecursion IsLineWord (hex_runs octets)
 runs_words [] = tt
-runs_words (octet ∷ octets) = ((hex_first (octet ∷ octets) (omega arith)).0, tt)
+runs_words (octet ∷ octets) =
+    let first = hex_first (octet ∷ octets) (omega arith) in
+    ((first.0, first.1), tt)
 
 runs_are : (octets : List ℕ) → AreOctets octets → AreRuns IsHexText (hex_runs octets) octets
 runs_are [] each = (tt, refl)
@@ -204,16 +208,21 @@ runs_are (octet ∷ octets) each = (hex_shown (octet ∷ octets) each).1
 
 pub unknown_shown : (rtype class : ℕ) (octets : List ℕ) → AreOctets octets → length octets ≤ 65535
     → ShowsData rtype class (opaque_text octets) octets
-unknown_shown rtype class octets each few =
+unknown_shown rtype class octets all few =
     let n = length octets in
     let small : n < 2 ^ 64 = omega (arith, few) in
     let value = shown_value n small in
     let runs = hex_runs octets in
     let front = codes "\\# " ++ decimal n in
+    let spelled = ap (λ t. front ++ t) (runs_spelled octets) in
+    let first = decimal_first n small in
+    let each : AllByRecursion IsLineWord (decimal n ∷ runs) = ((first.0, first.1), runs_words octets) in
+    let before : IsFeedless opaque_word = (λ same. omega (arith, same), (λ same. omega (arith, same), tt)) in
     record {
       words = opaque_word ∷ decimal n ∷ runs;
-      are = subst (AreWords (opaque_word ∷ decimal n ∷ runs)) (sym (ap (λ t. front ++ t) (runs_spelled octets)))
-          (spaced_words opaque_word (decimal n ∷ runs) (escaped_word 35) (shown_word n small, runs_words octets));
+      are = subst (AreWords (opaque_word ∷ decimal n ∷ runs)) (sym spelled)
+          (spaced_words opaque_word (decimal n ∷ runs) (escaped_word 35) each);
+      one_line = subst IsFeedless (sym spelled) (spaced_feedless opaque_word (decimal n ∷ runs) before each);
       is = inl (
         decimal n ∷ runs,
         refl,
@@ -224,7 +233,7 @@ unknown_shown rtype class octets each few =
           shown_digits n small,
           omega (arith, value, few),
           sym value,
-          runs_are octets each,
+          runs_are octets all,
         ),
       );
     }

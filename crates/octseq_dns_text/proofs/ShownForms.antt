@@ -22,7 +22,6 @@ use Rattle.octseq_dns_name.specs.Text.{name_text}
 use Rattle.octseq_dns_name.specs.Wire.{wire}
 use Rattle.octseq_dns_scan.specs.Base32hex.{base32hex_text}
 use Rattle.octseq_dns_scan.specs.Base64.{base64_text}
-use Rattle.octseq_dns_scan.specs.Word.{IsWord}
 use Rattle.octseq_format.specs.Canonical.{IsSound, each_dropped, each_next, each_taken, many_next, sound_nested}
 use Rattle.octseq_format.specs.Canonical.{sound_on, sound_past}
 use Rattle.octseq_format.specs.Counted.{Counted, counted_octets}
@@ -33,7 +32,7 @@ use Rattle.octseq_dns_text.proofs.OrdinaryTexts.{base32hex_first, base64_first, 
 use Rattle.octseq_dns_text.proofs.OrdinaryTexts.{salt_first, tag_first}
 use Rattle.octseq_dns_text.proofs.ShownFields.{base64_shown, hash_shown, hex_shown, name_shown, number_shown}
 use Rattle.octseq_dns_text.proofs.ShownFields.{rtype_shown, salt_shown, string_shown, time_shown, value_shown}
-use Rattle.octseq_dns_text.proofs.SpacedWords.{IsFirst, spaced}
+use Rattle.octseq_dns_text.proofs.SpacedWords.{IsFirst, IsLineWord, spaced}
 use Rattle.octseq_dns_text.specs.Fields.{IsFieldText}
 use Rattle.octseq_dns_text.specs.Layouts.{IsLayoutText}
 use Rattle.octseq_dns_text.specs.Tails.{IsTailText}
@@ -50,14 +49,14 @@ pub record Shown (Is : List (List ℕ) → List ℕ → Type 0) (text octets : L
   pub more : List (List ℕ)
   pub spelled : text ≡ word ++ spaced more
   pub first : IsFirst word
-  pub each : AllByRecursion IsWord more
+  pub each : AllByRecursion IsLineWord more
   pub is : Is (word ∷ more) octets
 
 -- A text is words after a space each, which are a tail of these octets.
 pub record ShownAfter (it : Tail) (text octets : List ℕ) : Type 0 where
   pub words : List (List ℕ)
   pub spelled : text ≡ spaced words
-  pub each : AllByRecursion IsWord words
+  pub each : AllByRecursion IsLineWord words
   pub is : IsTailText it words octets
 
 -- The text of a part is a word, which is a field of the part's octets.
@@ -95,7 +94,7 @@ module _ {it : Field} {part : Part} {fields : List Field} {end : Tail} {form : F
           more = after.word ∷ after.more;
           spelled = ap (λ t. word ++ 32 ∷ t) after.spelled;
           first = here.0;
-          each = (after.first.0, after.each);
+          each = ((after.first.0, after.first.1), after.each);
           is = (word, after.word ∷ after.more, octets, rest, refl, here.1, after.is, refl);
         };
   }

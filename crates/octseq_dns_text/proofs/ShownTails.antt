@@ -11,12 +11,18 @@ use Rattle.octseq_dns_data.specs.SvcParams.{params_of}
 use Rattle.octseq_dns_data.specs.SvcParamsText.{param_text}
 use Rattle.octseq_dns_scan.specs.Word.{IsWord}
 use Rattle.octseq_dns_text.proofs.BitmapTypes.{bitmap_again, types_distinct, types_few}
-use Rattle.octseq_dns_text.proofs.Shown.{params_shown, shown_words}
+use Rattle.octseq_dns_text.proofs.OrdinaryTexts.{rtype_first}
+use Rattle.octseq_dns_text.proofs.Shown.{params_shown, shown_feedless, shown_words}
 use Rattle.octseq_dns_text.proofs.ShownForms.{IsShownTail, each_rest}
-use Rattle.octseq_dns_text.proofs.SpacedWords.{spaced_map}
-use Rattle.octseq_dns_text.proofs.TypesShown.{type_word, types_shown}
+use Rattle.octseq_dns_text.proofs.SpacedWords.{IsFeedless, IsLineWord, spaced_map}
+use Rattle.octseq_dns_text.proofs.TypesShown.{types_shown}
 use Rattle.octseq_dns_text.specs.TypesText.{IsTypesText}
 use Rattle.octseq_dns_text.specs.declared.tail.Tail.TheVariants as tail
+
+both_all : (P Q : List ℕ → Type 0) (xs : List (List ℕ)) → AllByRecursion P xs → AllByRecursion Q xs
+    → AllByRecursion (λ x. P x × Q x) xs
+both_all P Q [] one two = tt
+both_all P Q (x ∷ xs) one two = ((one.0, two.0), both_all P Q xs one.1 two.1)
 
 pub the_params : IsShownTail tail.Params svc_params
 the_params = record {
@@ -26,15 +32,18 @@ the_params = record {
       record {
         words = map param_text (params_of octets);
         spelled = spaced_map param_text (params_of octets);
-        each = recursion_from_All IsWord _ (shown_words octets each is.1);
+        each = both_all IsWord IsFeedless (map param_text (params_of octets))
+            (recursion_from_All IsWord _ (shown_words octets each is.1)) (shown_feedless octets each is.1);
         is = params_shown octets each is.1;
       };
 }
 
 type_words : (rtypes : List ℕ) → AllByRecursion (λ rtype. rtype < 65536) rtypes
-    → AllByRecursion IsWord (map rtype_text rtypes)
+    → AllByRecursion IsLineWord (map rtype_text rtypes)
 type_words [] few = tt
-type_words (rtype ∷ rtypes) few = (type_word rtype few.0, type_words rtypes few.1)
+type_words (rtype ∷ rtypes) few =
+    let first = rtype_first rtype few.0 in
+    ((first.0, first.1), type_words rtypes few.1)
 
 pub a_bitmap : IsShownTail tail.Types bitmap
 a_bitmap = record {

@@ -14,7 +14,7 @@ use Rattle.octseq_dns_text.proofs.ShownForms.{IsShownForm, Shown, ◌shown_befor
 use Rattle.octseq_dns_text.proofs.ShownForms.{a_key, a_plain_name, a_salt, a_string, a_tag, a_target, a_time}
 use Rattle.octseq_dns_text.proofs.ShownForms.{a_type, a_value, four_octets, one_octet, shown_alone, two_octets}
 use Rattle.octseq_dns_text.proofs.ShownTails.{a_bitmap, the_params}
-use Rattle.octseq_dns_text.proofs.SpacedWords.{spaced_words}
+use Rattle.octseq_dns_text.proofs.SpacedWords.{IsFeedless, spaced_feedless, spaced_words}
 use Rattle.octseq_dns_text.specs.DataShown.{ShowsData}
 use Rattle.octseq_dns_text.specs.DataText.{opaque_word}
 use Rattle.octseq_dns_text.specs.Layouts.{IsLayoutText, is_of_class_in, layout_in_class, layout_of}
@@ -30,8 +30,10 @@ data_shown rtype class fields end text octets known shown = record {
   words = shown.word ∷ shown.more;
   are = subst (AreWords (shown.word ∷ shown.more)) (sym shown.spelled)
       (spaced_words shown.word shown.more shown.first.0 shown.each);
+  one_line = subst IsFeedless (sym shown.spelled)
+      (spaced_feedless shown.word shown.more shown.first.1 shown.each);
   is = inr (
-    λ after same. let first : shown.word ≡ opaque_word = cc in shown.first.1 first,
+    λ after same. let first : shown.word ≡ opaque_word = cc in shown.first.2 first,
     (layout_value fields end, known, shown.is),
   );
 }

@@ -42,15 +42,45 @@ word_begins word rest (some, (parts, are, same)) =
     subst (λ t. BeginsNoBlank (t ++ rest)) (sym same)
     (parts_begin parts rest are (subst (λ t. 1 ≤ length t) same some))
 
+-- a word before a text with words
+pub words_before : (word text : List ℕ) (words : List (List ℕ)) → IsWord word → AreWords words text
+    → AreWords (word ∷ words) (word ++ 32 ∷ text)
+words_before word text words is are = (text, taken_space word text is (begin words text are), are)
+  where
+    begin : (words : List (List ℕ)) (text : List ℕ) → AreWords words text → BeginsNoBlank text
+    begin [] text none = subst BeginsNoBlank (sym none) tt
+    begin (first ∷ words) text (rest, taken, more) =
+        subst BeginsNoBlank (sym taken.3) (word_begins first taken.1 taken.2)
+
+-- ---- lines
+
+-- no octet is a line feed
+abbrev pub IsFeedless : List ℕ → Type 0
+IsFeedless text = AllByRecursion (λ octet. ¬ (octet ≡ 10)) text
+
+abbrev pub IsLineWord : List ℕ → Type 0
+IsLineWord word = IsWord word × IsFeedless word
+
+pub feedless_both : (xs ys : List ℕ) → IsFeedless xs → IsFeedless ys → IsFeedless (xs ++ ys)
+feedless_both [] ys one two = two
+feedless_both (x ∷ xs) ys one two = (one.0, feedless_both xs ys one.1 two)
+
+pub spaced_feedless : (word : List ℕ) (words : List (List ℕ)) → IsFeedless word → AllByRecursion IsLineWord words
+    → IsFeedless (word ++ spaced words)
+spaced_feedless word [] is are = feedless_both word [] is tt
+spaced_feedless word (next ∷ words) is are =
+    feedless_both word (32 ∷ next ++ spaced words) is
+    (λ same. omega (arith, same), spaced_feedless next words are.0.1 are.1)
+
 -- words with a space between them are these words
-pub spaced_words : (word : List ℕ) (words : List (List ℕ)) → IsWord word → AllByRecursion IsWord words
+pub spaced_words : (word : List ℕ) (words : List (List ℕ)) → IsWord word → AllByRecursion IsLineWord words
     → AreWords (word ∷ words) (word ++ spaced words)
 spaced_words word [] is are =
     ([], subst (λ t. TakesWord word t []) (sym (append-nil word)) (taken_end word is), refl)
 spaced_words word (next ∷ words) is are = (
   next ++ spaced words,
-  taken_space word (next ++ spaced words) is (word_begins next (spaced words) are.0),
-  spaced_words next words are.0 are.1,
+  taken_space word (next ++ spaced words) is (word_begins next (spaced words) are.0.0),
+  spaced_words next words are.0.0 are.1,
 )
 
 -- ---- octets that stand for themselves
@@ -61,13 +91,19 @@ IsOrdinary octet = is_special octet ≡ false
 abbrev pub AreOrdinary : List ℕ → Type 0
 AreOrdinary text = AllByRecursion IsOrdinary text
 
--- A text is a word, and not the one before opaque data.
+-- A text is a word of a line, and not the one before opaque data.
 abbrev pub IsFirst : List ℕ → Type 0
-IsFirst word = IsWord word × ¬ (word ≡ opaque_word)
+IsFirst word = IsWord word × IsFeedless word × ¬ (word ≡ opaque_word)
+
+pub ordinary_feedless : (text : List ℕ) → AreOrdinary text → IsFeedless text
+ordinary_feedless [] are = tt
+ordinary_feedless (octet ∷ text) are =
+    (λ same. true≢false (subst IsOrdinary same are.0), ordinary_feedless text are.1)
 
 pub ordinary_first : (text : List ℕ) → 1 ≤ length text → AreOrdinary text → IsFirst text
 ordinary_first text some are = (
   plain_word text some (All-from_recursion IsOrdinary text are),
+  ordinary_feedless text are,
   λ same. true≢false ((subst AreOrdinary same are).0),
 )
 

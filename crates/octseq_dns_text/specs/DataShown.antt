@@ -1,6 +1,6 @@
 -- The text that is shown of data, and the octets that are read back from it.
-use Rattle.std.specs.Prelude.{ℕ, None, List}
-use Rattle.std.specs.List.{flat_map}
+use Rattle.std.specs.Prelude.{◌≡◌, ℕ, None, List}
+use Rattle.std.specs.List.{AllByRecursion, flat_map}
 use Rattle.octseq.specs.Part.{part_of}
 use Rattle.octseq.specs.Window.{rest}
 use Rattle.octseq_dns_data.specs.Typed.{ParsedRdata, form, mx_form, mx_parts, naptr_form, naptr_parts, soa_form}
@@ -24,8 +24,9 @@ rdata_octets (ParsedRdata.naptr naptr) = naptr_form.octets (naptr_form.says (nap
 rdata_octets (ParsedRdata.local k found) = (form k).octets ((form k).says found)
 rdata_octets (ParsedRdata.unknown rtype octets) = rest octets
 
--- A text consists of words that are data of a type and a class, of these octets.
+-- A text consists of words that are data of a type and a class, of these octets. It has no line feed (10).
 pub record ShowsData (rtype class : ℕ) (text octets : List ℕ) : Type 0 where
   pub words : List (List ℕ)
   pub are : AreWords words text
+  pub one_line : AllByRecursion (λ octet. ¬ (octet ≡ 10)) text
   pub is : IsDataText None rtype class words octets
