@@ -1,5 +1,6 @@
 pub mod AddressTexts
 pub mod Appended
+pub mod BitmapTypes
 pub mod DataTexts
 pub mod Fronts
 pub mod IdsTexts
@@ -8,7 +9,9 @@ pub mod KeyTexts
 pub mod LayoutTexts
 pub mod MandatoryTexts
 pub mod Maps
+pub mod NameWords
 pub mod OneReading
+pub mod OrdinaryTexts
 pub mod Outcomes
 pub mod ParamsTexts
 pub mod Plain
@@ -16,11 +19,17 @@ pub mod PlainNames
 pub mod ReadTexts
 pub mod ReaderLengths
 pub mod RunTexts
+pub mod SameBitmaps
 pub mod Shown
+pub mod ShownData
 pub mod ShownFields
+pub mod ShownForms
+pub mod ShownTails
+pub mod ShownTypes
 pub mod SizedHexLaws
 pub mod SomeTexts
 pub mod Sortings
+pub mod SpacedWords
 pub mod Splits
 pub mod StringTexts
 pub mod TakeTexts

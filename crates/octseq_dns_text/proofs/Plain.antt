@@ -25,9 +25,9 @@ use Rattle.octseq_dns_scan.proofs.StringWords.{string_word}
 use Rattle.octseq_dns_scan.proofs.Taken.{joined_word, plain_word}
 use Rattle.octseq_dns_text.specs.Split.{octets_before, octets_after, items_of}
 
--- an octet that stands for itself between quotation marks
+-- an octet that stands for itself between quotation marks, and is no line feed
 abbrev pub IsBare : ℕ → Type 0
-IsBare octet = (octet ≢ 34) × (octet ≢ 92)
+IsBare octet = (octet ≢ 34) × (octet ≢ 92) × (octet ≢ 10)
 
 -- and is no blank, no end of a line, no comma and no equals sign
 abbrev pub IsPlain : ℕ → Type 0
@@ -46,7 +46,7 @@ all_weaker P Q more [] each = tt
 all_weaker P Q more (octet ∷ text) each = (more octet each.0, all_weaker P Q more text each.1)
 
 pub plain_bare : (text : List ℕ) → ArePlain text → AreBare text
-plain_bare text plain = all_weaker IsPlain IsBare (λ octet is. (is.0, is.3)) text plain
+plain_bare text plain = all_weaker IsPlain IsBare (λ octet is. (is.0, is.3, is.5)) text plain
 
 pub all_append : (P : ℕ → Type 0) (xs ys : List ℕ) → AllByRecursion P xs → AllByRecursion P ys
     → AllByRecursion P (xs ++ ys)
@@ -120,7 +120,7 @@ colon_hex_plain text segments (inr is) =
 -- ---- base 64
 
 mark_bare : IsBare 61
-mark_bare = (omega arith, omega arith)
+mark_bare = (omega arith, omega arith, omega arith)
 
 sextet_no_quote : (n : ℕ) → n < 64 → base64_digit n ≢ 34
 sextet_no_quote n small is = grind (arith, nat_tests)
@@ -128,8 +128,11 @@ sextet_no_quote n small is = grind (arith, nat_tests)
 sextet_no_backslash : (n : ℕ) → n < 64 → base64_digit n ≢ 92
 sextet_no_backslash n small is = grind (arith, nat_tests)
 
+sextet_no_feed : (n : ℕ) → n < 64 → base64_digit n ≢ 10
+sextet_no_feed n small is = grind (arith, nat_tests)
+
 sextet_bare : (n : ℕ) → n < 64 → IsBare (base64_digit n)
-sextet_bare n small = (sextet_no_quote n small, sextet_no_backslash n small)
+sextet_bare n small = (sextet_no_quote n small, sextet_no_backslash n small, sextet_no_feed n small)
 
 pub base64_bare : (octets : List ℕ) → AreOctets octets → AreBare (base64_text octets)
 base64_bare [] each = tt
@@ -219,7 +222,7 @@ items_listed text x (y ∷ ys) plain =
     ∙ ap (λ l. text x ∷ l) (items_listed text y ys plain.1)
 
 comma_bare : IsBare 44
-comma_bare = (omega arith, omega arith)
+comma_bare = (omega arith, omega arith, omega arith)
 
 listed_bare : {X : Type 0} (text : X → List ℕ) (xs : List X) → AllByRecursion (λ y. ArePlain (text y)) xs
     → AreBare (flat_map (λ x. 44 ∷ text x) xs)
@@ -235,7 +238,7 @@ with_commas_bare text (x ∷ xs) plain =
 
 -- ---- words
 
-plain_special : (octet : ℕ) → IsPlain octet → is_special octet ≡ false
+pub plain_special : (octet : ℕ) → IsPlain octet → is_special octet ≡ false
 plain_special octet is =
     let quote = ne_eqb 34 octet (λ e. is.0 (sym e)) in
     let backslash = ne_eqb 92 octet (λ e. is.3 (sym e)) in

@@ -37,7 +37,10 @@ use Rattle.octseq_dns_text.specs.ParamsText.{IsParamsText}
 use Rattle.octseq_dns_text.specs.Split.{items_of, octets_after, octets_before}
 use Rattle.octseq_dns_text.proofs.PlainNames.{NamedPlain, among_plain, among_some, name_among, names_from, names_some}
 use Rattle.octseq_dns_text.proofs.PlainNames.{plain_from}
-use Rattle.octseq_dns_text.proofs.Plain.{ArePlain, AreBare, IsPlain, all_append, bare_spells, base64_bare}
+use Rattle.octseq_dns_text.proofs.Plain.{ArePlain, AreBare, IsBare, IsPlain, all_append, all_weaker, bare_spells}
+use Rattle.octseq_dns_text.proofs.NameWords.{string_octets_feedless}
+use Rattle.octseq_dns_text.proofs.SpacedWords.{IsFeedless, feedless_both}
+use Rattle.octseq_dns_text.proofs.Plain.{base64_bare}
 use Rattle.octseq_dns_text.proofs.Plain.{colon_hex_plain}
 use Rattle.octseq_dns_text.proofs.Plain.{decimal_plain, dotted_plain, items_listed, plain_after, plain_bare}
 use Rattle.octseq_dns_text.proofs.Plain.{plain_before, plain_none, plain_text_word, plain_whole, valued_word}
@@ -229,6 +232,10 @@ parts_octets (id ∷ ids) each =
 abbrev pub Shows : ℕ → List ℕ → Type 0
 Shows key value =
     (said : List ℕ) × SpellsString said (34 ∷ value_text key value ++ 34 ∷ []) × IsValueText key said value
+    × IsFeedless (value_text key value)
+
+bare_feedless : (text : List ℕ) → AreBare text → IsFeedless text
+bare_feedless text bare = all_weaker IsBare (λ octet. ¬ (octet ≡ 10)) (λ octet is. is.2) text bare
 
 bare_string : (said : List ℕ) → AreBare said → SpellsString said (34 ∷ said ++ 34 ∷ [])
 bare_string said bare = SpellsString.quoted said refl (bare_spells said bare)
@@ -272,6 +279,7 @@ value_shown zero value is each some =
         ipv6hint = λ e. absurd (omega (arith, e));
         other = λ e. absurd (omega (arith, e));
       },
+      bare_feedless (with_commas key_text keys) items.1,
     )
 value_shown (suc zero) value is each some =
     let ids = ids_of value in
@@ -289,6 +297,7 @@ value_shown (suc zero) value is each some =
         ipv6hint = λ e. absurd (omega (arith, e));
         other = λ e. absurd (omega (arith, e));
       },
+      string_octets_feedless (listed_ids ids),
     )
 value_shown (suc (suc zero)) value is each some =
     let none = ap length (is.no_default_alpn refl) in absurd (omega (arith, none, some))
@@ -314,6 +323,8 @@ value_shown (suc (suc (suc zero))) value is each some =
         ipv6hint = λ e. absurd (omega (arith, e));
         other = λ e. absurd (omega (arith, e));
       },
+      bare_feedless (decimal (be value))
+          (plain_bare (decimal (be value)) (decimal_plain (be value) (omega (arith, small)))),
     )
 value_shown (suc (suc (suc (suc zero)))) value is each some =
     let are = is.ipv4hint refl in
@@ -331,6 +342,7 @@ value_shown (suc (suc (suc (suc zero)))) value is each some =
         ipv6hint = λ e. absurd (omega (arith, e));
         other = λ e. absurd (omega (arith, e));
       },
+      bare_feedless (with_commas ipv4_text (pieces (split_octets 4) value)) all.1,
     )
 value_shown (suc (suc (suc (suc (suc zero))))) value is each some = (
   base64_text value,
@@ -345,6 +357,7 @@ value_shown (suc (suc (suc (suc (suc zero))))) value is each some = (
     ipv6hint = λ e. absurd (omega (arith, e));
     other = λ e. absurd (omega (arith, e));
   },
+  bare_feedless (base64_text value) (base64_bare value each),
 )
 value_shown (suc (suc (suc (suc (suc (suc zero)))))) value is each some =
     let are = is.ipv6hint refl in
@@ -362,6 +375,7 @@ value_shown (suc (suc (suc (suc (suc (suc zero)))))) value is each some =
         ipv6hint = λ e. all.0;
         other = λ e. absurd (omega (arith, e));
       },
+      bare_feedless (with_commas ipv6_address_text (pieces (split_octets 16) value)) all.1,
     )
 value_shown (suc (suc (suc (suc (suc (suc (suc key))))))) value is each some =
     let key = suc (suc (suc (suc (suc (suc (suc key)))))) in (
@@ -378,6 +392,7 @@ value_shown (suc (suc (suc (suc (suc (suc (suc key))))))) value is each some =
         ipv6hint = λ e. absurd (omega (arith, e));
         other = λ e. refl;
       },
+      subst IsFeedless (sym (other_text key value (omega arith))) (string_octets_feedless value),
     )
 
 -- a value of no octets isn't shown
@@ -473,3 +488,34 @@ shown_words octets each are =
     All-from_recursion IsWord (map param_text (params_of octets))
     (params_words (params_of octets) (recursion_from_All IsParam (params_of octets) are.each)
     (subst AreOctets are.spelled each))
+
+-- ---- what is displayed of parameters has no line feed
+
+param_feedless : (key : ℕ) (value : List ℕ) → IsParam (key, value) → AreOctets value
+    → IsFeedless (param_text (key, value))
+param_feedless key [] is each =
+    feedless_both (key_text key) [] (bare_feedless (key_text key) (plain_bare (key_text key) (key_shown key is.key).1))
+    tt
+param_feedless key (octet ∷ value) is each =
+    let all = value_shown key (octet ∷ value) is.value each (omega arith) in
+    let text = value_text key (octet ∷ value) in
+    feedless_both (key_text key) (61 ∷ 34 ∷ text ++ 34 ∷ [])
+    (bare_feedless (key_text key) (plain_bare (key_text key) (key_shown key is.key).1)) (
+      λ same. omega (arith, same),
+      (λ same. omega (arith, same), feedless_both text (34 ∷ []) all.3 (λ same. omega (arith, same), tt)),
+    )
+
+params_feedless : (params : List Param) → AllByRecursion IsParam params → AreOctets (flat_map param_octets params)
+    → AllByRecursion IsFeedless (map param_text params)
+params_feedless [] are each = tt
+params_feedless (param ∷ params) are each =
+    let first = octets_front (param_octets param) (flat_map param_octets params) each in
+    let part = each_after (octets_be 2 param.0) (part_of 2 param.1) first in
+    let value = each_after (octets_be 2 (length param.1)) param.1 part in
+    (param_feedless param.0 param.1 are.0 value, params_feedless params are.1 (each_after (param_octets param) _ each))
+
+pub shown_feedless : (octets : List ℕ) → AreOctets octets → IsSvcParams octets
+    → AllByRecursion IsFeedless (map param_text (params_of octets))
+shown_feedless octets each are =
+    params_feedless (params_of octets) (recursion_from_All IsParam (params_of octets) are.each)
+    (subst AreOctets are.spelled each)

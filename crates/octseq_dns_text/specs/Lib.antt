@@ -1,3 +1,4 @@
+pub mod DataShown
 pub mod DataText
 pub mod Fields
 pub mod IdsText

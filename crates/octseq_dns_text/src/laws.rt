@@ -5,10 +5,13 @@ ghost use Rattle.std.specs.List.{All, flat_map};
 ghost use Rattle.std.specs.Net.Text.{ipv4_text};
 ghost use Rattle.octseq.proofs.WrittenBack.{AreOctets};
 ghost use Rattle.octseq.specs.Integer.{octets_be};
-ghost use Rattle.octseq.specs.OctetsText.{hex_text, ipv6_address_text, string_text};
+ghost use Rattle.octseq.specs.OctetsText.{hex_text, ipv6_address_text, opaque_text, string_text};
+ghost use Rattle.octseq.specs.Window.{Window};
+ghost use Rattle.octseq_dns_data.specs.Data.{IsTypedData};
 ghost use Rattle.octseq_dns_data.specs.Mnemonic.{rtype_text};
+ghost use Rattle.octseq_dns_data.specs.RdataText.{rdata_text};
 ghost use Rattle.octseq_dns_data.specs.Tag.{IsCaaTag};
-ghost use Rattle.octseq_dns_data.specs.Typed.{salt_text};
+ghost use Rattle.octseq_dns_data.specs.Typed.{ParsedRdata, salt_text};
 ghost use Rattle.octseq_dns_name.specs.Name.{wire_length};
 ghost use Rattle.octseq_dns_name.specs.Spelling.{AreOctetLabels};
 ghost use Rattle.octseq_dns_name.specs.Text.{name_text};
@@ -16,6 +19,8 @@ ghost use Rattle.octseq_dns_name.specs.Wire.{wire, AreLabels};
 ghost use Rattle.octseq_dns_scan.specs.Base32hex.{base32hex_text};
 ghost use Rattle.octseq_dns_scan.specs.Base64.{base64_text, IsBase64Text};
 ghost use Rattle.octseq_dns_scan.specs.Hex.{IsHexText};
+ghost use Rattle.octseq_format.specs.Canonical.{IsSound};
+ghost use Rattle.octseq_dns_text.specs.DataShown.{ShowsData, rdata_octets};
 ghost use Rattle.octseq_dns_text.specs.Fields.{IsRtypeWord, IsNameWord, IsTagWord};
 ghost use Rattle.octseq_dns_text.specs.Runs.{AreRuns};
 ghost use Rattle.octseq_dns_text.specs.Scans.{AreSome};
@@ -49,4 +54,15 @@ pub fn fields_are_read_as_shown()
         → AreSome (AreRuns IsHexText) (flat_map hex_text octets ∷ []) octets }
     ensures base64 { (octets : List ℕ) → AreOctets octets
         → AreSome (AreRuns IsBase64Text) (base64_text octets ∷ []) octets }
+{}
+
+/// The text that is shown of data consists of words that are data of its type and class, and is read back as the octets
+/// that the data says: data with the form of its type, and any octets that are shown as opaque data.
+///
+/// It does nothing. Calling it brings the law into the caller's proof.
+pub fn data_is_read_as_shown()
+    ensures typed { (rtype class : ℕ) (w inside : Window) (rdata : ParsedRdata) → IsSound w → IsSound inside
+        → IsTypedData rtype class w inside rdata → ShowsData rtype class (rdata_text rdata) (rdata_octets rdata) }
+    ensures opaque { (rtype class : ℕ) (octets : List ℕ) → AreOctets octets → length octets ≤ 65535
+        → ShowsData rtype class (opaque_text octets) octets }
 {}

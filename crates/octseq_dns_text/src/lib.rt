@@ -14,6 +14,6 @@ mod word;
 
 pub use data::{one_reading_of_data_text, scan_data};
 pub use error::ScanError;
-pub use laws::fields_are_read_as_shown;
+pub use laws::{data_is_read_as_shown, fields_are_read_as_shown};
 pub use params::scan_params;
 pub use types::scan_types;
