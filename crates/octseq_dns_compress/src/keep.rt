@@ -8,7 +8,7 @@ ghost use Rattle.octseq_dns_compress.specs.PlainNames.{plain_labels};
 ghost use Rattle.octseq_dns_compress.specs.Written.{IsWritten};
 
 use crate::plain::PlainName;
-use crate::search::{Ending, digest};
+use crate::search::Ending;
 use crate::table::{Compressor, Target};
 use octseq::Turns;
 use std::alloc::AllocError;
@@ -61,8 +61,7 @@ pub(crate) fn keep<T: Compressor>(
     let mut position = ending.position;
     'labels: while left > 0 {
         turns.tick();
-        let label = name.label(left - 1);
-        let at = end - label.len();
+        let at = end - name.label(left - 1).len();
         if at > PLACE_MAX || table.is_full() {
             return Ok(());
         }
@@ -72,7 +71,6 @@ pub(crate) fn keep<T: Compressor>(
                 at: at as u16,
                 next,
                 pointers: ending.pointers,
-                digest: digest(label),
             },
         )?;
         left -= 1;

@@ -14,7 +14,7 @@ use Rattle.octseq_dns_data.specs.Local.{form}
 use Rattle.octseq_dns_data.specs.RdataText.{rdata_text}
 use Rattle.octseq_dns_data.specs.Rtype as types
 use Rattle.octseq_dns_data.specs.Strings.{HasString, HasStrings}
-use Rattle.octseq_dns_data.specs.Typed.{ParsedRdata, mx_parts, naptr_parts, soa_parts, srv_parts}
+use Rattle.octseq_dns_data.specs.Typed.{ParsedRdata, layout_of, mx_parts, naptr_parts, soa_parts, srv_parts}
 use Rattle.octseq_dns_scan.proofs.Addresses.{ipv4_word, ipv6_word}
 use Rattle.octseq_dns_scan.proofs.Numerals.{shown_digits, shown_value}
 use Rattle.octseq_dns_scan.proofs.Taken.{escaped_word}
@@ -33,14 +33,14 @@ use Rattle.octseq_dns_text.proofs.SpacedWords.{spaced_words}
 use Rattle.octseq_dns_text.specs.DataShown.{ShowsData, rdata_octets}
 use Rattle.octseq_dns_text.specs.DataText.{opaque_word}
 use Rattle.octseq_dns_text.specs.Fields.{IsFieldText}
-use Rattle.octseq_dns_text.specs.Layouts.{IsLayoutText, is_of_class_in, layout_in_class, layout_of, layout_value}
+use Rattle.octseq_dns_text.specs.Layouts.{IsLayoutText, layout_value}
 use Rattle.octseq_dns_text.specs.Runs.{AreRuns}
 use Rattle.octseq_dns_text.specs.Tails.{AreStrings}
 use Rattle.octseq_dns_text.specs.Words.{IsStringWord}
-use Rattle.octseq_dns_text.specs.declared.field.Field.{Field}
-use Rattle.octseq_dns_text.specs.declared.field.Field.TheVariants as field
-use Rattle.octseq_dns_text.specs.declared.tail.Tail.{Tail}
-use Rattle.octseq_dns_text.specs.declared.tail.Tail.TheVariants as tail
+use Rattle.octseq_dns_data.specs.declared.layout.Field.{Field}
+use Rattle.octseq_dns_data.specs.declared.layout.Field.TheVariants as field
+use Rattle.octseq_dns_data.specs.declared.layout.Tail.{Tail}
+use Rattle.octseq_dns_data.specs.declared.layout.Tail.TheVariants as tail
 
 -- ---- addresses
 
@@ -143,7 +143,7 @@ in_one rtype class number text octets same one known shown =
 
 pub typed_shown : (rtype class : ℕ) (w inside : Window) (rdata : ParsedRdata) → IsSound w → IsSound inside
     → IsTypedData rtype class w inside rdata → ShowsData rtype class (rdata_text rdata) (rdata_octets rdata)
-unfolding layout_in_class is_of_class_in
+unfolding layout_of
 typed_shown rtype class w inside (ParsedRdata.a octets) sound in_it is =
     let (same, one, at) = is.rdata_is in
     in_one rtype class types.a (ipv4_text octets) octets same one refl (ipv4_shown w octets is.end sound at)

@@ -13,7 +13,8 @@ use Rattle.octseq_dns_data.specs.Form.{octets_of, plain_name, string}
 use Rattle.octseq_dns_data.specs.Formed.{IsFormed, IsSome, IsSomeString, IsString}
 use Rattle.octseq_dns_data.specs.PlainName.{named}
 use Rattle.octseq_dns_data.specs.Tag.{IsCaaTag}
-use Rattle.octseq_dns_data.specs.Typed.{hexadecimal, quoted, rtype_number, salt_text}
+use Rattle.octseq_dns_data.specs.Typed.{hexadecimal, owner_hash, quoted, rtype_number, salt, salt_text, some_base64}
+use Rattle.octseq_dns_data.specs.Typed.{some_hexadecimal, time}
 use Rattle.octseq_dns_name.proofs.LabelLaws.{named_labels, named_octets}
 use Rattle.octseq_dns_name.specs.Name.{HasName, Name}
 use Rattle.octseq_dns_name.specs.NameFormat.{onward_name}
@@ -36,10 +37,10 @@ use Rattle.octseq_dns_text.proofs.SpacedWords.{IsFirst, IsLineWord, spaced}
 use Rattle.octseq_dns_text.specs.Fields.{IsFieldText}
 use Rattle.octseq_dns_text.specs.Layouts.{IsLayoutText}
 use Rattle.octseq_dns_text.specs.Tails.{IsTailText}
-use Rattle.octseq_dns_text.specs.declared.field.Field.{Field}
-use Rattle.octseq_dns_text.specs.declared.field.Field.TheVariants as field
-use Rattle.octseq_dns_text.specs.declared.tail.Tail.{Tail}
-use Rattle.octseq_dns_text.specs.declared.tail.Tail.TheVariants as tail
+use Rattle.octseq_dns_data.specs.declared.layout.Field.{Field}
+use Rattle.octseq_dns_data.specs.declared.layout.Field.TheVariants as field
+use Rattle.octseq_dns_data.specs.declared.layout.Tail.{Tail}
+use Rattle.octseq_dns_data.specs.declared.layout.Tail.TheVariants as tail
 
 -- ---- what is shown
 
@@ -177,7 +178,7 @@ four_octets = record {
   on = λ w n v sound is. number_on 4 n w v sound is;
 }
 
-pub a_time : IsShownPart field.Time (number 4)
+pub a_time : IsShownPart field.Time time
 a_time = record {
   word = λ w n v sound is.
       let small = number_fits 4 n w v sound is in
@@ -250,7 +251,7 @@ record IsShownString (it : Field) (HasForm : List ℕ → Type 0) (text : List �
       → IsFirst (text octets) × IsFieldText None it (text octets) (length octets ∷ octets)
 
 a_counted : {it : Field} {HasForm : List ℕ → Type 0} {text : List ℕ → List ℕ} → IsShownString it HasForm text
-    → IsShownPart it (string HasForm text)
+    → IsShownPart it (string HasForm text it)
 a_counted {it = it} {HasForm = HasForm} {text = text} shows = record {
   word = λ w place v sound is.
       let each = counted_each HasForm w place v sound is in
@@ -267,19 +268,19 @@ a_string = a_counted {HasForm = IsString} (record {
       let all = all_octets_of octets each in (string_first octets all, string_shown octets all is);
 })
 
-pub a_salt : IsShownPart field.Salt (string IsString salt_text)
+pub a_salt : IsShownPart field.Salt salt
 a_salt = a_counted {HasForm = IsString} (record {
   few = λ octets is. is;
   word = λ octets each is. (salt_first octets, salt_shown octets each is);
 })
 
-pub a_hash : IsShownPart field.OwnerHash (string IsSomeString base32hex_text)
+pub a_hash : IsShownPart field.OwnerHash owner_hash
 a_hash = a_counted {HasForm = IsSomeString} (record {
   few = λ octets is. is.1;
   word = λ octets each is. (base32hex_first octets is.0, hash_shown octets each is.0 is.1);
 })
 
-pub a_tag : IsShownPart field.Tag (string IsCaaTag (λ tag. tag))
+pub a_tag : IsShownPart field.Tag (string IsCaaTag (λ tag. tag) field.Tag)
 a_tag = a_counted {HasForm = IsCaaTag} (record {
   few = λ tag is. is.1;
   word = λ tag each is. (tag_first tag is.0, (tag, (refl, is.0), is.1, refl));
@@ -300,7 +301,7 @@ one_word it word octets first is = record {
 
 -- all octets that are left, of which there is one
 some_octets : {it : Tail} {text : List ℕ → List ℕ} → ((octets : List ℕ) → AreOctets octets → 1 ≤ length octets
-    → IsFirst (text octets) × IsTailText it (text octets ∷ []) octets) → IsShownForm [] it (octets_of IsSome text)
+    → IsFirst (text octets) × IsTailText it (text octets ∷ []) octets) → IsShownForm [] it (octets_of IsSome text it)
 some_octets {it = it} {text = text} shows = record {
   shown = λ w place v sound is.
       let each = subst (λ p. AreOctets (rest p)) (sym is.0.0) (each_rest w sound) in
@@ -308,17 +309,17 @@ some_octets {it = it} {text = text} shows = record {
       one_word it (text (rest place)) (rest place) both.0 both.1;
 }
 
-pub a_digest : IsShownForm [] tail.Hex (octets_of IsSome hexadecimal)
+pub a_digest : IsShownForm [] tail.Hex some_hexadecimal
 a_digest = some_octets (λ octets each some. (hex_first octets some, hex_shown octets each))
 
-pub a_key : IsShownForm [] tail.Base64 (octets_of IsSome base64_text)
+pub a_key : IsShownForm [] tail.Base64 some_base64
 a_key = some_octets (λ octets each some. (base64_first octets some, base64_shown octets each))
 
-pub a_target : IsShownForm [] tail.Target (octets_of IsSome string_text)
+pub a_target : IsShownForm [] tail.Target (octets_of IsSome string_text tail.Target)
 a_target = some_octets (λ octets each some.
     let all = all_octets_of octets each in (string_first octets all, value_shown octets 1 all some))
 
-pub a_value : IsShownForm [] tail.Value (all_octets string_text)
+pub a_value : IsShownForm [] tail.Value (all_octets string_text tail.Value)
 a_value = record {
   shown = λ w place v sound is.
       let each = subst (λ p. AreOctets (rest p)) (sym is.0) (each_rest w sound) in

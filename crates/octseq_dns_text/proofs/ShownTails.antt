@@ -17,7 +17,7 @@ use Rattle.octseq_dns_text.proofs.ShownForms.{IsShownTail, each_rest}
 use Rattle.octseq_dns_text.proofs.SpacedWords.{IsFeedless, IsLineWord, spaced_map}
 use Rattle.octseq_dns_text.proofs.TypesShown.{types_shown}
 use Rattle.octseq_dns_text.specs.TypesText.{IsTypesText}
-use Rattle.octseq_dns_text.specs.declared.tail.Tail.TheVariants as tail
+use Rattle.octseq_dns_data.specs.declared.layout.Tail.TheVariants as tail
 
 both_all : (P Q : List ℕ → Type 0) (xs : List (List ℕ)) → AllByRecursion P xs → AllByRecursion Q xs
     → AllByRecursion (λ x. P x × Q x) xs

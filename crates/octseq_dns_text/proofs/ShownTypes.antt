@@ -5,8 +5,8 @@ use Rattle.std.proofs.lemmas.Bool.Decides.{Decides-eqb}
 use Rattle.std.specs.Prelude.{nat_eq}
 use Rattle.octseq.specs.Window.{Window}
 use Rattle.octseq_dns_data.specs.Form.{Form, no_form}
-use Rattle.octseq_dns_data.specs.Typed.{IsOfClass, KnownType, form, in_any_class, in_class_in, known_in, known_types}
-use Rattle.octseq_dns_data.specs.Typed.{pick}
+use Rattle.octseq_dns_data.specs.Typed.{IsClass, IsOfClass, KnownType, form, in_any_class, in_class_in, known_in}
+use Rattle.octseq_dns_data.specs.Typed.{known_types, layout_of, pick}
 use Rattle.octseq_dns_data.specs.Rtype as types
 use Rattle.octseq_dns_scan.specs.Word.{AreWords}
 use Rattle.octseq_format.specs.Canonical.{IsSound}
@@ -17,10 +17,9 @@ use Rattle.octseq_dns_text.proofs.ShownTails.{a_bitmap, the_params}
 use Rattle.octseq_dns_text.proofs.SpacedWords.{IsFeedless, spaced_feedless, spaced_words}
 use Rattle.octseq_dns_text.specs.DataShown.{ShowsData}
 use Rattle.octseq_dns_text.specs.DataText.{opaque_word}
-use Rattle.octseq_dns_text.specs.Layouts.{IsLayoutText, is_of_class_in, layout_in_class, layout_of}
-use Rattle.octseq_dns_text.specs.Layouts.{layout_value}
-use Rattle.octseq_dns_text.specs.declared.field.Field.{Field}
-use Rattle.octseq_dns_text.specs.declared.tail.Tail.{Tail}
+use Rattle.octseq_dns_text.specs.Layouts.{IsLayoutText, layout_value}
+use Rattle.octseq_dns_data.specs.declared.layout.Field.{Field}
+use Rattle.octseq_dns_data.specs.declared.layout.Tail.{Tail}
 
 -- what is shown in the layout of a type and a class is data of them
 pub data_shown : (rtype class : ℕ) (fields : List Field) (end : Tail) (text octets : List ℕ)
@@ -40,7 +39,7 @@ data_shown rtype class fields end text octets known shown = record {
 
 -- The text of data of a type, which has a number and a form, is that of data.
 record IsShownType (number : ℕ) (it : KnownType) : Type 0 where
-  shown : (class : ℕ) (w : Window) (found : it.form.Found) (v : Window) → IsSound w → it.IsOfClass class
+  shown : (class : ℕ) (w : Window) (found : it.form.Found) (v : Window) → IsSound w → IsClass it.is_of_class_in class
       → it.form.Is w found v → ShowsData number class (it.form.text found) (it.form.octets (it.form.says found))
 
 of_any : {fields : List Field} {end : Tail} (number : ℕ) (f : Form)
@@ -70,7 +69,7 @@ infixr 3 ◌and_also◌
 one and_also more = (one, more)
 
 all_shown : AreShown known_types
-unfolding layout_in_class is_of_class_in
+unfolding layout_of
 all_shown =
     of_any types.hinfo _ (λ class. refl) (a_string shown_before shown_alone a_string)
     and_also of_any types.dname _ (λ class. refl) (shown_alone a_plain_name)
