@@ -5,7 +5,10 @@ pub mod LineFaults
 pub mod MessageFaults
 pub mod MessageTexts
 pub mod Named
+pub mod OneMessage
 pub mod Places
 pub mod Questions
 pub mod Records
 pub mod Samples
+pub mod ShownMessages
+pub mod ShownRecords

@@ -15,6 +15,7 @@ use Rattle.octseq_dns_data.specs.Data as read
 use Rattle.octseq_dns_message.specs.declared.header.Header.{Header}
 use Rattle.octseq_dns_message.specs.declared.header.HeaderCounts.{HeaderCounts}
 use Rattle.octseq_dns_compose.specs.HeaderLine.{IsHeaderLine}
+use Rattle.octseq_dns_compose.specs.MessageShown.{SaysLines, entries_said}
 use Rattle.octseq_dns_compose.specs.MessageText.{AreEntries, Entry, HasRead, HasWritten, IsEntryLine, IsMessageText}
 use Rattle.octseq_dns_compose.specs.MessageText.{IsQuestionLine, IsRecordLine, IsRecordOf, IsWith, IsWithAll, Said}
 use Rattle.octseq_dns_compose.specs.MessageText.{headed_message, section_of}
@@ -175,6 +176,48 @@ whole_message header questions answers authorities additionals =
     all_more more_additionals (all_more more_authorities (all_more more_answers
     (all_more more_questions (headed_message header) questions) answers) authorities) additionals
 
+-- the line of a header, and those of the sections
+pub says_lines : (text a b c d e : List ℕ) (header : Header) (first : Line) (questions : List Question)
+    (answers authorities additionals : List Said) (q_lines r_lines u_lines d_lines : List Line)
+    → TakesLine first text a → IsHeaderLine header first → BeginsWithLines q_lines a b
+    → AllZip IsQuestionLine questions q_lines → BeginsWithLines r_lines b c
+    → AllZip (IsRecordLine (codes "answer")) answers r_lines → BeginsWithLines u_lines c d
+    → AllZip (IsRecordLine (codes "authority")) authorities u_lines → BeginsWithLines d_lines d e
+    → AllZip (IsRecordLine (codes "additional")) additionals d_lines → e ≡ []
+    → SaysLines text header (entries_said questions answers authorities additionals)
+says_lines text a b c d e header first questions answers authorities additionals q_lines r_lines u_lines d_lines taken
+    is q_begins q_are r_begins r_are u_begins u_are d_begins d_are over =
+    let e3 = map Entry.additional additionals ++ [] in
+    let e2 = map Entry.authority authorities ++ e3 in
+    let e1 = map Entry.answer answers ++ e2 in
+    let l3 = d_lines ++ [] in
+    let l2 = u_lines ++ l3 in
+    let l1 = r_lines ++ l2 in
+    let three : AreEntries 2 e3 l3 = section_first Entry.additional (IsRecordLine (codes "additional")) 3 2 additionals
+    d_lines [] [] (λ s. refl) (λ s words it. it) (omega arith) d_are refl in
+    let two : AreEntries 1 e2 l2 = section_first Entry.authority (IsRecordLine (codes "authority")) 2 1 authorities
+    u_lines e3 l3 (λ s. refl) (λ s words it. it) (omega arith) u_are three in
+    let one : AreEntries 0 e1 l1 = section_first Entry.answer (IsRecordLine (codes "answer")) 1 0 answers r_lines e2 l2
+    (λ s. refl) (λ s words it. it) (omega arith) r_are two in
+    let all : AreEntries 0 (map Entry.question questions ++ e1) (q_lines ++ l1) =
+    section_first Entry.question IsQuestionLine 0 0 questions q_lines e1 l1 (λ s. refl) (λ s words it. it) (omega arith)
+    q_are one in
+    let last : BeginsWithLines l3 d e =
+    subst (λ ls. BeginsWithLines ls d e) (sym (append-nil d_lines)) d_begins in
+    let begins = lines_more q_lines l1 a b e q_begins (lines_more r_lines l2 b c e r_begins
+    (lines_more u_lines l3 c d e u_begins last)) in
+    record {
+      lines = first ∷ (q_lines ++ l1);
+      lines_are = (a, taken, lines_end (q_lines ++ l1) a e begins over);
+      say = record {
+        first = first;
+        others = q_lines ++ l1;
+        lines_are = refl;
+        header_is = is;
+        entries_are = all;
+      };
+    }
+
 pub message_text : (text a b c d e : List ℕ) (i j k l n : ℕ) (header : Header) (first : Line)
     (questions : List Question) (answers authorities additionals : List Said) (rs us ds : List Record)
     → TakesLine first text a → IsHeaderLine header first → HasRead IsQuestionLine a b i j questions
@@ -193,37 +236,18 @@ message_text text a b c d e i j k l n header first questions answers authorities
     let e3 = map Entry.additional additionals ++ [] in
     let e2 = map Entry.authority authorities ++ e3 in
     let e1 = map Entry.answer answers ++ e2 in
-    let l3 = d_read.lines ++ [] in
-    let l2 = u_read.lines ++ l3 in
-    let l1 = r_read.lines ++ l2 in
-    let three : AreEntries 2 e3 l3 = section_first Entry.additional (IsRecordLine (codes "additional")) 3 2 additionals
-    d_read.lines [] [] (λ s. refl) (λ s words it. it) (omega arith) d_read.are refl in
-    let two : AreEntries 1 e2 l2 = section_first Entry.authority (IsRecordLine (codes "authority")) 2 1 authorities
-    u_read.lines e3 l3 (λ s. refl) (λ s words it. it) (omega arith) u_read.are three in
-    let one : AreEntries 0 e1 l1 = section_first Entry.answer (IsRecordLine (codes "answer")) 1 0 answers r_read.lines
-    e2 l2 (λ s. refl) (λ s words it. it) (omega arith) r_read.are two in
-    let all : AreEntries 0 (map Entry.question questions ++ e1) (q_read.lines ++ l1) =
-    section_first Entry.question IsQuestionLine 0 0 questions q_read.lines e1 l1 (λ s. refl) (λ s words it. it)
-    (omega arith) q_read.are one in
-    let last : BeginsWithLines l3 d e =
-    subst (λ ls. BeginsWithLines ls d e) (sym (append-nil d_read.lines)) d_read.begins in
-    let begins = lines_more q_read.lines l1 a b e q_read.begins (lines_more r_read.lines l2 b c e r_read.begins
-    (lines_more u_read.lines l3 c d e u_read.begins last)) in
+    let says = says_lines text a b c d e header first questions answers authorities additionals q_read.lines
+    r_read.lines u_read.lines d_read.lines taken is q_read.begins q_read.are r_read.begins r_read.are u_read.begins
+    u_read.are d_read.begins d_read.are over in
     let with_r = with_records Entry.answer more_answers (λ m s r it. (r, it, refl)) m1 answers rs r_are in
     let with_u = with_records Entry.authority more_authorities (λ m s r it. (r, it, refl)) m2 authorities us u_are in
     let with_d = with_records Entry.additional more_additionals (λ m s r it. (r, it, refl)) m3 additionals ds d_are in
     record {
-      lines = first ∷ (q_read.lines ++ l1);
+      lines = says.lines;
       header = header;
       entries = map Entry.question questions ++ e1;
-      lines_are = (a, taken, lines_end (q_read.lines ++ l1) a e begins over);
-      say = record {
-        first = first;
-        others = q_read.lines ++ l1;
-        lines_are = refl;
-        header_is = is;
-        entries_are = all;
-      };
+      lines_are = says.lines_are;
+      say = says.say;
       message_is =
           with_more m0 m1 m4 (map Entry.question questions) e1 (with_questions m0 questions)
           (with_more m1 m2 m4 (map Entry.answer answers) e2 with_r

@@ -1,4 +1,5 @@
 pub mod HeaderLine
+pub mod MessageShown
 pub mod MessageText
 pub mod QuestionText
 pub mod Read
