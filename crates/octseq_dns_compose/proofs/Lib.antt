@@ -1,3 +1,4 @@
+pub mod ComposedMessages
 pub mod Faults
 pub mod Flags
 pub mod HeaderLines

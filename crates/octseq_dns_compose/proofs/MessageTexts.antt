@@ -218,6 +218,28 @@ says_lines text a b c d e header first questions answers authorities additionals
       };
     }
 
+pub whole_with : (header : Header) (questions : List Question) (answers authorities additionals : List Said)
+    (rs us ds : List Record) → AllZip IsRecordOf answers rs → AllZip IsRecordOf authorities us
+    → AllZip IsRecordOf additionals ds
+    → IsWithAll (headed_message header) (entries_said questions answers authorities additionals)
+    (whole_message header questions rs us ds)
+whole_with header questions answers authorities additionals rs us ds r_are u_are d_are =
+    let m0 = headed_message header in
+    let m1 = all_more more_questions m0 questions in
+    let m2 = all_more more_answers m1 rs in
+    let m3 = all_more more_authorities m2 us in
+    let m4 = all_more more_additionals m3 ds in
+    let e3 = map Entry.additional additionals ++ [] in
+    let e2 = map Entry.authority authorities ++ e3 in
+    let e1 = map Entry.answer answers ++ e2 in
+    let with_r = with_records Entry.answer more_answers (λ m s r it. (r, it, refl)) m1 answers rs r_are in
+    let with_u = with_records Entry.authority more_authorities (λ m s r it. (r, it, refl)) m2 authorities us u_are in
+    let with_d = with_records Entry.additional more_additionals (λ m s r it. (r, it, refl)) m3 additionals ds d_are in
+    with_more m0 m1 m4 (map Entry.question questions) e1 (with_questions m0 questions)
+    (with_more m1 m2 m4 (map Entry.answer answers) e2 with_r
+    (with_more m2 m3 m4 (map Entry.authority authorities) e3 with_u
+    (with_more m3 m4 m4 (map Entry.additional additionals) [] with_d refl)))
+
 pub message_text : (text a b c d e : List ℕ) (i j k l n : ℕ) (header : Header) (first : Line)
     (questions : List Question) (answers authorities additionals : List Said) (rs us ds : List Record)
     → TakesLine first text a → IsHeaderLine header first → HasRead IsQuestionLine a b i j questions
@@ -228,31 +250,16 @@ pub message_text : (text a b c d e : List ℕ) (i j k l n : ℕ) (header : Heade
     → IsMessageText text (whole_message header questions rs us ds)
 message_text text a b c d e i j k l n header first questions answers authorities additionals rs us ds taken is q_read
     r_read u_read d_read over r_are u_are d_are =
-    let m0 = headed_message header in
-    let m1 = all_more more_questions m0 questions in
-    let m2 = all_more more_answers m1 rs in
-    let m3 = all_more more_authorities m2 us in
-    let m4 = all_more more_additionals m3 ds in
-    let e3 = map Entry.additional additionals ++ [] in
-    let e2 = map Entry.authority authorities ++ e3 in
-    let e1 = map Entry.answer answers ++ e2 in
     let says = says_lines text a b c d e header first questions answers authorities additionals q_read.lines
     r_read.lines u_read.lines d_read.lines taken is q_read.begins q_read.are r_read.begins r_read.are u_read.begins
     u_read.are d_read.begins d_read.are over in
-    let with_r = with_records Entry.answer more_answers (λ m s r it. (r, it, refl)) m1 answers rs r_are in
-    let with_u = with_records Entry.authority more_authorities (λ m s r it. (r, it, refl)) m2 authorities us u_are in
-    let with_d = with_records Entry.additional more_additionals (λ m s r it. (r, it, refl)) m3 additionals ds d_are in
     record {
       lines = says.lines;
       header = header;
-      entries = map Entry.question questions ++ e1;
+      entries = entries_said questions answers authorities additionals;
       lines_are = says.lines_are;
       say = says.say;
-      message_is =
-          with_more m0 m1 m4 (map Entry.question questions) e1 (with_questions m0 questions)
-          (with_more m1 m2 m4 (map Entry.answer answers) e2 with_r
-          (with_more m2 m3 m4 (map Entry.authority authorities) e3 with_u
-          (with_more m3 m4 m4 (map Entry.additional additionals) [] with_d refl)));
+      message_is = whole_with header questions answers authorities additionals rs us ds r_are u_are d_are;
     }
 
 -- ---- what stays the same

@@ -28,7 +28,7 @@ use Rattle.octseq_dns_compose.proofs.Samples.{one_class, one_rtype}
 
 -- ---- lines
 
-lines_once : (text : List ℕ) (lines others : List Line) → AreLines lines text → AreLines others text
+pub lines_once : (text : List ℕ) (lines others : List Line) → AreLines lines text → AreLines others text
     → lines ≡ others
 lines_once text [] [] one two = refl
 lines_once text [] (words ∷ others) one two = absurd (some_line words text two.0 two.1 one)
@@ -250,8 +250,8 @@ entries_once from entries others (words ∷ lines) (entry, more, is, at, line, r
     (subst (λ e. AreEntries (section_of e) after lines) (sym first) end) in
     is ∙ (λ i. first i ∷ all i) ∙ sym also
 
-lines_say : (lines : List Line) (header other : Header) (entries others : List Entry) → SayEntries lines header entries
-    → SayEntries lines other others → (header ≡ other) × (entries ≡ others)
+pub lines_say : (lines : List Line) (header other : Header) (entries others : List Entry)
+    → SayEntries lines header entries → SayEntries lines other others → (header ≡ other) × (entries ≡ others)
 lines_say lines header other entries others one two =
     let same : one.first ∷ one.others ≡ two.first ∷ two.others = sym one.lines_are ∙ two.lines_are in
     let first : two.first ≡ one.first = cc in

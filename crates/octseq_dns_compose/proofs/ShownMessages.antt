@@ -5,6 +5,7 @@ use Rattle.std.specs.List.{AllByRecursion, AllZip}
 use Rattle.octseq.proofs.WrittenBack.{AreOctets}
 use Rattle.octseq.specs.Window.{Window, whole}
 use Rattle.octseq_dns.specs.Contents.{Question}
+use Rattle.octseq_dns.specs.ReadBack.{bare}
 use Rattle.octseq_dns_data.specs.Format.{IsNumber}
 use Rattle.octseq_dns_message.proofs.Formats.{onward_number, onward_question, onward_record}
 use Rattle.octseq_dns_message.specs.Entry as read
@@ -27,7 +28,7 @@ use Rattle.octseq_format.specs.Canonical.{IsSound, sound_on}
 use Rattle.octseq_format.specs.Row.{Row, onward_row}
 use Rattle.octseq_dns_compose.specs.HeaderLine.{IsHeaderLine, flag_word, flag_words}
 use Rattle.octseq_dns_compose.specs.MessageShown.{IsSaidOf, ShowsMessage, ShowsWords}
-use Rattle.octseq_dns_compose.specs.MessageShown.{header_said, question_said, said_of}
+use Rattle.octseq_dns_compose.specs.MessageShown.{header_said, said_of}
 use Rattle.octseq_dns_compose.specs.MessageText.{IsQuestionLine, IsRecordLine}
 use Rattle.octseq_dns_compose.specs.Take.{IsUpTo}
 use Rattle.octseq_dns_compose.specs.TextLines.{BeginsWithLines, TakesLine}
@@ -80,12 +81,12 @@ records_shown section word w v (r ∷ records) text rest sound (u, one, row) (rd
     }
 
 abbrev IsQuestionOf : read.Question → Question → Type 0
-IsQuestionOf q said = said ≡ question_said q
+IsQuestionOf q said = said ≡ bare q
 
 questions_shown : IsLineWord (codes "question") → (w v : Window) (questions : List read.Question) (rest : List ℕ)
     → IsSound w → Row IsQuestion w questions v
     → (lines : List Line) × BeginsWithLines lines (questions_text questions ++ rest) rest
-    × AllZip IsQuestionLine (map question_said questions) lines
+    × AllZip IsQuestionLine (map bare questions) lines
 questions_shown word w v [] rest sound row = ([], refl, tt)
 questions_shown word w v (q ∷ questions) rest sound (u, one, row) =
     let first = question_shown w q u sound one in
@@ -262,7 +263,7 @@ message_shown octets text header questions answers authorities additionals each 
       additionals_said = e.said;
       additionals_are = e.are;
       says =
-          says_lines text a b c d [] (header_said header) first.words (map question_said questions) r.said u.said e.said
+          says_lines text a b c d [] (header_said header) first.words (map bare questions) r.said u.said e.said
           lines r.lines u.lines e.lines taken first.is begins asked
           r.begins r.read u.begins u.read e.begins e.read refl;
     }

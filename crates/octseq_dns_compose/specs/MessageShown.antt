@@ -1,14 +1,15 @@
 -- What the text says that is shown of a record, a question and a message.
 use Rattle.std.specs.Prelude.{◌≡◌, ℕ, false, None, List, [], ◌++◌, map}
 use Rattle.std.specs.List.{AllByRecursion, AllZip}
-use Rattle.octseq_dns.specs.Contents.{Question}
+use Rattle.octseq_dns.specs.Contents.{Message, Question}
+use Rattle.octseq_dns.specs.ReadBack.{bare}
 use Rattle.octseq_dns_data.specs.Data.{ParsedRdata}
 use Rattle.octseq_dns_message.specs.Entry as read
 use Rattle.octseq_dns_message.specs.RecordData.{IsDataOf}
 use Rattle.octseq_dns_message.specs.declared.header.Header.{Header}
 use Rattle.octseq_dns_scan.specs.Word.{AreWords}
 use Rattle.octseq_dns_text.specs.DataShown.{rdata_octets}
-use Rattle.octseq_dns_compose.specs.MessageText.{Entry, Said, SayEntries}
+use Rattle.octseq_dns_compose.specs.MessageText.{Entry, IsRecordOf, Said, SayEntries}
 use Rattle.octseq_dns_compose.specs.RecordText.{IsRecordText}
 use Rattle.octseq_dns_compose.specs.TextLines.{AreLines}
 
@@ -37,10 +38,6 @@ IsSaidOf r said = (rdata : ParsedRdata) × IsDataOf r rdata × (said ≡ said_of
 abbrev pub IsTextOf : Said → List (List ℕ) → Type 0
 IsTextOf said words = IsRecordText None said.head words said.octets
 
--- of a question
-abbrev pub question_said : read.Question → Question
-question_said q = record { labels = q.qname.labels; qtype = q.qtype; qclass = q.qclass }
-
 -- of a header: all but the reserved bit, which has no word
 abbrev pub header_said : Header → Header
 header_said h = record h { flags = record h.flags { z = false } }
@@ -68,4 +65,13 @@ pub record ShowsMessage (header : Header) (questions : List read.Question)
   pub additionals_said : List Said
   pub additionals_are : AllZip IsSaidOf additionals additionals_said
   pub says : SaysLines text (header_said header)
-      (entries_said (map question_said questions) answers_said authorities_said additionals_said)
+      (entries_said (map bare questions) answers_said authorities_said additionals_said)
+
+-- A message is what lines say: a header, questions, and a record for each line of one.
+pub record IsMessageOf (header : Header) (questions : List Question) (answers authorities additionals : List Said)
+    (m : Message) : Type 0 where
+  pub header_is : m.header ≡ header
+  pub questions_are : m.questions ≡ questions
+  pub answers_are : AllZip IsRecordOf answers m.answers
+  pub authorities_are : AllZip IsRecordOf authorities m.authorities
+  pub additionals_are : AllZip IsRecordOf additionals m.additionals

@@ -1,8 +1,8 @@
 //! What the text of a message says.
-ghost use Rattle.std.specs.Prelude.{◌≡◌, ℕ, List};
+ghost use Rattle.std.specs.Prelude.{◌≡◌, ◌↔◌, ℕ, List};
 ghost use Rattle.octseq.proofs.WrittenBack.{AreOctets};
 ghost use Rattle.octseq.specs.Window.{Window};
-ghost use Rattle.octseq_dns.specs.Contents.{Message};
+ghost use Rattle.octseq_dns.specs.Contents.{Message, Question as Asked};
 ghost use Rattle.octseq_dns_data.specs.Data.{ParsedRdata};
 ghost use Rattle.octseq_dns_message.specs.Entry.{IsQuestion, IsRecord, Question, Record};
 ghost use Rattle.octseq_dns_message.specs.HeaderText.{question_text};
@@ -12,8 +12,9 @@ ghost use Rattle.octseq_dns_message.specs.MessageText.{record_text};
 ghost use Rattle.octseq_dns_message.specs.RecordData.{IsDataOf};
 ghost use Rattle.octseq_dns_message.specs.declared.header.Header.{Header};
 ghost use Rattle.octseq_format.specs.Canonical.{IsSound};
-ghost use Rattle.octseq_dns_compose.specs.MessageShown.{IsTextOf, ShowsMessage, ShowsWords, said_of};
-ghost use Rattle.octseq_dns_compose.specs.MessageText.{IsMessageText};
+ghost use Rattle.octseq_dns_compose.specs.MessageShown.{IsMessageOf, IsTextOf, SaysLines, ShowsMessage, ShowsWords};
+ghost use Rattle.octseq_dns_compose.specs.MessageShown.{entries_said, said_of};
+ghost use Rattle.octseq_dns_compose.specs.MessageText.{IsMessageText, Said};
 ghost use Rattle.octseq_dns_compose.specs.QuestionText.{IsQuestionText};
 
 /// A text is that of one message at most.
@@ -45,4 +46,14 @@ pub fn messages_are_read_as_shown()
         → IsMessage octets header questions answers authorities additionals
         → shown.IsMessageText header questions answers authorities additionals text
         → ShowsMessage header questions answers authorities additionals text }
+{}
+
+/// If a text consists of the lines of a header, of questions and of records, it is the text of a message exactly if
+/// that has the header, the questions, and the record of each line.
+///
+/// It does nothing. Calling it brings the law into the caller's proof.
+pub fn a_message_is_what_its_lines_say()
+    ensures { (text : List ℕ) (header : Header) (questions : List Asked) (answers authorities additionals : List Said)
+        (m : Message) → SaysLines text header (entries_said questions answers authorities additionals)
+        → IsMessageText text m ↔ IsMessageOf header questions answers authorities additionals m }
 {}
