@@ -50,7 +50,7 @@ up_to_later from section [] less are = tt
 up_to_later from section (entry ∷ entries) less are =
     let here = are.0 in (omega (arith, here, less), up_to_later from section entries less are.1)
 
-entries_after : (from section : ℕ) (entries others : List Entry) (lines more : List Line) → from ≤ section
+pub entries_after : (from section : ℕ) (entries others : List Entry) (lines more : List Line) → from ≤ section
     → AreEntries from entries lines → UpTo section entries → AreEntries section others more
     → AreEntries from (entries ++ others) (lines ++ more)
 entries_after from section entries others [] more less are last after =
@@ -65,7 +65,7 @@ entries_after from section entries others (words ∷ lines) more less are last a
       entries_after (section_of are.0) section are.1 others lines more ends.0 are.5 ends.1 after,
     )
 
-with_more : (m n all : Message) (entries others : List Entry) → IsWithAll m entries n → IsWithAll n others all
+pub with_more : (m n all : Message) (entries others : List Entry) → IsWithAll m entries n → IsWithAll n others all
     → IsWithAll m (entries ++ others) all
 with_more m n all [] others one two = subst (λ x. IsWithAll x others all) one two
 with_more m n all (entry ∷ entries) others one two =
@@ -73,7 +73,7 @@ with_more m n all (entry ∷ entries) others one two =
 
 -- ---- the entries of one section
 
-section_entries : {A : Type 0} (make : A → Entry) (IsText : A → Line → Type 0) (section from : ℕ) (values : List A)
+pub section_entries : {A : Type 0} (make : A → Entry) (IsText : A → Line → Type 0) (section from : ℕ) (values : List A)
     (lines : List Line) → SaysAs make IsText section → from ≤ section → AllZip IsText values lines
     → AreEntries from (map make values) lines
 section_entries make IsText section from [] [] says less all = refl
@@ -89,7 +89,7 @@ section_entries make IsText section from (a ∷ values) (words ∷ lines) says l
       section_entries make IsText section (section_of (make a)) values lines says (omega (arith, here)) all.1,
     )
 
-section_up_to : {A : Type 0} (make : A → Entry) (section : ℕ) (values : List A)
+pub section_up_to : {A : Type 0} (make : A → Entry) (section : ℕ) (values : List A)
     → ((a : A) → section_of (make a) ≡ section) → UpTo section (map make values)
 section_up_to make section [] of = tt
 section_up_to make section (a ∷ values) of =
@@ -241,7 +241,7 @@ pub questions : Section Entry.question IsQuestionLine 0 (codes "question") IsAny
 questions =
     record { says = record { of = λ q. refl; is = λ q words is. is }; of = of_questions; few = omega arith }
 
-with_questions : (m : Message) (all : List Question)
+pub with_questions : (m : Message) (all : List Question)
     → IsWithAll m (map Entry.question all) (all_more more_questions m all)
 with_questions m [] = refl
 with_questions m (q ∷ all) = (more_questions m q, refl, with_questions (more_questions m q) all)
@@ -281,6 +281,16 @@ additionals = record {
   counted = counted_additionals;
   named = inr (inr refl);
 }
+
+module _ {make : Said → Entry} {section : ℕ} {word : List ℕ} {more : Message → Record → Message}
+    {count : HeaderCounts → ℕ} (records : Records make section word more count) where
+  pub with_records : (m : Message) (said : List Said) (all : List Record) → AllZip IsRecordOf said all
+      → IsWithAll m (map make said) (all_more more m all)
+  with_records m [] [] are = refl
+  with_records m [] (r ∷ all) are = absurd are
+  with_records m (s ∷ said) [] are = absurd are
+  with_records m (s ∷ said) (r ∷ all) are =
+      (more m r, records.adds m s r are.0, with_records (more m r) said all are.1)
 
 -- ---- texts that are read, and texts that are too long
 
@@ -362,14 +372,6 @@ module _ {B T : Type 0} {most : ℕ} {text a : List ℕ} {i : ℕ} {before : Bui
 module _ {make : Said → Entry} {section : ℕ} {word : List ℕ} {more : Message → Record → Message}
     {count : HeaderCounts → ℕ} (records : Records make section word more count) {B T : Type 0} {most : ℕ}
     {text a : List ℕ} {i : ℕ} {before : Building B T} (now : Stage most text a i section before) where
-  with_records : (m : Message) (said : List Said) (all : List Record) → AllZip IsRecordOf said all
-      → IsWithAll m (map make said) (all_more more m all)
-  with_records m [] [] are = refl
-  with_records m [] (r ∷ all) are = absurd are
-  with_records m (s ∷ said) [] are = absurd are
-  with_records m (s ∷ said) (r ∷ all) are =
-      (more m r, records.adds m s r are.0, with_records (more m r) said all are.1)
-
   pub records_stage : (after : Building B T) (b : List ℕ) (j : ℕ) (said : List Said)
       → HasRead (IsRecordLine word) a b i j said → IsNoneOf word b
       → HasWritten most more said before.state after.state before.header after.header before.counts after.counts
@@ -380,7 +382,7 @@ module _ {make : Said → Entry} {section : ℕ} {word : List ℕ} {more : Messa
         said = section_said records.sect now.said b j said read none;
         m = then;
         message_is = section_message records.sect now said then
-            (with_records now.m said written.records written.are);
+            (with_records records now.m said written.records written.are);
         writes = written.written now.m now.writes;
         free = limit ∙ now.free;
       }
@@ -429,7 +431,7 @@ module _ {make : Said → Entry} {section : ℕ} {word : List ℕ} {more : Messa
       either (inl with') =
           long_message records.sect now limit count found.ahead found.now found.values
           (all_more more now.m with'.records) records.counted found.read
-          (with_records now.m found.values with'.records with'.are) (with'.exceeds now.m now.writes)
+          (with_records records now.m found.values with'.records with'.are) (with'.exceeds now.m now.writes)
       either (inr long) = long_data (message_limit limit) (record {
         values = found.values;
         ahead = found.ahead;

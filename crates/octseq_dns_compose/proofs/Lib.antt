@@ -1,3 +1,4 @@
+pub mod ComposedMessages
 pub mod Composing
 pub mod Faults
 pub mod Flags
@@ -6,9 +7,13 @@ pub mod LineFaults
 pub mod MessageFaults
 pub mod MessageTexts
 pub mod Named
+pub mod OneMessage
 pub mod Overrun
 pub mod Places
 pub mod PlainNames
 pub mod Questions
 pub mod Records
 pub mod Samples
+pub mod SectionLines
+pub mod ShownMessages
+pub mod ShownRecords

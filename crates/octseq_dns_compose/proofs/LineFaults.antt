@@ -53,7 +53,7 @@ line_once words others text rest left one two =
     (words_once words others two.0 (subst (AreWords words) both.0 one.3) two.3, same)
 
 -- a text with lines isn't empty
-some_line : (words : Line) (text rest : List ℕ) → TakesLine words text rest → ¬ (text ≡ [])
+pub some_line : (words : Line) (text rest : List ℕ) → TakesLine words text rest → ¬ (text ≡ [])
 some_line words text rest taken none =
     let size = ap length (sym none ∙ taken.1) ∙ length-append taken.0 (10 ∷ rest) in
     omega (arith, size)

@@ -1,5 +1,6 @@
 pub mod Alone
 pub mod HeaderLine
+pub mod MessageShown
 pub mod MessageText
 pub mod QuestionText
 pub mod Read

@@ -9,6 +9,7 @@ mod entry;
 pub mod error;
 mod head;
 mod header;
+pub mod laws;
 mod lines;
 pub mod message;
 mod numbers;
@@ -17,5 +18,9 @@ pub mod record;
 mod take;
 
 pub use error::{ComposeError, Place};
+pub use laws::{
+    a_message_is_what_its_lines_say, a_text_is_of_one_message, messages_are_read_as_shown,
+    records_are_read_as_shown,
+};
 pub use message::{a_refused_text_is_no_message, compose_text};
 pub use record::{RecordHead, scan_record};

@@ -1,0 +1,172 @@
+-- The messages of a text are those that its lines say.
+use Rattle.std.proofs.Common.{◌≡◌, ◌↔◌, ℕ, List, [], ◌∷◌, ◌++◌, map, refl, sym, ap, ◌∙◌, subst}
+use Rattle.std.proofs.Common.{append_assoc, append-nil}
+use Rattle.std.specs.List.{AllZip, each_same}
+use Rattle.octseq_dns.specs.Contents.{Message, Question, Record}
+use Rattle.octseq_dns.specs.Writes.{all_more, more_answers, more_authorities, more_questions}
+use Rattle.octseq_dns_message.specs.declared.header.Header.{Header}
+use Rattle.octseq_dns_compose.specs.MessageShown.{IsMessageOf, SaysLines, entries_said}
+use Rattle.octseq_dns_compose.specs.MessageText.{Entry, IsMessageText, IsRecordOf, IsWith, IsWithAll, Said, SayEntries}
+use Rattle.octseq_dns_compose.specs.MessageText.{headed_message}
+use Rattle.octseq_dns_compose.proofs.SectionLines.{whole_message, whole_with}
+use Rattle.octseq_dns_compose.proofs.OneMessage.{lines_once, lines_say}
+
+split_all : (m all : Message) (xs ys : List Entry) → IsWithAll m (xs ++ ys) all
+    → (mid : Message) × IsWithAll m xs mid × IsWithAll mid ys all
+split_all m all [] ys is = (m, refl, is)
+split_all m all (x ∷ xs) ys (more, one, rest) =
+    let (mid, front, after) = split_all more all xs ys rest in
+    (mid, (more, one, front), after)
+
+-- A section of a message: its values, and the message with others.
+record IsPlace {A : Type 0} (get : Message → List A) (put : Message → List A → Message) : Type 0 where
+  same : (m : Message) → put m (get m) ≡ m
+  last : (m : Message) (xs ys : List A) → put (put m xs) ys ≡ put m ys
+  there : (m : Message) (xs : List A) → get (put m xs) ≡ xs
+
+module _ {A : Type 0} (get : Message → List A) (put : Message → List A → Message) (place : IsPlace get put) where
+  none_put : (m : Message) → put m (get m ++ []) ≡ m
+  none_put m = ap (put m) (append-nil (get m)) ∙ place.same m
+
+  -- one more value, and then others
+  then_put : (m more : Message) (x : A) (xs : List A) → more ≡ put m (get m ++ x ∷ [])
+      → put more (get more ++ xs) ≡ put m (get m ++ x ∷ xs)
+  then_put m more x xs is =
+      let one = get m ++ x ∷ [] in
+      ap (λ (n : Message). put n (get n ++ xs)) is ∙ place.last m one (get (put m one) ++ xs)
+      ∙ ap (λ l. put m (l ++ xs)) (place.there m one) ∙ ap (put m) (append_assoc (get m) (x ∷ []) xs)
+
+  all_put : (m : Message) (xs : List A) → all_more (λ n x. put n (get n ++ x ∷ [])) m xs ≡ put m (get m ++ xs)
+  all_put m [] = sym (none_put m)
+  all_put m (x ∷ xs) =
+      let more = put m (get m ++ x ∷ []) in
+      all_put more xs ∙ then_put m more x xs refl
+
+  -- entries of the section, each with a value of it
+  module _ {S : Type 0} (make : S → Entry) (Is : S → A → Type 0)
+      (one : (m more : Message) (s : S) → IsWith m (make s) more → (x : A) × Is s x × (more ≡ put m (get m ++ x ∷ [])))
+    where
+      entries_put : (m mid : Message) (said : List S) → IsWithAll m (map make said) mid
+          → (xs : List A) × AllZip Is said xs × (mid ≡ put m (get m ++ xs))
+      entries_put m mid [] is = ([], tt, is ∙ sym (none_put m))
+      entries_put m mid (s ∷ said) (more, first, rest) =
+          let (x, is, same) = one m more s first in
+          let (xs, are, all) = entries_put more mid said rest in
+          (x ∷ xs, (is, are), all ∙ then_put m more x xs same)
+
+-- ---- the sections
+
+abbrev put_questions : Message → List Question → Message
+put_questions m xs = record m { questions = xs }
+
+abbrev put_answers : Message → List Record → Message
+put_answers m xs = record m { answers = xs }
+
+abbrev put_authorities : Message → List Record → Message
+put_authorities m xs = record m { authorities = xs }
+
+abbrev put_additionals : Message → List Record → Message
+put_additionals m xs = record m { additionals = xs }
+
+questions_place : IsPlace (λ (m : Message). m.questions) put_questions
+questions_place = record { same = λ m. refl; last = λ m xs ys. refl; there = λ m xs. refl }
+
+answers_place : IsPlace (λ (m : Message). m.answers) put_answers
+answers_place = record { same = λ m. refl; last = λ m xs ys. refl; there = λ m xs. refl }
+
+authorities_place : IsPlace (λ (m : Message). m.authorities) put_authorities
+authorities_place = record { same = λ m. refl; last = λ m xs ys. refl; there = λ m xs. refl }
+
+additionals_place : IsPlace (λ (m : Message). m.additionals) put_additionals
+additionals_place = record { same = λ m. refl; last = λ m xs ys. refl; there = λ m xs. refl }
+
+abbrev message_with : Header → List Question → List Record → List Record → List Record → Message
+message_with header questions answers authorities additionals = record {
+  header = header;
+  questions = questions;
+  answers = answers;
+  authorities = authorities;
+  additionals = additionals;
+}
+
+whole_is : (header : Header) (questions : List Question) (rs us ds : List Record)
+    → whole_message header questions rs us ds ≡ message_with header questions rs us ds
+whole_is header questions rs us ds =
+    let m1 = all_more more_questions (headed_message header) questions in
+    let m2 = all_more more_answers m1 rs in
+    let m3 = all_more more_authorities m2 us in
+    let m0 = headed_message header in
+    let first = all_put (λ (m : Message). m.questions) put_questions questions_place m0 questions in
+    let second = all_put (λ (m : Message). m.answers) put_answers answers_place m1 rs in
+    let third = all_put (λ (m : Message). m.authorities) put_authorities authorities_place m2 us in
+    let fourth = all_put (λ (m : Message). m.additionals) put_additionals additionals_place m3 ds in
+    fourth ∙ ap (λ (m : Message). put_additionals m (m.additionals ++ ds))
+    (third ∙ ap (λ (m : Message). put_authorities m (m.authorities ++ us))
+    (second ∙ ap (λ (m : Message). put_answers m (m.answers ++ rs)) first))
+
+-- what entries say of a message
+message_of : (header : Header) (questions : List Question) (answers authorities additionals : List Said) (m : Message)
+    → IsWithAll (headed_message header) (entries_said questions answers authorities additionals) m
+    → IsMessageOf header questions answers authorities additionals m
+message_of header questions answers authorities additionals m is =
+    let m0 = headed_message header in
+    let e3 = map Entry.additional additionals ++ [] in
+    let e2 = map Entry.authority authorities ++ e3 in
+    let e1 = map Entry.answer answers ++ e2 in
+    let (m1, one, rest1) = split_all m0 m (map Entry.question questions) e1 is in
+    let (m2, two, rest2) = split_all m1 m (map Entry.answer answers) e2 rest1 in
+    let (m3, three, rest3) = split_all m2 m (map Entry.authority authorities) e3 rest2 in
+    let (m4, four, same) = split_all m3 m (map Entry.additional additionals) [] rest3 in
+    let (qs, q_are, q_is) = entries_put (λ (n : Message). n.questions) put_questions questions_place Entry.question
+    (λ q other. other ≡ q) (λ n more q it. (q, refl, it)) m0 m1 questions one in
+    let (rs, r_are, r_is) = entries_put (λ (n : Message). n.answers) put_answers answers_place Entry.answer IsRecordOf
+    (λ n more s it. it) m1 m2 answers two in
+    let (us, u_are, u_is) = entries_put (λ (n : Message). n.authorities) put_authorities authorities_place
+    Entry.authority IsRecordOf (λ n more s it. it) m2 m3 authorities three in
+    let (ds, d_are, d_is) = entries_put (λ (n : Message). n.additionals) put_additionals additionals_place
+    Entry.additional IsRecordOf (λ n more s it. it) m3 m4 additionals four in
+    let all : m ≡ message_with header qs rs us ds =
+    same ∙ d_is ∙ ap (λ (n : Message). put_additionals n (n.additionals ++ ds))
+    (u_is ∙ ap (λ (n : Message). put_authorities n (n.authorities ++ us))
+    (r_is ∙ ap (λ (n : Message). put_answers n (n.answers ++ rs)) q_is)) in
+    record {
+      header_is = ap (λ (n : Message). n.header) all;
+      questions_are = ap (λ (n : Message). n.questions) all ∙ each_same questions qs q_are;
+      answers_are = subst (AllZip IsRecordOf answers) (sym (ap (λ (n : Message). n.answers) all)) r_are;
+      authorities_are = subst (AllZip IsRecordOf authorities) (sym (ap (λ (n : Message). n.authorities) all)) u_are;
+      additionals_are = subst (AllZip IsRecordOf additionals) (sym (ap (λ (n : Message). n.additionals) all)) d_are;
+    }
+
+-- the messages of a text are those
+pub messages_of : (text : List ℕ) (header : Header) (questions : List Question)
+    (answers authorities additionals : List Said) (m : Message)
+    → SaysLines text header (entries_said questions answers authorities additionals)
+    → IsMessageText text m ↔ IsMessageOf header questions answers authorities additionals m
+messages_of text header questions answers authorities additionals m says = (there, back)
+  where
+    there : IsMessageText text m → IsMessageOf header questions answers authorities additionals m
+    there is =
+        let entries = entries_said questions answers authorities additionals in
+        let lines = lines_once text is.lines says.lines is.lines_are says.lines_are in
+        let both = lines_say says.lines is.header header is.entries entries
+        (subst (λ l. SayEntries l is.header is.entries) lines is.say) says.say in
+        let headed = subst (λ h. IsWithAll (headed_message h) is.entries m) both.0 is.message_is in
+        message_of header questions answers authorities additionals m
+        (subst (λ es. IsWithAll (headed_message header) es m) both.1 headed)
+
+    back : IsMessageOf header questions answers authorities additionals m → IsMessageText text m
+    back is =
+        let entries = entries_said questions answers authorities additionals in
+        let made = whole_with header questions answers authorities additionals m.answers m.authorities m.additionals
+        is.answers_are is.authorities_are is.additionals_are in
+        let same : whole_message header questions m.answers m.authorities m.additionals ≡ m =
+        whole_is header questions m.answers m.authorities m.additionals
+        ∙ (λ i. message_with (sym is.header_is i) (sym is.questions_are i) m.answers m.authorities m.additionals) in
+        record {
+          lines = says.lines;
+          header = header;
+          entries = entries;
+          lines_are = says.lines_are;
+          say = says.say;
+          message_is = subst (IsWithAll (headed_message header) entries) same made;
+        }
