@@ -5,6 +5,7 @@ pub mod LineFaults
 pub mod MessageFaults
 pub mod MessageTexts
 pub mod Named
+pub mod OneFault
 pub mod Places
 pub mod Questions
 pub mod Records

@@ -6,6 +6,7 @@
 
 mod entry;
 pub mod error;
+pub mod fault;
 mod head;
 mod header;
 mod lines;
@@ -16,5 +17,6 @@ pub mod record;
 mod take;
 
 pub use error::{ComposeError, Place};
+pub use fault::a_text_has_one_fault;
 pub use message::{a_refused_text_is_no_message, compose_text};
 pub use record::{RecordHead, scan_record};
