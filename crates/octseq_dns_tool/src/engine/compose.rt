@@ -6,6 +6,9 @@ use crate::engine::rewrite::{Composing, Writer};
 use crate::engine::stream::{left_line, left_out, written_piece};
 use octseq_cli::{FrameCommand, Piece};
 use octseq_dns_compose::Place;
+use octseq_dns_compose::{
+    a_refused_text_is_no_message, a_text_has_one_fault, a_text_is_of_one_message,
+};
 use std::alloc::{AllocError, Global};
 
 /// Returns the message of a text, composed and preceded by its length, or nothing if the text is left out.
@@ -46,7 +49,11 @@ fn fault_line(alloc: Global, number: u64, place: Place) -> Result<Vec<u8>, Alloc
 pub(super) fn one_text_piece()
     ensures { (number : ℕ) (text x y e f : List ℕ) (a b : Bool) → IsTextPiece number text a x e
         → IsTextPiece number text b y f → (a ≡ b) × (x ≡ y) × (e ≡ f) }
-{}
+{
+    a_text_is_of_one_message();
+    a_text_has_one_fault();
+    a_refused_text_is_no_message();
+}
 
 /// Texts of messages, each composed, and preceded by its length.
 #[derive(Clone, Copy)]
