@@ -17,11 +17,11 @@ abbrev pub is_apart : List ℕ → List (List ℕ) → Bool
 is_apart name [] = true
 is_apart name (other ∷ names) = not (bytes_eq name other) && is_apart name names
 
-not_same : (a b : List ℕ) → not (bytes_eq a b) ≡ true → ¬ (a ≡ b)
+pub not_same : (a b : List ℕ) → not (bytes_eq a b) ≡ true → ¬ (a ≡ b)
 not_same a b apart same = true≢false (sym ((bytes_eq-Decides a b).1 same) ∙ not-true (bytes_eq a b) apart)
 
 -- so words of the others don't begin with it
-not_picked : (name : List ℕ) (names words : List (List ℕ)) → is_apart name names ≡ true
+pub not_picked : (name : List ℕ) (names words : List (List ℕ)) → is_apart name names ≡ true
     → ¬ ArePicked names (name ∷ words)
 not_picked name [] words apart are = absurd (cc)
 not_picked name (other ∷ names) words apart (true, more, is, are) =

@@ -1,6 +1,6 @@
 -- The lines of a text, and how their faults are put together.
 use Rattle.std.proofs.Common.{◌≡◌, ◌⊎◌, ℕ, ◌+◌, ◌<◌, List, [], ◌∷◌, ◌++◌, length, refl, sym, ap, ◌∙◌, subst, inl, inr}
-use Rattle.std.proofs.Common.{arith}
+use Rattle.std.proofs.Common.{None, arith}
 use Rattle.std.proofs.Common.{append_assoc}
 use Rattle.std.proofs.lemmas.List.{length-append, append-nil}
 use Rattle.octseq_dns_scan.specs.Word.{AreWords, TakesWord}
@@ -8,7 +8,9 @@ use Rattle.octseq_dns_scan.proofs.Taken.{words_once}
 use Rattle.octseq_dns_text.specs.Scans.{IsFault}
 use Rattle.octseq_dns_compose.specs.TextLines.{IsLine, EndsLine, TakesLine, AreLines, BeginsWithLines, Splits}
 use Rattle.octseq_dns_compose.specs.TextLines.{IsNextLine}
+use Rattle.octseq_dns_compose.specs.RecordText.{BeginsWithList}
 use Rattle.octseq_dns_compose.specs.TextLines.{IsUnended, IsLineFault, IsFaultyLine, IsNoneOf}
+use Rattle.octseq_dns_compose.specs.TooLong.{IsListLine}
 use Rattle.octseq_dns_compose.proofs.Faults.{Leads, led_fault, no_text}
 
 abbrev pub Line : Type 0
@@ -51,7 +53,7 @@ line_once words others text rest left one two =
     (words_once words others two.0 (subst (AreWords words) both.0 one.3) two.3, same)
 
 -- a text with lines isn't empty
-some_line : (words : Line) (text rest : List ℕ) → TakesLine words text rest → ¬ (text ≡ [])
+pub some_line : (words : Line) (text rest : List ℕ) → TakesLine words text rest → ¬ (text ≡ [])
 some_line words text rest taken none =
     let size = ap length (sym none ∙ taken.1) ∙ length-append taken.0 (10 ∷ rest) in
     omega (arith, size)
@@ -222,3 +224,10 @@ no_feed first Is text line after rest start words octets split taken place are i
     place = sym place;
   });
 }
+
+-- data in it that ends in a list
+pub list_line : (P : Type 0) (first text line after rest : List ℕ) → Splits text line after
+    → TakesWord first line rest → P ⊎ BeginsWithList None rest → P ⊎ IsListLine first text
+list_line P first text line after rest split taken (inl is) = inl is
+list_line P first text line after rest split taken (inr list) =
+    inr (record { line = line; after = after; split = split; rest = rest; taken = taken; list = list })

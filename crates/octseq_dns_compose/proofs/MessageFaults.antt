@@ -8,13 +8,12 @@ use Rattle.octseq_dns_scan.specs.Word.{TakesWord}
 use Rattle.octseq_dns_text.specs.Scans.{IsFault}
 use Rattle.octseq_dns_message.specs.declared.header.Header.{Header}
 use Rattle.octseq_dns_compose.specs.HeaderLine.{IsHeaderLine}
-use Rattle.octseq_dns_compose.specs.MessageText.{AreEntries, Entry, HasRead, IsAnyText, IsEntryLine}
-use Rattle.octseq_dns_compose.specs.MessageText.{IsQuestionLine, IsRecordLine, IsStop, Said, section_of}
+use Rattle.octseq_dns_compose.specs.MessageText.{AreEntries, Entry, IsAnyText, IsEntryLine}
+use Rattle.octseq_dns_compose.specs.MessageText.{IsStop, section_of}
 use Rattle.octseq_dns_compose.specs.QuestionText.{IsAnyQuestion}
 use Rattle.octseq_dns_compose.specs.RecordText.{IsAnyRecord}
-use Rattle.octseq_dns.specs.Contents.{Question}
 use Rattle.octseq_dns_compose.specs.TextLines.{BeginsWithLines, IsFaultyHeader, IsFaultyLine, IsLineFault, IsNextLine}
-use Rattle.octseq_dns_compose.specs.TextLines.{IsNoneOf, IsUnended, Splits, TakesLine}
+use Rattle.octseq_dns_compose.specs.TextLines.{IsNoneOf, IsUnended, Splits}
 use Rattle.octseq_dns_compose.proofs.Faults.{Leads, first_fault, led_fault, some_word}
 use Rattle.octseq_dns_compose.proofs.HeaderLines.{HeaderTexts}
 use Rattle.octseq_dns_compose.proofs.LineFaults.{LeadsLines, Line, led_line_fault}
@@ -120,7 +119,7 @@ after_header header first is = record {
 }
 
 -- the word for a section, by its length
-abbrev section_in : List ℕ → ℕ
+abbrev pub section_in : List ℕ → ℕ
 section_in word = cond (nat_eq (length word) 8) 0 (cond (nat_eq (length word) 6) 1 (cond (nat_eq (length word) 9) 2 3))
 
 abbrev pub word_of : Entry → List ℕ
@@ -129,19 +128,30 @@ word_of (Entry.answer said) = codes "answer"
 word_of (Entry.authority said) = codes "authority"
 word_of (Entry.additional said) = codes "additional"
 
-word_is : (entry : Entry) (word : List ℕ) (words : Line) → IsEntryLine entry (word ∷ words) → word ≡ word_of entry
+-- the word for a section, of its entries alone
+abbrev pub word_in : ℕ → List ℕ
+word_in section = cond (nat_eq section 0) (codes "question") (cond (nat_eq section 1) (codes "answer")
+    (cond (nat_eq section 2) (codes "authority") (codes "additional")))
+
+in_section : (entry : Entry) → word_of entry ≡ word_in (section_of entry)
+in_section (Entry.question q) = refl
+in_section (Entry.answer said) = refl
+in_section (Entry.authority said) = refl
+in_section (Entry.additional said) = refl
+
+pub word_is : (entry : Entry) (word : List ℕ) (words : Line) → IsEntryLine entry (word ∷ words) → word ≡ word_of entry
 word_is (Entry.question q) word words is = is.0
 word_is (Entry.answer said) word words is = is.0
 word_is (Entry.authority said) word words is = is.0
 word_is (Entry.additional said) word words is = is.0
 
-section_is : (entry : Entry) → section_in (word_of entry) ≡ section_of entry
+pub section_is : (entry : Entry) → section_in (word_of entry) ≡ section_of entry
 section_is (Entry.question q) = refl
 section_is (Entry.answer said) = refl
 section_is (Entry.authority said) = refl
 section_is (Entry.additional said) = refl
 
-no_entry : (entry : Entry) → ¬ IsEntryLine entry []
+pub no_entry : (entry : Entry) → ¬ IsEntryLine entry []
 no_entry (Entry.question q) is = is
 no_entry (Entry.answer said) is = is
 no_entry (Entry.authority said) is = is
@@ -174,6 +184,11 @@ one_entry entry words from section is here less = record {
       (all.1.1, subst (λ s. AreEntries s all.1.1 lines) same all.1.5);
 }
 
+-- Lines say values as entries of a section.
+pub record SaysAs {A : Type 0} (make : A → Entry) (IsText : A → Line → Type 0) (section : ℕ) : Type 0 where
+  pub of : (a : A) → section_of (make a) ≡ section
+  pub is : (a : A) (words : Line) → IsText a words → IsEntryLine (make a) words
+
 more_entries : {A : Type 0} (make : A → Entry) (IsText : A → Line → Type 0) (section from : ℕ) (value : A)
     (words : Line) (values : List A) (lines : List Line) → ((a : A) → section_of (make a) ≡ section)
     → ((a : A) (ws : Line) → IsText a ws → IsEntryLine (make a) ws) → from ≤ section → IsText value words
@@ -190,39 +205,43 @@ more_entries make IsText section from value words (v ∷ values) (w ∷ lines) o
       out = λ others entries. rest.out others (first.out (w ∷ (lines ++ others)) entries);
     }
 
+-- where the section of the last line is, past the lines of a section
+abbrev pub IsReached : (to from section : ℕ) (text ahead : List ℕ) → Type 0
+IsReached to from section text ahead = (to ≡ section) ⊎ ((to ≡ from) × (ahead ≡ text))
+
+pub reached_most : (to from section : ℕ) (text ahead : List ℕ) → from ≤ section → IsReached to from section text ahead
+    → to ≤ section
+reached_most to from section text ahead less (inl same) = omega (arith, same)
+reached_most to from section text ahead less (inr same) = let first = same.0 in omega (arith, first, less)
+
 -- Past the lines of a section: if there are some, those of earlier sections are over.
+pub record PastSection (from section : ℕ) (text ahead : List ℕ) (lines : List Line) : Type 0 where
+  pub to : ℕ
+  pub reached : IsReached to from section text ahead
+  pub leads : LeadsLines (AnyEntries from) (AnyEntries to) lines
+
 pub past_section : {A : Type 0} (make : A → Entry) (IsText : A → Line → Type 0) (section from : ℕ) (values : List A)
-    (lines : List Line) (text ahead : List ℕ) (first now number offset : ℕ)
-    → ((a : A) → section_of (make a) ≡ section) → ((a : A) (ws : Line) → IsText a ws → IsEntryLine (make a) ws)
-    → from ≤ section → (read : HasRead IsText text ahead first now values) → read.lines ≡ lines
-    → AllZip IsText values lines
-    → ((to : ℕ) → (to ≡ section) ⊎ ((to ≡ from) × (ahead ≡ text))
-    → IsLineFault (AnyEntries to) ahead now number offset)
-    → IsLineFault (AnyEntries from) text first number offset
-past_section make IsText section from [] [] text ahead first now number offset of is less read same all fault =
-    led_line_fault (AnyEntries from) (AnyEntries from) [] (record { into = λ ls all. all; out = λ ls all. all })
-    text ahead first now number offset
-    (subst (λ ls. BeginsWithLines ls text ahead) same read.begins)
-    (let place = read.place in let size = ap length same in omega (arith, place, size))
-    (fault from (inr (refl, sym (subst (λ ls. BeginsWithLines ls text ahead) same read.begins))))
-past_section make IsText section from [] (w ∷ lines) text ahead first now number offset of is less read same all fault =
-    absurd all
-past_section make IsText section from (v ∷ values) [] text ahead first now number offset of is less read same all
-    fault =
-    absurd all
-past_section make IsText section from (v ∷ values) (w ∷ lines) text ahead first now number offset of is less read same
-    all fault =
-    led_line_fault (AnyEntries from) (AnyEntries section) (w ∷ lines)
-    (more_entries make IsText section from v w values lines of is less all.0 all.1) text ahead first now number offset
-    (subst (λ ls. BeginsWithLines ls text ahead) same read.begins)
-    (let place = read.place in let size = ap length same in omega (arith, place, size))
-    (fault section (inl refl))
+    (lines : List Line) (text ahead : List ℕ) → SaysAs make IsText section → from ≤ section
+    → BeginsWithLines lines text ahead → AllZip IsText values lines → PastSection from section text ahead lines
+past_section make IsText section from [] [] text ahead says less begins all = record {
+  to = from;
+  reached = inr (refl, sym begins);
+  leads = record { into = λ lines entries. entries; out = λ lines entries. entries };
+}
+past_section make IsText section from [] (w ∷ lines) text ahead says less begins all = absurd all
+past_section make IsText section from (v ∷ values) [] text ahead says less begins all = absurd all
+past_section make IsText section from (v ∷ values) (w ∷ lines) text ahead says less begins all = record {
+  to = section;
+  reached = inl refl;
+  leads = more_entries make IsText section from v w values lines says.of says.is less all.0 all.1;
+}
 
 -- ---- a line of a section
 
 -- The words after the first one of a line of a section are texts of a kind.
 pub record IsSection (section : ℕ) (word : List ℕ) (Texts : Line → List ℕ → Type 0) : Type 0 where
   pub first : section_in word ≡ section
+  pub word_is : word ≡ word_in section
   pub makes : (words : Line) (octets : List ℕ) → Texts words octets
       → (entry : Entry) × (section_of entry ≡ section) × IsEntryLine entry (word ∷ words)
   pub takes : (entry : Entry) (words : Line) → section_of entry ≡ section → IsEntryLine entry (word ∷ words)
@@ -310,7 +329,7 @@ abbrev pub NoneFrom : ℕ → ℕ → List ℕ → Type 0
 NoneFrom from to text =
     (entry : Entry) → from ≤ section_of entry → section_of entry < to → IsNoneOf (word_of entry) text
 
-below_four : (entry : Entry) → section_of entry < 4
+pub below_four : (entry : Entry) → section_of entry < 4
 below_four (Entry.question q) = omega arith
 below_four (Entry.answer said) = omega arith
 below_four (Entry.authority said) = omega arith
@@ -352,16 +371,20 @@ none_case from to section text ahead none here entry false is after before same 
     let other : ¬ (section_of entry ≡ section) = grind (arith, nat_tests) in
     subst (IsNoneOf (word_of entry)) (sym same) (none entry after (omega (arith, other, before)))
 
+pub here_none : (section : ℕ) (word text : List ℕ) → word ≡ word_in section → IsNoneOf word text → (entry : Entry)
+    → section_of entry ≡ section → IsNoneOf (word_of entry) text
+here_none section word text is none entry here =
+    subst (λ w. IsNoneOf w text) (is ∙ ap word_in (sym here) ∙ sym (in_section entry)) none
+
 -- past the lines of a section, it is over too
-pub none_step : (from to section : ℕ) (text ahead : List ℕ) → NoneFrom from section text
-    → ((entry : Entry) → section_of entry ≡ section → IsNoneOf (word_of entry) ahead) → from ≤ section
-    → (to ≡ section) ⊎ ((to ≡ from) × (ahead ≡ text)) → NoneFrom to (section + 1) ahead
-none_step from to section text ahead none here less (inl same) entry after before =
-    here entry (omega (arith, same, after, before))
-none_step from to section text ahead none here less (inr same) entry after before =
+pub none_step : (from to section : ℕ) (word text ahead : List ℕ) → word ≡ word_in section → NoneFrom from section text
+    → IsNoneOf word ahead → IsReached to from section text ahead → NoneFrom to (section + 1) ahead
+none_step from to section word text ahead is none none_here (inl same) entry after before =
+    here_none section word ahead is none_here entry (omega (arith, same, after, before))
+none_step from to section word text ahead is none none_here (inr same) entry after before =
     let first = same.0 in
-    none_case from to section text ahead none here entry (nat_eq (section_of entry) section) refl
-    (omega (arith, first, after)) before same.1
+    none_case from to section text ahead none (here_none section word ahead is none_here) entry
+    (nat_eq (section_of entry) section) refl (omega (arith, first, after)) before same.1
 
 -- ---- the sections
 
@@ -375,6 +398,7 @@ question_taken (Entry.additional said) words here is = absurd (omega (arith, her
 pub of_questions : IsSection 0 (codes "question") IsAnyQuestion
 of_questions = record {
   first = refl;
+  word_is = refl;
   makes = λ words octets is.
       (Entry.question (record { labels = is.0; qtype = is.2; qclass = is.1 }), refl, (refl, is.3));
   takes = question_taken;
@@ -390,6 +414,7 @@ answer_taken (Entry.additional said) words here is = absurd (omega (arith, here)
 pub of_answers : IsSection 1 (codes "answer") (IsAnyRecord None)
 of_answers = record {
   first = refl;
+  word_is = refl;
   makes = λ words octets is. (Entry.answer (record { head = is.0; octets = octets }), refl, (refl, is.1));
   takes = answer_taken;
 }
@@ -404,6 +429,7 @@ authority_taken (Entry.additional said) words here is = absurd (omega (arith, he
 pub of_authorities : IsSection 2 (codes "authority") (IsAnyRecord None)
 of_authorities = record {
   first = refl;
+  word_is = refl;
   makes = λ words octets is. (Entry.authority (record { head = is.0; octets = octets }), refl, (refl, is.1));
   takes = authority_taken;
 }
@@ -418,101 +444,23 @@ additional_taken (Entry.additional said) words here is = (said.octets, (said.hea
 pub of_additionals : IsSection 3 (codes "additional") (IsAnyRecord None)
 of_additionals = record {
   first = refl;
+  word_is = refl;
   makes = λ words octets is. (Entry.additional (record { head = is.0; octets = octets }), refl, (refl, is.1));
   takes = additional_taken;
 }
 
 -- ---- where reading stops
 
-at_most : (to from section : ℕ) (P : Type 0) → from ≤ section → (to ≡ section) ⊎ ((to ≡ from) × P) → to ≤ section
-at_most to from section P less (inl same) = omega (arith, same)
-at_most to from section P less (inr same) = let first = same.0 in omega (arith, first, less)
-
--- after the header
-pub after_first : (header : Header) (words : Line) (text ahead : List ℕ) (next number offset : ℕ)
-    → TakesLine words text ahead → IsHeaderLine header words → next ≡ 2
-    → IsLineFault (AnyEntries 0) ahead next number offset → IsLineFault IsAnyText text 1 number offset
-after_first header words text ahead next number offset taken is two fault =
-    led_line_fault IsAnyText (AnyEntries 0) (words ∷ []) (after_header header words is) text ahead 1 next number offset
-    (ahead, taken, refl) (omega (arith, two)) fault
-
--- in a section
 pub stop_fault : {A : Type 0} (make : A → Entry) (IsText : A → Line → Type 0) (section from : ℕ) (word : List ℕ)
-    (Texts : Line → List ℕ → Type 0) (text : List ℕ) (first number offset : ℕ)
-    → ((a : A) → section_of (make a) ≡ section) → ((a : A) (ws : Line) → IsText a ws → IsEntryLine (make a) ws)
+    (Texts : Line → List ℕ → Type 0) (text : List ℕ) (first number offset : ℕ) → SaysAs make IsText section
     → IsSection section word Texts → from ≤ section → IsStop IsText word Texts text first number offset
     → IsLineFault (AnyEntries from) text first number offset
-stop_fault make IsText section from word Texts text first number offset of is sect less stop =
-    past_section make IsText section from stop.values stop.read.lines text stop.ahead first stop.now number offset of is
-    less stop.read refl stop.read.are
-    (λ to either. subst (λ n. IsLineFault (AnyEntries to) stop.ahead stop.now n offset) (sym stop.at)
-    (entry_fault section to word Texts stop.ahead stop.now offset sect
-    (at_most to from section (stop.ahead ≡ text) less either) stop.fault))
-
--- past one
-pub go_past : {A : Type 0} (make : A → Entry) (IsText : A → Line → Type 0) (section from : ℕ) (values : List A)
-    (text ahead : List ℕ) (first now number offset : ℕ) → ((a : A) → section_of (make a) ≡ section)
-    → ((a : A) (ws : Line) → IsText a ws → IsEntryLine (make a) ws) → from ≤ section
-    → HasRead IsText text ahead first now values
-    → ((to : ℕ) → to ≤ section → IsLineFault (AnyEntries to) ahead now number offset)
-    → IsLineFault (AnyEntries from) text first number offset
-go_past make IsText section from values text ahead first now number offset of is less read fault =
-    past_section make IsText section from values read.lines text ahead first now number offset of is less read refl
-    read.are (λ to either. fault to (at_most to from section (ahead ≡ text) less either))
-
--- the word for a section, of its entries alone
-here_question : (text : List ℕ) → IsNoneOf (codes "question") text → (entry : Entry) → section_of entry ≡ 0
-    → IsNoneOf (word_of entry) text
-here_question text none (Entry.question q) here = none
-here_question text none (Entry.answer said) here = absurd (omega (arith, here))
-here_question text none (Entry.authority said) here = absurd (omega (arith, here))
-here_question text none (Entry.additional said) here = absurd (omega (arith, here))
-
-here_answer : (text : List ℕ) → IsNoneOf (codes "answer") text → (entry : Entry) → section_of entry ≡ 1
-    → IsNoneOf (word_of entry) text
-here_answer text none (Entry.question q) here = absurd (omega (arith, here))
-here_answer text none (Entry.answer said) here = none
-here_answer text none (Entry.authority said) here = absurd (omega (arith, here))
-here_answer text none (Entry.additional said) here = absurd (omega (arith, here))
-
-here_authority : (text : List ℕ) → IsNoneOf (codes "authority") text → (entry : Entry) → section_of entry ≡ 2
-    → IsNoneOf (word_of entry) text
-here_authority text none (Entry.question q) here = absurd (omega (arith, here))
-here_authority text none (Entry.answer said) here = absurd (omega (arith, here))
-here_authority text none (Entry.authority said) here = none
-here_authority text none (Entry.additional said) here = absurd (omega (arith, here))
-
-here_additional : (text : List ℕ) → IsNoneOf (codes "additional") text → (entry : Entry) → section_of entry ≡ 3
-    → IsNoneOf (word_of entry) text
-here_additional text none (Entry.question q) here = absurd (omega (arith, here))
-here_additional text none (Entry.answer said) here = absurd (omega (arith, here))
-here_additional text none (Entry.authority said) here = absurd (omega (arith, here))
-here_additional text none (Entry.additional said) here = none
-
--- after all of them
-pub end_fault : (a b c d e : List ℕ) (i j k l n : ℕ) (questions : List Question)
-    (answers authorities additionals : List Said) → HasRead IsQuestionLine a b i j questions
-    → IsNoneOf (codes "question") b → HasRead (IsRecordLine (codes "answer")) b c j k answers
-    → IsNoneOf (codes "answer") c → HasRead (IsRecordLine (codes "authority")) c d k l authorities
-    → IsNoneOf (codes "authority") d → HasRead (IsRecordLine (codes "additional")) d e l n additionals
-    → IsNoneOf (codes "additional") e → ¬ (e ≡ []) → IsLineFault (AnyEntries 0) a i n 0
-end_fault a b c d e i j k l n questions answers authorities additionals q_read no_q r_read no_r u_read no_u d_read no_d
-    some =
-    past_section Entry.question IsQuestionLine 0 0 questions q_read.lines a b i j n 0 (λ q. refl) (λ q ws is. is)
-    (omega arith) q_read refl q_read.are (λ s one.
-    let none1 = none_step 0 s 0 a b (λ entry from less. absurd (omega (arith, less))) (here_question b no_q)
-    (omega arith) one in
-    let at1 = at_most s 0 0 (b ≡ a) (omega arith) one in
-    past_section Entry.answer (IsRecordLine (codes "answer")) 1 s answers r_read.lines b c j k n 0 (λ q. refl)
-    (λ q ws is. is) (omega (arith, at1)) r_read refl r_read.are (λ t two.
-    let none2 = none_step s t 1 b c none1 (here_answer c no_r) (omega (arith, at1)) two in
-    let at2 = at_most t s 1 (c ≡ b) (omega (arith, at1)) two in
-    past_section Entry.authority (IsRecordLine (codes "authority")) 2 t authorities u_read.lines c d k l n 0 (λ q. refl)
-    (λ q ws is. is) (omega (arith, at2)) u_read refl u_read.are (λ u three.
-    let none3 = none_step t u 2 c d none2 (here_authority d no_u) (omega (arith, at2)) three in
-    let at3 = at_most u t 2 (d ≡ c) (omega (arith, at2)) three in
-    past_section Entry.additional (IsRecordLine (codes "additional")) 3 u additionals d_read.lines d e l n n 0
-    (λ q. refl) (λ q ws is. is) (omega (arith, at3)) d_read refl d_read.are (λ v four.
-    let none4 = none_step u v 3 d e none3 (here_additional e no_d) (omega (arith, at3)) four in
-    let at4 = at_most v u 3 (e ≡ d) (omega (arith, at3)) four in
-    other_fault v e n at4 some none4))))
+stop_fault make IsText section from word Texts text first number offset says of less stop =
+    let read = stop.read in
+    let past = past_section make IsText section from stop.values read.lines text stop.ahead says less read.begins read.are
+    in
+    led_line_fault (AnyEntries from) (AnyEntries past.to) read.lines past.leads text stop.ahead first stop.now number
+    offset read.begins read.place
+    (subst (λ n. IsLineFault (AnyEntries past.to) stop.ahead stop.now n offset) (sym stop.at)
+    (entry_fault section past.to word Texts stop.ahead stop.now offset of
+    (reached_most past.to from section text stop.ahead less past.reached) stop.fault))

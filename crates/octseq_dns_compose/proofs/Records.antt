@@ -1,11 +1,12 @@
 -- The text of a record, and where it is none.
 use Rattle.std.proofs.Common.{◌≡◌, ◌⊎◌, ℕ, ◌+◌, Option, List, [], ◌∷◌, length, codes}
-use Rattle.std.proofs.Common.{refl, ap, subst, inl, inr, arith}
+use Rattle.std.proofs.Common.{Bool, true, false, ◌||◌, refl, ap, subst, inl, inr, arith}
 use Rattle.octseq_dns_scan.specs.Word.{TakesWord, AreWords}
-use Rattle.octseq_dns_text.specs.DataText.{IsDataText}
+use Rattle.octseq_dns_text.specs.DataText.{IsDataText, ends_in_list}
+use Rattle.octseq_dns_text.specs.Layouts.{layout_of}
 use Rattle.octseq_dns_text.specs.Scans.{Goes, IsFault}
 use Rattle.octseq_dns_compose.specs.RecordText.{Head, IsNameWord, IsTtlWord, IsClassWord, IsRtypeWord}
-use Rattle.octseq_dns_compose.specs.RecordText.{TtlAndClass, IsRecordText, IsAnyRecord}
+use Rattle.octseq_dns_compose.specs.RecordText.{BeginsWithList, TtlAndClass, IsRecordText, IsAnyRecord}
 use Rattle.octseq_dns_compose.specs.Take.{Then}
 use Rattle.octseq_dns_compose.specs.TakeOrder.{NoneNext, IsNoOrder}
 use Rattle.octseq_dns_compose.proofs.Faults.{Leads, led_fault, first_fault}
@@ -228,6 +229,38 @@ record_words origin head owner first second kind ahead a b c d words octets w1 i
             (kind ∷ words) order (is_rtype, is),
       ),
     )
+
+-- ---- data that ends in a list
+
+either_true : (a b : Bool) → a || b ≡ true → (a ≡ true) ⊎ (b ≡ true)
+either_true true b is = inl refl
+either_true false b is = inr is
+
+pub head_asks : (origin : Option (List (List ℕ))) (head : Head) (owner first second kind : List ℕ)
+    (ahead a b c d : List ℕ) (asks : Bool) → TakesWord owner ahead a → IsNameWord origin head.labels owner
+    → TakesWord first a b → TakesWord second b c
+    → (IsTtlWord head.ttl first × IsClassWord head.class second)
+    ⊎ (IsClassWord head.class first × IsTtlWord head.ttl second)
+    → TakesWord kind c d → IsRtypeWord head.rtype kind
+    → asks || ends_in_list (layout_of head.rtype head.class) ≡ true → (asks ≡ true) ⊎ BeginsWithList origin ahead
+head_asks origin head owner first second kind ahead a b c d asks w1 is_name w2 w3 order w4 is_rtype memory =
+    by_cases (either_true asks (ends_in_list (layout_of head.rtype head.class)) memory)
+  where
+    by_cases : (asks ≡ true) ⊎ (ends_in_list (layout_of head.rtype head.class) ≡ true)
+        → (asks ≡ true) ⊎ BeginsWithList origin ahead
+    by_cases (inl is) = inl is
+    by_cases (inr list) = inr (record {
+      head = head;
+      words = owner ∷ first ∷ second ∷ kind ∷ [];
+      rest = d;
+      begins = (a, w1, (b, w2, (c, w3, (d, w4, refl))));
+      is = (
+        is_name,
+        order_text head.ttl head.class (Then (IsRtypeWord head.rtype) (λ more. more ≡ [])) first second (kind ∷ [])
+            order (is_rtype, refl),
+      );
+      list = list;
+    })
 
 -- the same text ahead
 pub none_next : (Is : ℕ → List ℕ → Type 0) (a b : List ℕ) → b ≡ a → NoneNext Is a → NoneNext Is b

@@ -1,5 +1,7 @@
+pub mod Alone
 pub mod HeaderLine
 pub mod MessageText
+pub mod Onward
 pub mod QuestionText
 pub mod Read
 pub mod RecordText
@@ -7,3 +9,4 @@ pub mod Shown
 pub mod Take
 pub mod TakeOrder
 pub mod TextLines
+pub mod TooLong

@@ -1,15 +1,15 @@
 -- The text of a message: a line for its header, and one for each question and each record, section by section.
 use Rattle.std.specs.Prelude.{◌≡◌, ℕ, ◌+◌, ◌≤◌, None, List, [], ◌∷◌, length, codes}
 use Rattle.std.specs.List.{AllZip}
-use Rattle.octseq.specs.Window.{whole}
 use Rattle.octseq_dns.specs.Blank.{blank_message}
 use Rattle.octseq_dns.specs.Contents.{Message, Question, Record}
 use Rattle.octseq_dns.specs.Rdata.{bare_rdata, rdata_fields}
 use Rattle.octseq_dns.specs.Writes.{Writes, all_more, more_questions, more_answers, more_authorities, more_additionals}
 use Rattle.octseq_dns_compress.specs.State.{State}
-use Rattle.octseq_dns_data.specs.Data.{ParsedRdata, SaysData}
+use Rattle.octseq_dns_data.specs.Data.{ParsedRdata}
 use Rattle.octseq_dns_message.specs.declared.header.Header.{Header}
 use Rattle.octseq_dns_message.specs.declared.header.HeaderCounts.{HeaderCounts}
+use Rattle.octseq_dns_compose.specs.Alone.{SaysAlone}
 use Rattle.octseq_dns_compose.specs.HeaderLine.{IsHeaderLine}
 use Rattle.octseq_dns_compose.specs.QuestionText.{IsQuestionText}
 use Rattle.octseq_dns_compose.specs.RecordText.{Head, IsRecordText}
@@ -70,10 +70,11 @@ IsAnyText lines = (header : Header) × (entries : List Entry) × SayEntries line
 
 -- ---- the message
 
--- The record that a line says: its data is what its octets say by themselves, by its type and its class.
+-- The record that a line says: its data is what its octets say by themselves, by its type and its class. In them no
+-- name has a pointer, since they have no message around them.
 pub record IsRecordOf (said : Said) (r : Record) : Type 0 where
   pub parsed : ParsedRdata
-  pub says : SaysData said.head.rtype said.head.class (whole said.octets) (whole said.octets) parsed
+  pub says : SaysAlone said.head.rtype said.head.class said.octets parsed
   pub is : r ≡ record {
     labels = said.head.labels;
     rtype = said.head.rtype;

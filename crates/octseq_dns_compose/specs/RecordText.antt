@@ -1,12 +1,14 @@
 -- The text of a record: RFC 1035, 5.1.
-use Rattle.std.specs.Prelude.{◌≡◌, ℕ, ◌≤◌, ◌⊎◌, Option, Some, None, List, length}
+use Rattle.std.specs.Prelude.{◌≡◌, ℕ, ◌≤◌, ◌⊎◌, Option, Some, None, List, [], length, true}
 use Rattle.std.specs.Str.Parse.{IsNumeral, digits_value}
 use Rattle.octseq_dns_data.specs.Mnemonic.{ReadsClass, ReadsRtype}
 use Rattle.octseq_dns_name.specs.Name.{wire_length}
 use Rattle.octseq_dns_name.specs.Origin.{SpellsWithOrigin}
 use Rattle.octseq_dns_name.specs.Spelling.{SpellsName}
 use Rattle.octseq_dns_name.specs.Wire.{AreLabels}
-use Rattle.octseq_dns_text.specs.DataText.{IsDataText}
+use Rattle.octseq_dns_text.specs.DataText.{IsDataText, ends_in_list}
+use Rattle.octseq_dns_text.specs.Layouts.{layout_of}
+use Rattle.octseq_dns_text.specs.Scans.{BeginsWithWords}
 use Rattle.octseq_dns_compose.specs.Take.{Then}
 
 -- What a record says before its data: the labels of its owner, its TTL, its class and its type.
@@ -48,3 +50,19 @@ IsRecordText origin head words octets = Then (IsNameWord origin head.labels) (Tt
 -- of any record
 abbrev pub IsAnyRecord : Option (List (List ℕ)) → List (List ℕ) → List ℕ → Type 0
 IsAnyRecord origin words octets = (head : Head) × IsRecordText origin head words octets
+
+-- ---- data that ends in a list
+
+-- words are those of a record before its data
+abbrev pub IsHeadText : Option (List (List ℕ)) → Head → List (List ℕ) → Type 0
+IsHeadText origin head = Then (IsNameWord origin head.labels) (TtlAndClass head.ttl head.class
+    (Then (IsRtypeWord head.rtype) (λ more. more ≡ [])))
+
+-- A text begins with these words of a record whose data ends in a list: of types, or of parameters.
+pub record BeginsWithList (origin : Option (List (List ℕ))) (text : List ℕ) : Type 0 where
+  pub head : Head
+  pub words : List (List ℕ)
+  pub rest : List ℕ
+  pub begins : BeginsWithWords words text rest
+  pub is : IsHeadText origin head words
+  pub list : ends_in_list (layout_of head.rtype head.class) ≡ true

@@ -1,6 +1,6 @@
 //! The line of an entry: a question, or a record after the word for its section.
 ghost use Rattle.std.specs.Prelude.{◌≡◌, ◌+◌, ◌<◌, ◌≤◌, ◌∷◌, ℕ, List, None, length, codes, IfOk, IfSome, IfNone};
-ghost use Rattle.std.specs.Prelude.{IsErrOf};
+ghost use Rattle.std.specs.Prelude.{◌⊎◌, true, IsErrOf};
 ghost use Rattle.octseq.specs.Limit.{IsPast};
 ghost use Rattle.octseq_dns_name.specs.Owned.{owned_labels};
 ghost use Rattle.octseq_dns_compose.specs.HeaderLine.{IsHeaderLine};
@@ -9,6 +9,7 @@ ghost use Rattle.octseq_dns_compose.specs.Read.{head_of};
 ghost use Rattle.octseq_dns_compose.specs.RecordText.{IsAnyRecord, IsRecordText};
 ghost use Rattle.octseq_dns_compose.specs.TextLines.{IsFaultyHeader, IsFaultyLine, IsLongLine, IsNoneOf};
 ghost use Rattle.octseq_dns_compose.specs.TextLines.{TakesLine};
+ghost use Rattle.octseq_dns_compose.specs.TooLong.{IsListLine};
 
 use crate::error::{ComposeError, Place};
 use crate::header::scan_header;
@@ -83,6 +84,10 @@ pub(crate) fn next_record<D: OctetsBuilder + Truncate>(
         × IsFaultyLine first.now (IsAnyRecord None) lines.old.ahead.now place.offset }
     ensures short { IsErrOf result ComposeError.Short
         → IsLongLine first.now (IsAnyRecord None) D.limit lines.old.ahead.now }
+    ensures first { (place : Place) → IsErrOf result (ComposeError.Malformed place)
+        → ¬ IsLongLine first.now (IsAnyRecord None) D.limit lines.old.ahead.now }
+    ensures memory { IsErrOf result ComposeError.Memory
+        → (D.asks ≡ true) ⊎ IsListLine first.now lines.old.ahead.now }
 {
     let line = split_line(lines.ahead);
     let Some(words) = words_after(line.0, first) else {
@@ -95,6 +100,7 @@ pub(crate) fn next_record<D: OctetsBuilder + Truncate>(
         Err(ScanError::Short) => return Err(ComposeError::Short),
         Err(ScanError::Memory) => return Err(ComposeError::Memory),
     };
+    let _within = target.as_ref();
     let Some(rest) = after_feed(line.1) else {
         return Err(lines.malformed(line.0.len()));
     };

@@ -19,7 +19,7 @@ pub enum ComposeError {
     /// The text of no message goes on so. It has the place of the first word that isn't what has to come there. The end
     /// of a line counts as a word, and so does the end of the text.
     Malformed(Place),
-    /// The message would exceed the limit of the builder's type or 65,535 octets.
+    /// The message would exceed the limit of the builder's type or 65,535 octets, or data has more.
     Short,
     /// A request for memory was refused.
     Memory,

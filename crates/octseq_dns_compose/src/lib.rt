@@ -4,11 +4,13 @@
 //! a whole message, as `octseq_dns` shows it, and composes the message with its names compressed.
 #![tactic(auto)]
 
+mod alone;
 mod entry;
 pub mod error;
 pub mod fault;
 mod head;
 mod header;
+pub mod laws;
 mod lines;
 pub mod message;
 mod numbers;
@@ -18,5 +20,6 @@ mod take;
 
 pub use error::{ComposeError, Place};
 pub use fault::a_text_has_one_fault;
+pub use laws::a_text_is_of_one_message;
 pub use message::{a_refused_text_is_no_message, compose_text};
 pub use record::{RecordHead, scan_record};

@@ -1,28 +1,28 @@
 //! Messages, composed of their text.
-ghost use Rattle.std.specs.Prelude.{◌≡◌, ◌⊎◌, ℕ, List, None, true, codes, IfOk, OnOk, IsErrOf};
-ghost use Rattle.octseq.specs.Refusal.{IsMemory, append_error};
-ghost use Rattle.octseq.specs.Window.{whole};
+ghost use Rattle.std.specs.Prelude.{◌≡◌, ◌⊎◌, ℕ, List, None, true, codes, length, IfOk, OnOk, IsErrOf};
+ghost use Rattle.octseq.specs.Limit.{IsPast, IsWithin};
+ghost use Rattle.octseq.specs.Refusal.{IsMemory, IsShort, append_error};
 ghost use Rattle.octseq_dns.specs.Blank.{blank_message};
 ghost use Rattle.octseq_dns.specs.Contents.{Message, Question, Record};
-ghost use Rattle.octseq_dns.specs.Writes.{Writes, all_more, more_questions};
-ghost use Rattle.octseq_dns_data.specs.Data.{SaysData};
-ghost use Rattle.octseq_dns_data.specs.Typed.{rdata_of};
+ghost use Rattle.octseq_dns.specs.Writes.{Writes, all_more, least_limit, more_questions};
+ghost use Rattle.octseq_dns_compress.specs.Composed.{message_limit};
 ghost use Rattle.octseq_dns_compose.specs.MessageText.{HasRead, HasWritten, IsMessageText, IsQuestionLine};
 ghost use Rattle.octseq_dns_compose.specs.MessageText.{IsAnyText, IsRecordLine, IsRecordOf, IsStop, Said};
+ghost use Rattle.octseq_dns_compose.specs.Onward.{AddsQuestion, AddsRecord, AddsUpTo};
 ghost use Rattle.octseq_dns_compose.specs.QuestionText.{IsAnyQuestion};
 ghost use Rattle.octseq_dns_compose.specs.Read.{head_of};
 ghost use Rattle.octseq_dns_compose.specs.RecordText.{IsAnyRecord};
-ghost use Rattle.octseq_dns_compose.specs.TextLines.{IsLineFault, IsNoneOf};
+ghost use Rattle.octseq_dns_compose.specs.TextLines.{IsFaultyLine, IsLineFault, IsLongLine, IsNoneOf};
+ghost use Rattle.octseq_dns_compose.specs.TooLong.{Exceeds, ExceedsWith, HasListLine, IsListLine, IsTooLong, ReadUpTo};
 
+use crate::alone::data_of;
 use crate::entry::{Lines, next_header, next_question, next_record};
 use crate::error::{ComposeError, Place};
 use crate::record::RecordHead;
 use octseq::builder::AsOctetsMut;
-use octseq::{AppendError, Array, OctetsBuilder, Parser, Truncate, Turns};
+use octseq::{AppendError, Array, OctetsBuilder, Truncate};
 use octseq_dns::builder::section::RecordSection;
 use octseq_dns::{AdditionalBuilder, Compressor, MessageBuilder, QuestionBuilder, SectionBuilder};
-use octseq_dns_data::data::data_has_the_records_type;
-use octseq_dns_data::{Class, Data, Rtype};
 use std::alloc::Global;
 
 /// A text that is refused as malformed is that of no message.
@@ -42,7 +42,8 @@ pub fn a_refused_text_is_no_message()
 ///
 /// The text is read line by line, and the first fault decides: `Malformed` with the place of the first word that isn't
 /// what has to come there, `Short` if the message would exceed the limit of the builder's type or 65,535 octets or data
-/// has more, `Memory` if a request for memory was refused. The builder and the table are then dropped.
+/// has more, `Memory` if a request for memory was refused. The builder and the table make such requests, and data that
+/// ends in a list of types or of parameters does. The builder and the table are then dropped.
 pub fn compose_text<B: OctetsBuilder + Truncate + AsOctetsMut, T: Compressor>(
     alloc: Global,
     text: &[u8],
@@ -53,6 +54,13 @@ pub fn compose_text<B: OctetsBuilder + Truncate + AsOctetsMut, T: Compressor>(
         × Writes T.most m b.state b.header b.counts) }
     ensures malformed { (place : Place) → IsErrOf result (ComposeError.Malformed place)
         → IsLineFault IsAnyText text.now 1 place.line place.offset }
+    ensures first { (place : Place) → IsErrOf result (ComposeError.Malformed place)
+        → ¬ IsTooLong T.most (message_limit B.limit) text.now }
+    ensures within { IfOk result (λ b. ¬ IsTooLong T.most (message_limit B.limit) text.now
+        × IsWithin (message_limit B.limit) (length b.state.octets)) }
+    ensures short { IsErrOf result ComposeError.Short → IsTooLong T.most (message_limit B.limit) text.now }
+    ensures memory { IsErrOf result ComposeError.Memory
+        → (B.asks ≡ true) ⊎ (T.asks ≡ true) ⊎ HasListLine text.now }
     ensures borrows { IfOk result (λ b. B.borrows b.octets ≡ B.borrows octets) }
 {
     let mut lines = Lines::new(text);
@@ -87,6 +95,9 @@ fn started<B: OctetsBuilder + Truncate + AsOctetsMut, T: Compressor>(
 ) -> Result<MessageBuilder<B, T>, ComposeError>
     ensures written { IfOk result (λ m. Writes T.most blank_message m.state m.header m.counts) }
     ensures other { (place : Place) → ¬ IsErrOf result (ComposeError.Malformed place) }
+    ensures within { IfOk result (λ m. IsWithin (message_limit B.limit) (length m.state.octets)) }
+    ensures push_limit { IfOk result (λ m. m.push_limit ≡ None) }
+    ensures short { IsErrOf result ComposeError.Short → IsPast B.limit 12 }
     ensures memory { IsErrOf result ComposeError.Memory → B.asks ≡ true }
     ensures borrows { IfOk result (λ m. B.borrows m.octets ≡ B.borrows octets) }
 {
@@ -111,7 +122,21 @@ fn push_questions<B: OctetsBuilder + Truncate + AsOctetsMut, T: Compressor>(
     ensures malformed { (place : Place) → IsErrOf result (ComposeError.Malformed place)
         → IsStop IsQuestionLine (codes "question") IsAnyQuestion lines.old.ahead.now lines.old.number place.line
         place.offset }
+    ensures added { OnOk result ((m : Message)
+        → Writes T.most m message.old.state message.old.header message.old.counts
+        → AddsUpTo (AddsQuestion T.most (least_limit message.old.push_limit (message_limit B.limit))) m
+        lines.old.ahead.now (λ after ahead. Writes T.most after message.new.state message.new.header
+        message.new.counts × (ahead ≡ lines.new.ahead.now))) }
+    ensures stopped { (place : Place) → IsErrOf result (ComposeError.Malformed place) → (m : Message)
+        → Writes T.most m message.old.state message.old.header message.old.counts
+        → AddsUpTo (AddsQuestion T.most (least_limit message.old.push_limit (message_limit B.limit))) m
+        lines.old.ahead.now (λ after ahead. IsFaultyLine (codes "question") IsAnyQuestion ahead place.offset) }
+    ensures short { IsErrOf result ComposeError.Short → ReadUpTo IsQuestionLine lines.old.ahead.now lines.old.number
+        (λ questions ahead. (m : Message) → Writes T.most m message.old.state message.old.header message.old.counts
+        → Exceeds T.most (least_limit message.old.push_limit (message_limit B.limit)) (λ counts. counts.qdcount)
+        (all_more more_questions m questions)) }
     ensures memory { IsErrOf result ComposeError.Memory → (B.asks ≡ true) ⊎ (T.asks ≡ true) }
+    ensures push_limit { message.new.push_limit ≡ message.old.push_limit }
     ensures borrows { B.borrows message.new.octets ≡ B.borrows message.old.octets }
 {
     'lines: loop {
@@ -153,6 +178,25 @@ fn push_records<
     ensures malformed { (place : Place) → IsErrOf result (ComposeError.Malformed place)
         → IsStop (IsRecordLine section.now) section.now (IsAnyRecord None) lines.old.ahead.now lines.old.number
         place.line place.offset }
+    ensures added { OnOk result ((m : Message)
+        → Writes T.most m message.old.state message.old.header message.old.counts
+        → AddsUpTo (AddsRecord T.most (least_limit message.old.push_limit (message_limit B.limit)) D.limit section.now
+        S.more) m lines.old.ahead.now (λ after ahead. Writes T.most after message.new.state message.new.header
+        message.new.counts × (ahead ≡ lines.new.ahead.now))) }
+    ensures stopped { (place : Place) → IsErrOf result (ComposeError.Malformed place) → (m : Message)
+        → Writes T.most m message.old.state message.old.header message.old.counts
+        → AddsUpTo (AddsRecord T.most (least_limit message.old.push_limit (message_limit B.limit)) D.limit section.now
+        S.more) m lines.old.ahead.now (λ after ahead. IsFaultyLine section.now (IsAnyRecord None) ahead place.offset
+        × ¬ IsLongLine section.now (IsAnyRecord None) D.limit ahead) }
+    ensures short { IsErrOf result ComposeError.Short
+        → ReadUpTo (IsRecordLine section.now) lines.old.ahead.now lines.old.number (λ said ahead.
+        ExceedsWith T.most (least_limit message.old.push_limit (message_limit B.limit)) S.count S.more said
+        message.old.state message.old.header message.old.counts
+        ⊎ IsLongLine section.now (IsAnyRecord None) D.limit ahead) }
+    ensures memory { IsErrOf result ComposeError.Memory → (B.asks ≡ true) ⊎ (T.asks ≡ true) ⊎ (D.asks ≡ true)
+        ⊎ ReadUpTo (IsRecordLine section.now) lines.old.ahead.now lines.old.number (λ said ahead.
+        IsListLine section.now ahead) }
+    ensures push_limit { message.new.push_limit ≡ message.old.push_limit }
     ensures borrows { B.borrows message.new.octets ≡ B.borrows message.old.octets }
 {
     'lines: loop {
@@ -181,22 +225,17 @@ fn push_record<B: OctetsBuilder + Truncate + AsOctetsMut, T: Compressor, S: Reco
         × IsRecordOf (record { head = head_of head.now; octets = octets.now }) r
         × ((m : Message) → Writes T.most m message.old.state message.old.header message.old.counts
         → Writes T.most (S.more m r) message.new.state message.new.header message.new.counts)) }
+    ensures short { IsShort append_error result → (r : Record)
+        × IsRecordOf (record { head = head_of head.now; octets = octets.now }) r
+        × ((m : Message) → Writes T.most m message.old.state message.old.header message.old.counts
+        → Exceeds T.most (least_limit message.old.push_limit (message_limit B.limit)) S.count (S.more m r)) }
+    ensures within { OnOk result (IsWithin (least_limit message.old.push_limit (message_limit B.limit))
+        (length message.new.state.octets)) }
     ensures memory { IsMemory append_error result → (B.asks ≡ true) ⊎ (T.asks ≡ true) }
+    ensures push_limit { message.new.push_limit ≡ message.old.push_limit }
     ensures borrows { B.borrows message.new.octets ≡ B.borrows message.old.octets }
 {
     let said = data_of(octets, head.rtype, head.class);
-    data_has_the_records_type();
     let owner = head.owner.parsed();
     message.push_record(&owner, head.class, head.ttl, &said)
-}
-
-/// Returns what the octets of data say by themselves, by a type and a class.
-fn data_of(octets: &[u8], rtype: Rtype, class: Class) -> Data<&[u8]>
-    ensures { SaysData rtype class (whole octets.now) (whole octets.now) (rdata_of result) }
-{
-    let inside = Parser::from_ref(octets);
-    match Data::parse(inside, inside, rtype, class, &mut Turns::new()) {
-        Ok(found) => found,
-        Err(_) => Data::Unknown(rtype, inside),
-    }
 }

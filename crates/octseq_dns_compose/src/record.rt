@@ -1,12 +1,13 @@
 //! Records, read from one line: RFC 1035, 5.1.
-ghost use Rattle.std.specs.Prelude.{◌≡◌, ◌+◌, ◌++◌, ℕ, List, length, option_map, IfOk, IsErrOf, OnErr};
+ghost use Rattle.std.specs.Prelude.{◌≡◌, ◌⊎◌, ◌+◌, ◌++◌, ℕ, List, length, option_map, true};
+ghost use Rattle.std.specs.Prelude.{IfOk, IsErrOf, OnErr};
 ghost use Rattle.octseq.specs.Limit.{IsPast};
 ghost use Rattle.octseq_dns_name.specs.Read.{labels_of};
 ghost use Rattle.octseq_dns_scan.specs.Word.{AreWords};
 ghost use Rattle.octseq_dns_scan.specs.Words.{ahead_of, offset_of};
 ghost use Rattle.octseq_dns_text.specs.Scans.{IsFault};
 ghost use Rattle.octseq_dns_compose.specs.Read.{head_of};
-ghost use Rattle.octseq_dns_compose.specs.RecordText.{IsAnyRecord, IsRecordText};
+ghost use Rattle.octseq_dns_compose.specs.RecordText.{BeginsWithList, IsAnyRecord, IsRecordText};
 
 use crate::head::{take_owner, take_rtype, take_ttl_and_class};
 use octseq::{Array, AsOctets, OctetsBuilder, Truncate};
@@ -37,7 +38,8 @@ pub struct RecordHead {
 /// # Errors
 ///
 /// `Malformed` with the offset of the first word that isn't what has to come there, `Short` if the content would exceed
-/// the limit of its type, `Memory` if a request for memory was refused. The content is then unchanged.
+/// the limit of its type, `Memory` if a request for memory was refused, which data that ends in a list of types or of
+/// parameters makes. The content is then unchanged.
 pub fn scan_record<R: AsOctets + Copy, B: OctetsBuilder + Truncate>(
     alloc: Global,
     words: Words,
@@ -54,6 +56,8 @@ pub fn scan_record<R: AsOctets + Copy, B: OctetsBuilder + Truncate>(
         × AreWords all (ahead_of words.entry)
         × IsAnyRecord (option_map (λ name. labels_of name.now) origin.entry) all octets
         × IsPast B.limit (length (B.content target.old) + length octets) }
+    ensures memory { IsErrOf result ScanError.Memory → (B.asks ≡ true)
+        ⊎ BeginsWithList (option_map (λ name. labels_of name.now) origin.entry) (ahead_of words.entry) }
     ensures kept { OnErr result (B.content target.new ≡ B.content target.old) }
     ensures borrows { B.borrows target.new ≡ B.borrows target.old }
 {

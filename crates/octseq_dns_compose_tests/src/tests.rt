@@ -17,3 +17,4 @@ fn unwrap<T, E: Debug + Drop>(rt: &impl Abort, made: Result<T, E>) -> T {
 
 mod messages;
 mod records;
+mod refused;

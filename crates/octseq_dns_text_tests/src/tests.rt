@@ -16,6 +16,7 @@ fn unwrap<T, E: Debug + Drop>(rt: &impl Abort, made: Result<T, E>) -> T {
 }
 
 mod data;
+mod malformed;
 mod params;
 mod refused;
 mod rows;

@@ -24,6 +24,95 @@ fn a_message_is_composed(rt: HostRuntime) {
     assert_equal!(&rt, octets.as_slice(), wanted.as_slice());
 }
 
+/// Opaque data has no message around it: a name in it that has a pointer isn't read, even if the pointer leads into the
+/// data (RFC 3597, 4). The octets of the data stay as they are.
+#[test]
+fn a_pointer_in_opaque_data_leads_nowhere(rt: HostRuntime) {
+    for (line, data) in [
+        // the exchange points at the preference, whose first octet would be the root
+        (
+            b"answer . 0 IN MX \\# 4 000ac000\n".as_slice(),
+            b"\0\x0a\xc0\0".as_slice(),
+        ),
+        // the mailbox points at the root that is the name server
+        (
+            b"answer . 0 IN SOA \\# 23 00c000 00000001 00000002 00000003 00000004 00000005\n",
+            b"\0\xc0\0\0\0\0\x01\0\0\0\x02\0\0\0\x03\0\0\0\x04\0\0\0\x05",
+        ),
+        (
+            b"answer . 0 IN SRV \\# 8 000000000000c000\n",
+            b"\0\0\0\0\0\0\xc0\0",
+        ),
+    ] {
+        let mut text = Vec::new(rt.alloc());
+        unwrap(
+            &rt,
+            text.extend_from_slice(b"id 1 opcode 0 rcode 0 flags\n"),
+        );
+        unwrap(&rt, text.extend_from_slice(line));
+        let octets = unwrap(&rt, composed(rt.alloc(), &text));
+        let written = octets.as_slice();
+        assert_equal!(&rt, written.len(), 12 + 11 + data.len());
+        assert_equal!(&rt, &written[23..], data);
+    }
+}
+
+/// Opaque data whose names have no pointers is of its type: its name is compressed.
+#[test]
+fn a_plain_name_in_opaque_data_is_compressed(rt: HostRuntime) {
+    let text = b"id 1 opcode 0 rcode 0 flags\nanswer a. 0 IN NS \\# 3 016100\n";
+    let octets = unwrap(&rt, composed(rt.alloc(), text));
+    let wanted = b"\0\x01\0\0\0\0\0\x01\0\0\0\0\x01a\0\0\x02\0\x01\0\0\0\0\0\x02\xc0\x0c";
+    assert_equal!(&rt, octets.as_slice(), wanted.as_slice());
+}
+
+/// Composes the message of a text in an array of `N` octets.
+fn composed_in<const N: usize>(alloc: Global, text: &[u8]) -> Result<usize, ComposeError> {
+    let table = StaticCompressor::<16>::new();
+    let message = compose_text(alloc, text, Array::<N>::new(), table)?;
+    Ok(message.as_slice().len())
+}
+
+/// The first line with which the message would exceed the limit of the builder decides, and later ones aren't read. A
+/// header has 12 octets, a question for the root 5, and a record of the root 11 and those of its data.
+#[test]
+fn the_first_line_beyond_the_limit_decides(rt: HostRuntime) {
+    let alloc = rt.alloc();
+    let short = Err(ComposeError::Short);
+    let header = b"id 1 opcode 0 rcode 0 flags\n";
+    assert_equal!(&rt, composed_in::<11>(alloc, header), short);
+    assert_equal!(&rt, composed_in::<12>(alloc, header), Ok(12));
+    let question = b"id 1 opcode 0 rcode 0 flags\nquestion . IN A\nanswer\n";
+    let third = Err(ComposeError::Malformed(Place { line: 3, offset: 6 }));
+    assert_equal!(&rt, composed_in::<11>(alloc, question), short);
+    assert_equal!(&rt, composed_in::<16>(alloc, question), short);
+    assert_equal!(&rt, composed_in::<17>(alloc, question), third);
+    let records =
+        b"id 1 opcode 0 rcode 0 flags\nauthority . 0 IN A 1.2.3.4\nadditional . 0 IN TXT a\nx\n";
+    let fourth = Err(ComposeError::Malformed(Place { line: 4, offset: 0 }));
+    assert_equal!(&rt, composed_in::<26>(alloc, records), short);
+    assert_equal!(&rt, composed_in::<39>(alloc, records), short);
+    assert_equal!(&rt, composed_in::<40>(alloc, records), fourth);
+}
+
+/// Data has at most 65,535 octets: 256 strings of 255 octets, each after its length, are too many.
+#[test]
+fn data_beyond_65535_octets_is_refused(rt: HostRuntime) {
+    let mut text = Vec::new(rt.alloc());
+    let start = b"id 1 opcode 0 rcode 0 flags\nanswer . 0 IN TXT";
+    unwrap(&rt, text.extend_from_slice(start));
+    let string = [b'a'; 255];
+    for _ in 0..256 {
+        unwrap(&rt, text.push(b' '));
+        unwrap(&rt, text.extend_from_slice(&string));
+    }
+    let table = StaticCompressor::<16>::new();
+    match compose_text(rt.alloc(), &text, Vec::new(rt.alloc()), table) {
+        Ok(_) => panic!(&rt; "composed"),
+        Err(error) => assert_equal!(&rt, error, ComposeError::Short),
+    }
+}
+
 /// The number of the line, and the offset in it.
 #[test]
 fn a_fault_has_its_line(rt: HostRuntime) {

@@ -1,71 +1,78 @@
-//! Texts that are refused, each with the offset of the first word that isn't what has to come there.
-use crate::tests::equal;
-use octseq::Array;
+//! Refused requests for memory.
+//!
+//! `.ci/refused` runs these tests with their n-th request refused, for each n up to the last of them. A refused text
+//! leaves the content unchanged, so it is read afterwards as it would have been.
+use crate::tests::types::EXAMPLE;
+use crate::tests::unwrap;
+use octseq::{Array, OctetsBuilder, Truncate};
+use octseq_asserts::assert_equal;
 use octseq_dns_data::{Class, Rtype};
 use octseq_dns_scan::Words;
-use octseq_dns_text::{ScanError, scan_data};
+use octseq_dns_text::{ScanError, scan_data, scan_params, scan_types};
+use std::alloc::Global;
+use std::process::Abort;
 
-/// A type, a class, a text, and the offset.
-static REFUSED: [(u16, u16, &[u8], usize); 44] = [
-    (48, 1, b"1 256 1 AQ==", 2),
-    (15, 1, b"65536 .", 0),
-    (15, 1, b"10", 2),
-    (15, 1, b"10  ", 4),
-    (15, 1, b"10 a", 3),
-    (15, 1, b"10 . .", 5),
-    (1, 1, b"1.2.3", 0),
-    (1, 3, b"1.2.3.4", 0),
-    (1, 1, b"1.2.3.4 5", 8),
-    (28, 1, b"::: ", 0),
-    (1, 1, b"", 0),
-    (1, 1, b" 1.2.3.4", 0),
-    (99, 1, b"\"a\"", 0),
-    (16, 1, b"", 0),
-    (16, 1, b"a \"b", 2),
-    (16, 1, b"a b;c", 2),
-    (43, 1, b"1 5 1", 5),
-    (43, 1, b"1 5 1 f", 7),
-    (43, 1, b"1 5 1 ff 0g", 9),
-    (43, 1, b"1 5 1 \\# 0", 6),
-    (48, 1, b"1 3 5 AQ== AQ==", 11),
-    (48, 1, b"1 3 5 AQ", 8),
-    (46, 1, b"FOO 5 2 300 0 0 7 . AQ==", 0),
-    (46, 1, b"A 5 2 300 20230229000000 0 7 . AQ==", 10),
-    (51, 1, b"1 0 10 a", 7),
-    (51, 1, b"1 0 10 --", 7),
-    (257, 1, b"0 a-b \"\"", 2),
-    (257, 1, b"0 a \"\" \"\"", 7),
-    (256, 1, b"1 1 \"\"", 4),
-    (61, 1, b"A", 1),
-    (47, 1, b". A A", 4),
-    (50, 1, b"1 0 10 - -", 9),
-    (50, 1, b"1 0 10 - ", 9),
-    (64, 1, b"1 . port=\"65536\"", 4),
-    (65, 1, b"1 . port=\"1\" port=\"1\"", 13),
-    (65, 3, b"1 .", 0),
-    (1, 1, b"\\#", 2),
-    (1, 1, b"\\# 65536", 3),
-    (1, 1, b"\\# 0 00", 5),
-    (1, 1, b"\\# 2 00", 7),
-    (1, 1, b"\\# 1 0000", 5),
-    (1, 1, b"\\# 1 0 00", 7),
-    (1, 1, b"\\# 1 0 ", 7),
-    (1, 1, b"\\# 1 0x", 5),
-];
+/// The data of RFC 4034, 4.3, but for the types.
+const OWNER: &[u8] = b"\x04host\x07example\x03com\0";
+
+/// A text of RFC 9460, D.2, and its octets.
+const SERVICE: &[u8] =
+    b"16 foo.example.org. alpn=h2,h3-19 mandatory=ipv4hint,alpn ipv4hint=192.0.2.1";
+
+const SERVICE_OCTETS: &[u8] = b"\0\x10\x03foo\x07example\x03org\0\0\0\0\x04\0\x01\0\x04\0\x01\0\x09\
+\x02h2\x05h3-19\0\x04\0\x04\xC0\0\x02\x01";
+
+/// Appends the data of a text. If it is refused, it is appended again.
+fn append<B: OctetsBuilder + Truncate>(
+    rt: &impl Abort,
+    alloc: Global,
+    rtype: Rtype,
+    text: &[u8],
+    target: &mut B,
+) -> Result<(), ScanError> {
+    let len = target.as_ref().len();
+    let words = Words::new(text);
+    let read = scan_data::<&[u8], B>(alloc, words, rtype, Class::IN, None, target);
+    if read.is_err() {
+        assert_equal!(rt, read, Err(ScanError::Memory));
+        assert_equal!(rt, target.as_ref().len(), len);
+        let again = scan_data::<&[u8], B>(alloc, words, rtype, Class::IN, None, target);
+        unwrap(rt, again);
+    }
+    read
+}
+
+/// Appends data with types and data with parameters, of which at most one is refused at first.
+fn append_both<B: OctetsBuilder + Truncate>(rt: &impl Abort, alloc: Global, mut target: B) {
+    let text = b"host.example.com. A MX RRSIG NSEC TYPE1234";
+    let types = append(rt, alloc, Rtype::NSEC, text, &mut target);
+    let params = append(rt, alloc, Rtype::SVCB, SERVICE, &mut target);
+    let octets = target.as_ref();
+    let after_owner = OWNER.len() + EXAMPLE.len();
+    assert_equal!(rt, octets.get(..OWNER.len()), Some(OWNER));
+    assert_equal!(rt, octets.get(OWNER.len()..after_owner), Some(EXAMPLE));
+    assert_equal!(rt, octets.get(after_owner..), Some(SERVICE_OCTETS));
+    unwrap(rt, types.and(params));
+}
 
 #[test]
-fn a_text_that_is_none_is_refused(rt: HostRuntime) {
-    for (rtype, class, text, offset) in REFUSED {
-        let mut target = Array::<64>::new();
-        let read = scan_data::<&[u8], _>(
-            rt.alloc(),
-            Words::new(text),
-            Rtype::from_int(rtype),
-            Class::from_int(class),
-            None,
-            &mut target,
-        );
-        equal(&rt, "a refusal", read, Err(ScanError::Malformed(offset)));
-        equal(&rt, "what is left", target.as_slice(), b"".as_slice());
-    }
+fn data_is_appended_or_not_at_all(rt: HostRuntime) {
+    append_both(&rt, rt.alloc(), Vec::new(rt.alloc()));
+}
+
+/// A list is made of the types and of the parameters, so memory is asked for even if the content needs none.
+#[test]
+fn a_list_asks_for_memory(rt: HostRuntime) {
+    append_both(&rt, rt.alloc(), Array::<128>::new());
+}
+
+#[test]
+fn types_and_parameters_are_read(rt: HostRuntime) {
+    let mut target = Array::<64>::new();
+    let types = scan_types(rt.alloc(), Words::new(b"MX A"), &mut target);
+    unwrap(&rt, types);
+    let params = scan_params(rt.alloc(), Words::new(b"port=53"), &mut target);
+    unwrap(&rt, params);
+    let wanted = b"\0\x02\x40\x01\0\x03\0\x02\0\x35".as_slice();
+    assert_equal!(&rt, target.as_slice(), wanted);
 }

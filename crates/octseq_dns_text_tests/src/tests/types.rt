@@ -7,7 +7,7 @@ use octseq_dns_text::{ScanError, scan_types};
 use std::process::Abort;
 
 /// The octets of the types A, MX, RRSIG, NSEC and TYPE1234: the example of RFC 4034, 4.3.
-const EXAMPLE: &[u8] =
+pub(crate) const EXAMPLE: &[u8] =
     b"\x00\x06\x40\x01\x00\x00\x00\x03\x04\x1B\0\0\0\0\0\0\0\0\0\0\0\0\0\0\0\0\0\0\0\0\0\0\0\0\0\0\x20";
 
 /// Texts, and their octets, or why each is refused.

@@ -1,36 +1,53 @@
-use Rattle.std.proofs.Common.{◌≡◌, None, [], length, codes, refl, sym, ◌∙◌, subst, arith, rules}
+-- Each section of the text follows the one before it.
+use Rattle.std.proofs.Common.{◌≡◌, [], length, sym, ◌∙◌, subst, arith, rules}
+use Rattle.std.proofs.lemmas.Bool.{true≢false}
 use Rattle.std.proofs.lemmas.List.{nil_from_length}
+use Rattle.octseq.specs.Limit.{IsWithin}
 use Rattle.octseq_dns.specs.Blank.{blank_message}
-use Rattle.octseq_dns_compose.specs.MessageText.{Entry, IsAnyText, IsQuestionLine, IsRecordLine}
-use Rattle.octseq_dns_compose.specs.QuestionText.{IsAnyQuestion}
-use Rattle.octseq_dns_compose.specs.RecordText.{IsAnyRecord}
+use Rattle.octseq_dns_compress.specs.Composed.{message_limit}
+use Rattle.octseq_dns_compose.specs.MessageText.{IsAnyText}
 use Rattle.octseq_dns_compose.specs.TextLines.{IsFaultyHeader, IsLineFault, TakesLine}
-use Rattle.octseq_dns_compose.proofs.MessageFaults.{after_first, end_fault, go_past, header_fault, of_additionals}
-use Rattle.octseq_dns_compose.proofs.MessageFaults.{of_answers, of_authorities, of_questions, stop_fault}
-use Rattle.octseq_dns_compose.proofs.MessageTexts.{message_text, writes_same}
+use Rattle.octseq_dns_compose.proofs.Composing.{additionals, answers, authorities, end_at, header_stage, list_asked}
+use Rattle.octseq_dns_compose.proofs.Composing.{long_header, long_questions, long_records, questions, questions_stage}
+use Rattle.octseq_dns_compose.proofs.Composing.{records_stage, same_stage, stop_at, whole_text}
+use Rattle.octseq_dns_compose.proofs.MessageFaults.{header_fault}
+use Rattle.octseq_dns_compose.proofs.LongTexts.{no_long_header}
+use Rattle.octseq_dns_compose.proofs.Onstage.{additional_data, answer_data, authority_data, header_onstage, over_onstage}
+use Rattle.octseq_dns_compose.proofs.Onstage.{questions_onstage, questions_stopped, records_onstage, records_stopped}
+use Rattle.octseq_dns_compose.proofs.Onstage.{same_onstage}
 use Rattle.octseq_dns_compose.proofs.Places.{malformed_at}
 use Rattle.octseq_dns_compose.proofs.message.compose_text.Goals as goal
 
 pub returns-clause-ok : goal.returns-clause-ok
 returns-clause-ok g c =
+    let text = c.args.text.now in
+    let most = g.T.Compressor.most in
     let first = c.in_ok-header.ensures.ok in
+    let taken = subst (λ t. TakesLine first.0 t c.next_header.new.lines.ahead.now) c.new-lines.ensures.ahead first.1 in
+    let two : c.next_header.new.lines.number ≡ 2 =
+    let one = c.new-lines.ensures.number in let more = first.3 in omega (arith, one, more) in
+    let begun = header_stage most text _ _ _ _ c.set_header.new.self taken first.2 two
+    (c.set_header.ensures.written blank_message c.in_ok-message.ensures.written)
+    (c.set_header.ensures.push_limit ∙ c.in_ok-message.ensures.push_limit) in
+    let q = same_stage most text _ _ _ c.set_header.new.self c.question-questions.result c.question-questions.ensures
+    begun in
     let qs = c.in_ok-push_questions.ensures.ok in
+    let r = same_stage most text _ _ _ c.push_questions.new.message c.answer-answers.result c.answer-answers.ensures
+    (questions_stage q c.push_questions.new.message _ _ qs.0 qs.1 qs.2 qs.3 c.in_ok-push_questions.ensures.push_limit) in
     let rs = c.in_ok-push_records.ensures.ok in
+    let u = same_stage most text _ _ _ c.push_records.new.message c.authority-authorities.result
+    c.authority-authorities.ensures (records_stage answers r c.push_records.new.message _ _ rs.0 rs.1 rs.2 rs.3
+    c.in_ok-push_records.ensures.push_limit) in
     let us = c.in_ok-push_records-2.ensures.ok in
+    let d = same_stage most text _ _ _ c.push_records-2.new.message c.additional-additionals.result
+    c.additional-additionals.ensures (records_stage authorities u c.push_records-2.new.message _ _ us.0 us.1 us.2 us.3
+    c.in_ok-push_records-2.ensures.push_limit) in
     let ds = c.in_ok-push_records-3.ensures.ok in
+    let e = records_stage additionals d c.push_records-3.new.message _ _ ds.0 ds.1 ds.2 ds.3
+    c.in_ok-push_records-3.ensures.push_limit in
     let zero : length c.push_records-3.new.lines.ahead.now ≡ 0 = search rules in
     let over = nil_from_length c.push_records-3.new.lines.ahead.now zero in
-    let taken = subst (λ t. TakesLine first.0 t c.next_header.new.lines.ahead.now) c.new-lines.ensures.ahead first.1 in
-    let w1 = c.set_header.ensures.written blank_message c.in_ok-message.ensures.written in
-    let w2 = qs.3 _ (writes_same _ _ _ _ c.question-questions.ensures w1) in
-    let w3 = rs.3.written _ (writes_same _ _ _ _ c.answer-answers.ensures w2) in
-    let w4 = us.3.written _ (writes_same _ _ _ _ c.authority-authorities.ensures w3) in
-    let w5 = ds.3.written _ (writes_same _ _ _ _ c.additional-additionals.ensures w4) in (
-      _,
-      message_text _ _ _ _ _ _ _ _ _ _ _ c.in_ok-header.header first.0 qs.0 rs.0 us.0 ds.0 rs.3.records
-          us.3.records ds.3.records taken first.2 qs.1 rs.1 us.1 ds.1 over rs.3.are us.3.are ds.3.are,
-      w5,
-    )
+    (e.m, whole_text most text _ _ _ _ e over, e.writes)
 
 pub returns-in_err-header-clause-malformed : goal.returns-in_err-header-clause-malformed
 returns-in_err-header-clause-malformed g c = λ place is.
@@ -39,81 +56,283 @@ returns-in_err-header-clause-malformed g c = λ place is.
     (header_fault c.args.text.now place.offset
     (subst (λ t. IsFaultyHeader t place.offset) c.new-lines.ensures.ahead found.1))
 
-pub returns-in_err-push_questions-clause-malformed : goal.returns-in_err-push_questions-clause-malformed
-returns-in_err-push_questions-clause-malformed g c = λ place is.
+pub returns-in_err-message-clause-short : goal.returns-in_err-message-clause-short
+returns-in_err-message-clause-short g c = λ is.
+    let text = c.args.text.now in
+    let most = g.T.Compressor.most in
     let first = c.in_ok-header.ensures.ok in
     let taken = subst (λ t. TakesLine first.0 t c.next_header.new.lines.ahead.now) c.new-lines.ensures.ahead first.1 in
-    let two : c.next_header.new.lines.number ≡ 2 = let one = c.new-lines.ensures.number in let more = first.3 in
-    omega (arith, one, more) in
-    let stop = c.in_err-push_questions.ensures.malformed place (search (rules, is)) in
-    after_first c.in_ok-header.header first.0 c.args.text.now _ _ place.line place.offset taken first.2 two
-    (stop_fault Entry.question IsQuestionLine 0 0 (codes "question") IsAnyQuestion _ _ place.line place.offset
-    (λ q. refl) (λ q ws it. it) of_questions (omega arith) stop)
+    long_header most g.B.AsOctets.limit text _ _ _ taken first.2 (c.in_err-message.ensures.short (search (rules, is)))
 
-pub returns-in_err-push_records-clause-malformed : goal.returns-in_err-push_records-clause-malformed
-returns-in_err-push_records-clause-malformed g c = λ place is.
+pub returns-in_err-push_questions : goal.returns-in_err-push_questions
+returns-in_err-push_questions g c =
+    let text = c.args.text.now in
+    let most = g.T.Compressor.most in
     let first = c.in_ok-header.ensures.ok in
     let taken = subst (λ t. TakesLine first.0 t c.next_header.new.lines.ahead.now) c.new-lines.ensures.ahead first.1 in
-    let two : c.next_header.new.lines.number ≡ 2 = let one = c.new-lines.ensures.number in let more = first.3 in
-    omega (arith, one, more) in
-    let qs = c.in_ok-push_questions.ensures.ok in
-    let stop = c.in_err-push_records.ensures.malformed place (search (rules, is)) in
-    after_first c.in_ok-header.header first.0 c.args.text.now _ _ place.line place.offset taken first.2 two
-    (go_past Entry.question IsQuestionLine 0 0 qs.0 _ _ _ _ place.line place.offset (λ q. refl) (λ q ws it. it)
-    (omega arith) qs.1 (λ s less.
-    stop_fault Entry.answer (IsRecordLine (codes "answer")) 1 s (codes "answer") (IsAnyRecord None) _ _ place.line
-    place.offset (λ q. refl) (λ q ws it. it) of_answers (omega (arith, less)) stop))
+    let two : c.next_header.new.lines.number ≡ 2 =
+    let one = c.new-lines.ensures.number in let more = first.3 in omega (arith, one, more) in
+    let begun = header_stage most text _ _ _ _ c.set_header.new.self taken first.2 two
+    (c.set_header.ensures.written blank_message c.in_ok-message.ensures.written)
+    (c.set_header.ensures.push_limit ∙ c.in_ok-message.ensures.push_limit) in
+    let q = same_stage most text _ _ _ c.set_header.new.self c.question-questions.result c.question-questions.ensures
+    begun in
+    let stopped = c.in_err-push_questions.ensures in
+    record {
+      ok = search rules;
+      malformed = λ place is.
+          stop_at questions q.said place.line place.offset (stopped.malformed place (search (rules, is)));
+      short = λ is. long_questions q g.B.AsOctets.limit (stopped.short (search (rules, is)));
+      memory = search rules;
+      first = λ place is.
+          let bad = stopped.stopped place (search (rules, is)) in
+          let limit = message_limit g.B.AsOctets.limit in
+          let h = same_onstage most limit text _ 0 c.set_header.new.self c.question-questions.result
+          c.question-questions.ensures (header_onstage most limit text _ _ _ c.set_header.new.self taken first.2
+          (c.set_header.ensures.written blank_message c.in_ok-message.ensures.written)
+          (c.set_header.ensures.push_limit ∙ c.in_ok-message.ensures.push_limit)
+          (subst (IsWithin limit) (sym c.set_header.ensures.len) c.in_ok-message.ensures.within)) in
+          questions_stopped h place.offset (bad h.m h.writes);
+      within = search rules;
+      borrows = search rules;
+    }
 
-pub returns-in_err-push_records-2-clause-malformed : goal.returns-in_err-push_records-2-clause-malformed
-returns-in_err-push_records-2-clause-malformed g c = λ place is.
+pub returns-in_err-push_records : goal.returns-in_err-push_records
+returns-in_err-push_records g c =
+    let text = c.args.text.now in
+    let most = g.T.Compressor.most in
     let first = c.in_ok-header.ensures.ok in
     let taken = subst (λ t. TakesLine first.0 t c.next_header.new.lines.ahead.now) c.new-lines.ensures.ahead first.1 in
-    let two : c.next_header.new.lines.number ≡ 2 = let one = c.new-lines.ensures.number in let more = first.3 in
-    omega (arith, one, more) in
+    let two : c.next_header.new.lines.number ≡ 2 =
+    let one = c.new-lines.ensures.number in let more = first.3 in omega (arith, one, more) in
+    let begun = header_stage most text _ _ _ _ c.set_header.new.self taken first.2 two
+    (c.set_header.ensures.written blank_message c.in_ok-message.ensures.written)
+    (c.set_header.ensures.push_limit ∙ c.in_ok-message.ensures.push_limit) in
+    let q = same_stage most text _ _ _ c.set_header.new.self c.question-questions.result c.question-questions.ensures
+    begun in
     let qs = c.in_ok-push_questions.ensures.ok in
+    let r = same_stage most text _ _ _ c.push_questions.new.message c.answer-answers.result c.answer-answers.ensures
+    (questions_stage q c.push_questions.new.message _ _ qs.0 qs.1 qs.2 qs.3 c.in_ok-push_questions.ensures.push_limit) in
+    let stopped = c.in_err-push_records.ensures in
+    record {
+      ok = search rules;
+      malformed = λ place is.
+          stop_at answers.sect r.said place.line place.offset (stopped.malformed place (search (rules, is)));
+      short = λ is. long_records answers r g.B.AsOctets.limit (stopped.short (search (rules, is)));
+      memory = λ is.
+          list_asked answers r _ (λ asks. true≢false (sym asks)) (stopped.memory (search (rules, is)));
+      first = λ place is.
+          let bad = stopped.stopped place (search (rules, is)) in
+          let limit = message_limit g.B.AsOctets.limit in
+          let h = same_onstage most limit text _ 0 c.set_header.new.self c.question-questions.result
+          c.question-questions.ensures (header_onstage most limit text _ _ _ c.set_header.new.self taken first.2
+          (c.set_header.ensures.written blank_message c.in_ok-message.ensures.written)
+          (c.set_header.ensures.push_limit ∙ c.in_ok-message.ensures.push_limit)
+          (subst (IsWithin limit) (sym c.set_header.ensures.len) c.in_ok-message.ensures.within)) in
+          let k = same_onstage most limit text _ 1 c.push_questions.new.message c.answer-answers.result c.answer-answers.ensures
+          (questions_onstage h c.push_questions.new.message _ (c.in_ok-push_questions.ensures.added h.m h.writes)
+          c.in_ok-push_questions.ensures.push_limit qs.2) in
+          records_stopped answers k place.offset answer_data (bad k.m k.writes);
+      within = search rules;
+      borrows = search rules;
+    }
+
+pub returns-in_err-push_records-2 : goal.returns-in_err-push_records-2
+returns-in_err-push_records-2 g c =
+    let text = c.args.text.now in
+    let most = g.T.Compressor.most in
+    let first = c.in_ok-header.ensures.ok in
+    let taken = subst (λ t. TakesLine first.0 t c.next_header.new.lines.ahead.now) c.new-lines.ensures.ahead first.1 in
+    let two : c.next_header.new.lines.number ≡ 2 =
+    let one = c.new-lines.ensures.number in let more = first.3 in omega (arith, one, more) in
+    let begun = header_stage most text _ _ _ _ c.set_header.new.self taken first.2 two
+    (c.set_header.ensures.written blank_message c.in_ok-message.ensures.written)
+    (c.set_header.ensures.push_limit ∙ c.in_ok-message.ensures.push_limit) in
+    let q = same_stage most text _ _ _ c.set_header.new.self c.question-questions.result c.question-questions.ensures
+    begun in
+    let qs = c.in_ok-push_questions.ensures.ok in
+    let r = same_stage most text _ _ _ c.push_questions.new.message c.answer-answers.result c.answer-answers.ensures
+    (questions_stage q c.push_questions.new.message _ _ qs.0 qs.1 qs.2 qs.3 c.in_ok-push_questions.ensures.push_limit) in
     let rs = c.in_ok-push_records.ensures.ok in
-    let stop = c.in_err-push_records-2.ensures.malformed place (search (rules, is)) in
-    after_first c.in_ok-header.header first.0 c.args.text.now _ _ place.line place.offset taken first.2 two
-    (go_past Entry.question IsQuestionLine 0 0 qs.0 _ _ _ _ place.line place.offset (λ q. refl) (λ q ws it. it)
-    (omega arith) qs.1 (λ s less.
-    go_past Entry.answer (IsRecordLine (codes "answer")) 1 s rs.0 _ _ _ _ place.line place.offset (λ q. refl)
-    (λ q ws it. it) (omega (arith, less)) rs.1 (λ t below.
-    stop_fault Entry.authority (IsRecordLine (codes "authority")) 2 t (codes "authority") (IsAnyRecord None) _ _
-    place.line place.offset (λ q. refl) (λ q ws it. it) of_authorities (omega (arith, below)) stop)))
+    let u = same_stage most text _ _ _ c.push_records.new.message c.authority-authorities.result
+    c.authority-authorities.ensures (records_stage answers r c.push_records.new.message _ _ rs.0 rs.1 rs.2 rs.3
+    c.in_ok-push_records.ensures.push_limit) in
+    let stopped = c.in_err-push_records-2.ensures in
+    record {
+      ok = search rules;
+      malformed = λ place is.
+          stop_at authorities.sect u.said place.line place.offset (stopped.malformed place (search (rules, is)));
+      short = λ is. long_records authorities u g.B.AsOctets.limit (stopped.short (search (rules, is)));
+      memory = λ is.
+          list_asked authorities u _ (λ asks. true≢false (sym asks)) (stopped.memory (search (rules, is)));
+      first = λ place is.
+          let bad = stopped.stopped place (search (rules, is)) in
+          let limit = message_limit g.B.AsOctets.limit in
+          let h = same_onstage most limit text _ 0 c.set_header.new.self c.question-questions.result
+          c.question-questions.ensures (header_onstage most limit text _ _ _ c.set_header.new.self taken first.2
+          (c.set_header.ensures.written blank_message c.in_ok-message.ensures.written)
+          (c.set_header.ensures.push_limit ∙ c.in_ok-message.ensures.push_limit)
+          (subst (IsWithin limit) (sym c.set_header.ensures.len) c.in_ok-message.ensures.within)) in
+          let k = same_onstage most limit text _ 1 c.push_questions.new.message c.answer-answers.result c.answer-answers.ensures
+          (questions_onstage h c.push_questions.new.message _ (c.in_ok-push_questions.ensures.added h.m h.writes)
+          c.in_ok-push_questions.ensures.push_limit qs.2) in
+          let l = same_onstage most limit text _ 2 c.push_records.new.message c.authority-authorities.result
+          c.authority-authorities.ensures (records_onstage answers k c.push_records.new.message _
+          (c.in_ok-push_records.ensures.added k.m k.writes) c.in_ok-push_records.ensures.push_limit rs.2) in
+          records_stopped authorities l place.offset authority_data (bad l.m l.writes);
+      within = search rules;
+      borrows = search rules;
+    }
 
-pub returns-in_err-push_records-3-clause-malformed : goal.returns-in_err-push_records-3-clause-malformed
-returns-in_err-push_records-3-clause-malformed g c = λ place is.
+pub returns-in_err-push_records-3 : goal.returns-in_err-push_records-3
+returns-in_err-push_records-3 g c =
+    let text = c.args.text.now in
+    let most = g.T.Compressor.most in
     let first = c.in_ok-header.ensures.ok in
     let taken = subst (λ t. TakesLine first.0 t c.next_header.new.lines.ahead.now) c.new-lines.ensures.ahead first.1 in
-    let two : c.next_header.new.lines.number ≡ 2 = let one = c.new-lines.ensures.number in let more = first.3 in
-    omega (arith, one, more) in
+    let two : c.next_header.new.lines.number ≡ 2 =
+    let one = c.new-lines.ensures.number in let more = first.3 in omega (arith, one, more) in
+    let begun = header_stage most text _ _ _ _ c.set_header.new.self taken first.2 two
+    (c.set_header.ensures.written blank_message c.in_ok-message.ensures.written)
+    (c.set_header.ensures.push_limit ∙ c.in_ok-message.ensures.push_limit) in
+    let q = same_stage most text _ _ _ c.set_header.new.self c.question-questions.result c.question-questions.ensures
+    begun in
     let qs = c.in_ok-push_questions.ensures.ok in
+    let r = same_stage most text _ _ _ c.push_questions.new.message c.answer-answers.result c.answer-answers.ensures
+    (questions_stage q c.push_questions.new.message _ _ qs.0 qs.1 qs.2 qs.3 c.in_ok-push_questions.ensures.push_limit) in
     let rs = c.in_ok-push_records.ensures.ok in
+    let u = same_stage most text _ _ _ c.push_records.new.message c.authority-authorities.result
+    c.authority-authorities.ensures (records_stage answers r c.push_records.new.message _ _ rs.0 rs.1 rs.2 rs.3
+    c.in_ok-push_records.ensures.push_limit) in
     let us = c.in_ok-push_records-2.ensures.ok in
-    let stop = c.in_err-push_records-3.ensures.malformed place (search (rules, is)) in
-    after_first c.in_ok-header.header first.0 c.args.text.now _ _ place.line place.offset taken first.2 two
-    (go_past Entry.question IsQuestionLine 0 0 qs.0 _ _ _ _ place.line place.offset (λ q. refl) (λ q ws it. it)
-    (omega arith) qs.1 (λ s less.
-    go_past Entry.answer (IsRecordLine (codes "answer")) 1 s rs.0 _ _ _ _ place.line place.offset (λ q. refl)
-    (λ q ws it. it) (omega (arith, less)) rs.1 (λ t below.
-    go_past Entry.authority (IsRecordLine (codes "authority")) 2 t us.0 _ _ _ _ place.line place.offset (λ q. refl)
-    (λ q ws it. it) (omega (arith, below)) us.1 (λ u under.
-    stop_fault Entry.additional (IsRecordLine (codes "additional")) 3 u (codes "additional") (IsAnyRecord None) _ _
-    place.line place.offset (λ q. refl) (λ q ws it. it) of_additionals (omega (arith, under)) stop))))
+    let d = same_stage most text _ _ _ c.push_records-2.new.message c.additional-additionals.result
+    c.additional-additionals.ensures (records_stage authorities u c.push_records-2.new.message _ _ us.0 us.1 us.2 us.3
+    c.in_ok-push_records-2.ensures.push_limit) in
+    let stopped = c.in_err-push_records-3.ensures in
+    record {
+      ok = search rules;
+      malformed = λ place is.
+          stop_at additionals.sect d.said place.line place.offset (stopped.malformed place (search (rules, is)));
+      short = λ is. long_records additionals d g.B.AsOctets.limit (stopped.short (search (rules, is)));
+      memory = λ is.
+          list_asked additionals d _ (λ asks. true≢false (sym asks)) (stopped.memory (search (rules, is)));
+      first = λ place is.
+          let bad = stopped.stopped place (search (rules, is)) in
+          let limit = message_limit g.B.AsOctets.limit in
+          let h = same_onstage most limit text _ 0 c.set_header.new.self c.question-questions.result
+          c.question-questions.ensures (header_onstage most limit text _ _ _ c.set_header.new.self taken first.2
+          (c.set_header.ensures.written blank_message c.in_ok-message.ensures.written)
+          (c.set_header.ensures.push_limit ∙ c.in_ok-message.ensures.push_limit)
+          (subst (IsWithin limit) (sym c.set_header.ensures.len) c.in_ok-message.ensures.within)) in
+          let k = same_onstage most limit text _ 1 c.push_questions.new.message c.answer-answers.result c.answer-answers.ensures
+          (questions_onstage h c.push_questions.new.message _ (c.in_ok-push_questions.ensures.added h.m h.writes)
+          c.in_ok-push_questions.ensures.push_limit qs.2) in
+          let l = same_onstage most limit text _ 2 c.push_records.new.message c.authority-authorities.result
+          c.authority-authorities.ensures (records_onstage answers k c.push_records.new.message _
+          (c.in_ok-push_records.ensures.added k.m k.writes) c.in_ok-push_records.ensures.push_limit rs.2) in
+          let n = same_onstage most limit text _ 3 c.push_records-2.new.message c.additional-additionals.result
+          c.additional-additionals.ensures (records_onstage authorities l c.push_records-2.new.message _
+          (c.in_ok-push_records-2.ensures.added l.m l.writes) c.in_ok-push_records-2.ensures.push_limit us.2) in
+          records_stopped additionals n place.offset additional_data (bad n.m n.writes);
+      within = search rules;
+      borrows = search rules;
+    }
 
 pub returns-then-not-is_empty-clause-malformed : goal.returns-then-not-is_empty-clause-malformed
 returns-then-not-is_empty-clause-malformed g c = λ place is.
+    let text = c.args.text.now in
+    let most = g.T.Compressor.most in
     let first = c.in_ok-header.ensures.ok in
     let taken = subst (λ t. TakesLine first.0 t c.next_header.new.lines.ahead.now) c.new-lines.ensures.ahead first.1 in
-    let two : c.next_header.new.lines.number ≡ 2 = let one = c.new-lines.ensures.number in let more = first.3 in
-    omega (arith, one, more) in
+    let two : c.next_header.new.lines.number ≡ 2 =
+    let one = c.new-lines.ensures.number in let more = first.3 in omega (arith, one, more) in
+    let begun = header_stage most text _ _ _ _ c.set_header.new.self taken first.2 two
+    (c.set_header.ensures.written blank_message c.in_ok-message.ensures.written)
+    (c.set_header.ensures.push_limit ∙ c.in_ok-message.ensures.push_limit) in
+    let q = same_stage most text _ _ _ c.set_header.new.self c.question-questions.result c.question-questions.ensures
+    begun in
+    let qs = c.in_ok-push_questions.ensures.ok in
+    let r = same_stage most text _ _ _ c.push_questions.new.message c.answer-answers.result c.answer-answers.ensures
+    (questions_stage q c.push_questions.new.message _ _ qs.0 qs.1 qs.2 qs.3 c.in_ok-push_questions.ensures.push_limit) in
+    let rs = c.in_ok-push_records.ensures.ok in
+    let u = same_stage most text _ _ _ c.push_records.new.message c.authority-authorities.result
+    c.authority-authorities.ensures (records_stage answers r c.push_records.new.message _ _ rs.0 rs.1 rs.2 rs.3
+    c.in_ok-push_records.ensures.push_limit) in
+    let us = c.in_ok-push_records-2.ensures.ok in
+    let d = same_stage most text _ _ _ c.push_records-2.new.message c.additional-additionals.result
+    c.additional-additionals.ensures (records_stage authorities u c.push_records-2.new.message _ _ us.0 us.1 us.2 us.3
+    c.in_ok-push_records-2.ensures.push_limit) in
+    let ds = c.in_ok-push_records-3.ensures.ok in
+    let e = records_stage additionals d c.push_records-3.new.message _ _ ds.0 ds.1 ds.2 ds.3
+    c.in_ok-push_records-3.ensures.push_limit in
+    let some : ¬ (c.push_records-3.new.lines.ahead.now ≡ []) = search rules in
+    let both = malformed_at _ _ place _ c.malformed.ensures is in
+    subst (λ n. IsLineFault IsAnyText text 1 n place.offset) (sym both.0)
+    (subst (IsLineFault IsAnyText text 1 c.push_records-3.new.lines.number) (sym both.1) (end_at text _ _ e.said some))
+
+pub returns-in_err-header-clause-first : goal.returns-in_err-header-clause-first
+returns-in_err-header-clause-first g c = λ place is.
+    let found = c.in_err-header.ensures.malformed place (search (rules, is)) in
+    no_long_header g.T.Compressor.most (message_limit g.B.AsOctets.limit) c.args.text.now place.offset
+    (subst (λ t. IsFaultyHeader t place.offset) c.new-lines.ensures.ahead found.1)
+
+pub returns-then-not-is_empty-clause-first : goal.returns-then-not-is_empty-clause-first
+returns-then-not-is_empty-clause-first g c = λ place is.
+    let text = c.args.text.now in
+    let most = g.T.Compressor.most in
+    let first = c.in_ok-header.ensures.ok in
+    let taken = subst (λ t. TakesLine first.0 t c.next_header.new.lines.ahead.now) c.new-lines.ensures.ahead first.1 in
     let qs = c.in_ok-push_questions.ensures.ok in
     let rs = c.in_ok-push_records.ensures.ok in
     let us = c.in_ok-push_records-2.ensures.ok in
     let ds = c.in_ok-push_records-3.ensures.ok in
-    let some : ¬ (c.push_records-3.new.lines.ahead.now ≡ []) = search rules in
-    let both = malformed_at _ _ place _ c.malformed.ensures is in
-    subst (λ n. IsLineFault IsAnyText c.args.text.now 1 n place.offset) (sym both.0)
-    (subst (IsLineFault IsAnyText c.args.text.now 1 c.push_records-3.new.lines.number) (sym both.1)
-    (after_first c.in_ok-header.header first.0 c.args.text.now _ _ _ 0 taken first.2 two
-    (end_fault _ _ _ _ _ _ _ _ _ _ qs.0 rs.0 us.0 ds.0 qs.1 qs.2 rs.1 rs.2 us.1 us.2 ds.1 ds.2 some)))
+    let limit = message_limit g.B.AsOctets.limit in
+    let h = same_onstage most limit text _ 0 c.set_header.new.self c.question-questions.result
+    c.question-questions.ensures (header_onstage most limit text _ _ _ c.set_header.new.self taken first.2
+    (c.set_header.ensures.written blank_message c.in_ok-message.ensures.written)
+    (c.set_header.ensures.push_limit ∙ c.in_ok-message.ensures.push_limit)
+    (subst (IsWithin limit) (sym c.set_header.ensures.len) c.in_ok-message.ensures.within)) in
+    let k = same_onstage most limit text _ 1 c.push_questions.new.message c.answer-answers.result c.answer-answers.ensures
+    (questions_onstage h c.push_questions.new.message _ (c.in_ok-push_questions.ensures.added h.m h.writes)
+    c.in_ok-push_questions.ensures.push_limit qs.2) in
+    let l = same_onstage most limit text _ 2 c.push_records.new.message c.authority-authorities.result
+    c.authority-authorities.ensures (records_onstage answers k c.push_records.new.message _
+    (c.in_ok-push_records.ensures.added k.m k.writes) c.in_ok-push_records.ensures.push_limit rs.2) in
+    let n = same_onstage most limit text _ 3 c.push_records-2.new.message c.additional-additionals.result
+    c.additional-additionals.ensures (records_onstage authorities l c.push_records-2.new.message _
+    (c.in_ok-push_records-2.ensures.added l.m l.writes) c.in_ok-push_records-2.ensures.push_limit us.2) in
+    let o = records_onstage additionals n c.push_records-3.new.message _
+    (c.in_ok-push_records-3.ensures.added n.m n.writes) c.in_ok-push_records-3.ensures.push_limit ds.2 in
+    over_onstage most limit text _ c.push_records-3.new.message o
+
+pub returns-clause-within : goal.returns-clause-within
+returns-clause-within g c =
+    let text = c.args.text.now in
+    let most = g.T.Compressor.most in
+    let first = c.in_ok-header.ensures.ok in
+    let taken = subst (λ t. TakesLine first.0 t c.next_header.new.lines.ahead.now) c.new-lines.ensures.ahead first.1 in
+    let qs = c.in_ok-push_questions.ensures.ok in
+    let rs = c.in_ok-push_records.ensures.ok in
+    let us = c.in_ok-push_records-2.ensures.ok in
+    let ds = c.in_ok-push_records-3.ensures.ok in
+    let limit = message_limit g.B.AsOctets.limit in
+    let h = same_onstage most limit text _ 0 c.set_header.new.self c.question-questions.result
+    c.question-questions.ensures (header_onstage most limit text _ _ _ c.set_header.new.self taken first.2
+    (c.set_header.ensures.written blank_message c.in_ok-message.ensures.written)
+    (c.set_header.ensures.push_limit ∙ c.in_ok-message.ensures.push_limit)
+    (subst (IsWithin limit) (sym c.set_header.ensures.len) c.in_ok-message.ensures.within)) in
+    let k = same_onstage most limit text _ 1 c.push_questions.new.message c.answer-answers.result c.answer-answers.ensures
+    (questions_onstage h c.push_questions.new.message _ (c.in_ok-push_questions.ensures.added h.m h.writes)
+    c.in_ok-push_questions.ensures.push_limit qs.2) in
+    let l = same_onstage most limit text _ 2 c.push_records.new.message c.authority-authorities.result
+    c.authority-authorities.ensures (records_onstage answers k c.push_records.new.message _
+    (c.in_ok-push_records.ensures.added k.m k.writes) c.in_ok-push_records.ensures.push_limit rs.2) in
+    let n = same_onstage most limit text _ 3 c.push_records-2.new.message c.additional-additionals.result
+    c.additional-additionals.ensures (records_onstage authorities l c.push_records-2.new.message _
+    (c.in_ok-push_records-2.ensures.added l.m l.writes) c.in_ok-push_records-2.ensures.push_limit us.2) in
+    let o = records_onstage additionals n c.push_records-3.new.message _
+    (c.in_ok-push_records-3.ensures.added n.m n.writes) c.in_ok-push_records-3.ensures.push_limit ds.2 in
+    (
+      over_onstage most limit text _ c.push_records-3.new.message o,
+      subst (λ s. IsWithin limit (length s.octets)) (sym o.writes.state_is) o.within,
+    )

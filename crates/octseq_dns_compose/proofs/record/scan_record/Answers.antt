@@ -4,7 +4,7 @@ use Rattle.octseq_dns_text.specs.Scans.{IsFault}
 use Rattle.octseq_dns_text.specs.declared.error.ScanError.{ScanError}
 use Rattle.octseq_dns_compose.specs.RecordText.{Head, IsAnyRecord}
 use Rattle.octseq_dns_compose.proofs.Records.{fault_at_owner, fault_after_owner, fault_at_order, fault_after_order}
-use Rattle.octseq_dns_compose.proofs.Records.{fault_at_rtype, fault_after_rtype, record_words}
+use Rattle.octseq_dns_compose.proofs.Records.{fault_at_rtype, fault_after_rtype, head_asks, record_words}
 use Rattle.octseq_dns_compose.proofs.record.scan_record.Goals as goal
 
 pub returns-in_default-clause-fault : goal.returns-in_default-clause-fault
@@ -102,3 +102,18 @@ returns-in-Err-clause-short g c = λ is.
     (ahead_of c.take_rtype.new.words) rest.0 rest.1 owner.1 owner.2 order.3 order.4 order.5 kind.1 kind.2 rest.2 rest.3
     in
     (all.0, rest.1, all.1, (head, all.2), rest.4)
+
+pub returns-in-Err-clause-memory : goal.returns-in-Err-clause-memory
+returns-in-Err-clause-memory g c = λ is.
+    let owner = c.in-Some.ensures.some in
+    let order = c.in-Some-take_ttl_and_class.ensures.taken.some in
+    let kind = c.in-Some-take_rtype.ensures.taken.some in
+    let found : c.in-Err.error ≡ ScanError.Memory = cc in
+    head_asks _ (record {
+      labels = _;
+      ttl = c.in-Some-take_ttl_and_class.both.0;
+      class = c.in-Some-take_ttl_and_class.both.1;
+      rtype = c.in-Some-take_rtype.rtype;
+    }) owner.0 order.0 order.1 kind.0 (ahead_of c.args.words) (ahead_of c.take_owner.new.words) order.2
+    (ahead_of c.take_ttl_and_class.new.words) (ahead_of c.take_rtype.new.words) _ owner.1 owner.2 order.3 order.4 order.5
+    kind.1 kind.2 (c.in-Err.ensures.scanned.memory (ap (λ e. Err e) found))

@@ -1,0 +1,100 @@
+-- Texts of messages that exceed a limit, and texts for which the allocator is asked.
+use Rattle.std.specs.Prelude.{◌≡◌, ◌⊎◌, ℕ, ◌<◌, Option, None, List, [], ◌∷◌, ◌++◌, length, codes}
+use Rattle.std.specs.List.{AllZip}
+use Rattle.octseq.specs.Limit.{IsPast}
+use Rattle.octseq_dns.specs.Contents.{Message, Record, counts_of, octets_of}
+use Rattle.octseq_dns.specs.Writes.{Writes, all_more}
+use Rattle.octseq_dns_compress.specs.State.{State}
+use Rattle.octseq_dns_message.specs.declared.header.Header.{Header}
+use Rattle.octseq_dns_message.specs.declared.header.HeaderCounts.{HeaderCounts}
+use Rattle.octseq_dns_scan.specs.Word.{AreWords, TakesWord}
+use Rattle.octseq_dns_compose.specs.MessageText.{Entry, HasRead, IsRecordOf, IsWithAll, Said, SayEntries, headed_message}
+use Rattle.octseq_dns_compose.specs.RecordText.{BeginsWithList}
+use Rattle.octseq_dns_compose.specs.TextLines.{BeginsWithLines, Splits}
+
+-- A text begins with the lines of a header and of entries, followed by what is left.
+pub record BeginsWithEntries (text ahead : List ℕ) : Type 0 where
+  pub lines : List (List (List ℕ))
+  pub header : Header
+  pub entries : List Entry
+  pub begins : BeginsWithLines lines text ahead
+  pub say : SayEntries lines header entries
+
+-- ---- texts that are too long
+
+-- The lines of a text up to one of them are those of a message that has more octets than a limit.
+pub record HasLongMessage (most : ℕ) (limit : Option ℕ) (text : List ℕ) : Type 0 where
+  pub ahead : List ℕ
+  pub front : BeginsWithEntries text ahead
+  pub m : Message
+  pub message_is : IsWithAll (headed_message front.header) front.entries m
+  pub past : IsPast limit (length (octets_of most m))
+
+-- the octets of the data that the line of an entry says
+abbrev pub data_octets : Entry → List ℕ
+data_octets (Entry.question q) = []
+data_octets (Entry.answer said) = said.octets
+data_octets (Entry.authority said) = said.octets
+data_octets (Entry.additional said) = said.octets
+
+-- The lines of a text up to one of them are those of entries, and the data of the last has more than 65,535 octets.
+-- That line may lack its line feed.
+pub record HasLongData (text : List ℕ) : Type 0 where
+  pub ahead : List ℕ
+  pub front : BeginsWithEntries text ahead
+  pub line : List ℕ
+  pub after : List ℕ
+  pub split : Splits ahead line after
+  pub words : List (List ℕ)
+  pub are : AreWords words line
+  pub entry : Entry
+  pub say : SayEntries (front.lines ++ words ∷ []) front.header (front.entries ++ entry ∷ [])
+  pub past : 65535 < length (data_octets entry)
+
+abbrev pub IsTooLong : ℕ → Option ℕ → List ℕ → Type 0
+IsTooLong most limit text = HasLongMessage most limit text ⊎ HasLongData text
+
+-- ---- texts with lists
+
+-- The first line of a text is that of a record, after the word for its section, whose data ends in a list.
+pub record IsListLine (section text : List ℕ) : Type 0 where
+  pub line : List ℕ
+  pub after : List ℕ
+  pub split : Splits text line after
+  pub rest : List ℕ
+  pub taken : TakesWord section line rest
+  pub list : BeginsWithList None rest
+
+-- the word for a section of records
+abbrev pub IsRecordWord : List ℕ → Type 0
+IsRecordWord word = (word ≡ codes "answer") ⊎ (word ≡ codes "authority") ⊎ (word ≡ codes "additional")
+
+-- A text begins with lines of entries, followed by such a line.
+pub record HasListLine (text : List ℕ) : Type 0 where
+  pub ahead : List ℕ
+  pub front : BeginsWithEntries text ahead
+  pub section : List ℕ
+  pub named : IsRecordWord section
+  pub is : IsListLine section ahead
+
+-- ---- what was read so far
+
+-- Lines were read as values, and these and what is ahead are so.
+pub record ReadUpTo {A : Type 0} (IsText : A → List (List ℕ) → Type 0) (text : List ℕ) (first : ℕ)
+    (Then : List A → List ℕ → Type 0) : Type 0 where
+  pub values : List A
+  pub ahead : List ℕ
+  pub now : ℕ
+  pub read : HasRead IsText text ahead first now values
+  pub is : Then values ahead
+
+-- a message has more octets than a limit, or more entries in a section than its count can express
+abbrev pub Exceeds : ℕ → Option ℕ → (HeaderCounts → ℕ) → Message → Type 0
+Exceeds most limit count m = IsPast limit (length (octets_of most m)) ⊎ (65535 < count (counts_of m))
+
+-- A message with the records that lines say does.
+pub record ExceedsWith (most : ℕ) (limit : Option ℕ) (count : HeaderCounts → ℕ) (more : Message → Record → Message)
+    (said : List Said) (state : State) (header : Header) (counts : HeaderCounts) : Type 0 where
+  pub records : List Record
+  pub are : AllZip IsRecordOf said records
+  pub exceeds : (m : Message) → Writes most m state header counts → Exceeds most limit count (all_more more m records)
