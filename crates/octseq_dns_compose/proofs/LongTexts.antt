@@ -1,6 +1,6 @@
 -- A text of which each line was taken isn't too long.
-use Rattle.std.proofs.Common.{◌≡◌, ◌⊎◌, ℕ, zero, suc, ◌+◌, ◌<◌, ◌≤◌, Option, Some, None, List, [], ◌∷◌, ◌++◌, length}
-use Rattle.std.proofs.Common.{codes, refl, sym, ap, ◌∙◌, subst, inl, inr, arith}
+use Rattle.std.proofs.Common.{◌≡◌, ◌⊎◌, ℕ, ◌+◌, ◌<◌, ◌≤◌, Option, Some, None, List, [], ◌∷◌, ◌++◌, length}
+use Rattle.std.proofs.Common.{refl, sym, ap, ◌∙◌, subst, inl, inr, arith}
 use Rattle.octseq.specs.Limit.{IsPast, IsWithin}
 use Rattle.octseq_dns.specs.Contents.{Message, octets_of}
 use Rattle.octseq_dns_message.specs.declared.header.Header.{Header}
@@ -10,10 +10,9 @@ use Rattle.octseq_dns_text.specs.Scans.{IsFault}
 use Rattle.octseq_dns_compose.specs.HeaderLine.{IsHeaderLine}
 use Rattle.octseq_dns_compose.specs.MessageText.{AreEntries, Entry, IsEntryLine, IsWith, IsWithAll, SayEntries}
 use Rattle.octseq_dns_compose.specs.MessageText.{headed_message, section_of}
-use Rattle.octseq_dns_compose.specs.RecordText.{IsAnyRecord}
 use Rattle.octseq_dns_compose.specs.TextLines.{BeginsWithLines, IsFaultyHeader, IsFaultyLine, IsLongLine, IsNoneOf}
 use Rattle.octseq_dns_compose.specs.TextLines.{IsUnended, Splits, TakesLine}
-use Rattle.octseq_dns_compose.specs.TooLong.{HasLongData, HasLongMessage, IsTooLong, data_octets}
+use Rattle.octseq_dns_compose.specs.TooLong.{IsTooLong, data_octets}
 use Rattle.octseq_dns_compose.proofs.Faults.{no_text}
 use Rattle.octseq_dns_compose.proofs.HeaderLines.{HeaderTexts}
 use Rattle.octseq_dns_compose.proofs.LineFaults.{Line, line_once, line_same, splits_same}

@@ -87,8 +87,9 @@ picked_once (name ∷ names) (false ∷ picked) (true ∷ others) apart many too
 flags_once : (flags others : Flags) (words : List (List ℕ)) → AreFlags flags words → AreFlags others words
     → flags ≡ others
 flags_once f g words one two =
-    let all : f.qr ∷ f.aa ∷ f.tc ∷ f.rd ∷ f.ra ∷ f.ad ∷ f.cd ∷ [] ≡ g.qr ∷ g.aa ∷ g.tc ∷ g.rd ∷ g.ra ∷ g.ad ∷ g.cd ∷ [] =
-    picked_once flag_names _ _ refl refl refl (sym one.1 ∙ two.1) in
+    let ours = f.qr ∷ f.aa ∷ f.tc ∷ f.rd ∷ f.ra ∷ f.ad ∷ f.cd ∷ [] in
+    let others = g.qr ∷ g.aa ∷ g.tc ∷ g.rd ∷ g.ra ∷ g.ad ∷ g.cd ∷ [] in
+    let all : ours ≡ others = picked_once flag_names ours others refl refl refl (sym one.1 ∙ two.1) in
     let qr : f.qr ≡ g.qr = cc in
     let aa : f.aa ≡ g.aa = cc in
     let tc : f.tc ≡ g.tc = cc in
@@ -155,10 +156,13 @@ either_parts : (ttl class : ℕ) (Rest : Line → Type 0) (a b : List ℕ) (more
 either_parts ttl class Rest a b more (inl (time, (is, rest))) = (inl (time, is), rest)
 either_parts ttl class Rest a b more (inr (is, (time, rest))) = (inr (is, time), rest)
 
--- what follows the owner
+-- what follows the owner, and what follows the TTL and the class
+abbrev IsAfterOrder : Said → Line → Type 0
+IsAfterOrder said =
+    Then (IsRtypeWord said.head.rtype) (λ more. IsDataText None said.head.rtype said.head.class more said.octets)
+
 abbrev IsAfterOwner : Said → Line → Type 0
-IsAfterOwner said = TtlAndClass said.head.ttl said.head.class
-    (Then (IsRtypeWord said.head.rtype) (λ more. IsDataText None said.head.rtype said.head.class more said.octets))
+IsAfterOwner said = TtlAndClass said.head.ttl said.head.class (IsAfterOrder said)
 
 abbrev Same : Said → Said → Type 0
 Same said other = (said.head.ttl ≡ other.head.ttl) × (said.head.class ≡ other.head.class)
@@ -173,10 +177,8 @@ after_once said other (a ∷ []) (inr none) two = absurd none.1
 after_once said other (a ∷ b ∷ []) (inl none) two = absurd none.1.1
 after_once said other (a ∷ b ∷ []) (inr none) two = absurd none.1.1
 after_once said other (a ∷ b ∷ c ∷ more) one two =
-    let x = either_parts said.head.ttl said.head.class
-    (Then (IsRtypeWord said.head.rtype) (λ more. IsDataText None said.head.rtype said.head.class more said.octets)) a b (c ∷ more) one in
-    let y = either_parts other.head.ttl other.head.class
-    (Then (IsRtypeWord other.head.rtype) (λ more. IsDataText None other.head.rtype other.head.class more other.octets)) a b (c ∷ more) two in
+    let x = either_parts said.head.ttl said.head.class (IsAfterOrder said) a b (c ∷ more) one in
+    let y = either_parts other.head.ttl other.head.class (IsAfterOrder other) a b (c ∷ more) two in
     let both = either_once said.head.ttl other.head.ttl said.head.class other.head.class a b x.0 y.0 in
     let rtype = one_rtype c said.head.rtype other.head.rtype x.1.0 y.1.0 in
     let found = subst (λ t. IsDataText None t other.head.class more other.octets) (sym rtype) y.1.1 in

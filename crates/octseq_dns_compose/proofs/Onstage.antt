@@ -89,21 +89,21 @@ pub record_added : (most : ℕ) (limit data_limit : Option ℕ) (section : List 
     × IsNow most state header counts rest next left
 record_added most limit data_limit section more after here ahead rest said words r state header counts same taken is
     small record_is writes within = (
-  more after r,
-  rest,
-  record {
-    said = said;
-    words = words;
-    taken = subst (λ t. TakesLine words t rest) (sym same) taken;
-    is = is;
-    small = small;
-    r = r;
-    record_is = record_is;
-    after_is = refl;
-    within = written_within most limit (more after r) state header counts writes within;
-  },
-  (writes, refl),
-)
+      more after r,
+      rest,
+      record {
+        said = said;
+        words = words;
+        taken = subst (λ t. TakesLine words t rest) (sym same) taken;
+        is = is;
+        small = small;
+        r = r;
+        record_is = record_is;
+        after_is = refl;
+        within = written_within most limit (more after r) state header counts writes within;
+      },
+      (writes, refl),
+    )
 
 -- ---- texts that don't get too long
 

@@ -40,11 +40,11 @@ returns-in_default-after_feed-clause-first g c = λ place is.
     let all = c.in-Ok.ensures.ok in
     no_long_read c.args.first.now (IsAnyRecord None) g.D.AsOctets.limit c.args.lines.now.ahead.now _ _ _ all.0
     c.split_line-line.ensures taken.0 all.2 (λ octets other.
-        let one : Said = record { head = head_of c.in-Ok.head; octets = all.1 } in
-        let same = record_once one (record { head = other.0; octets = octets }) all.0 all.3 other.1 in
-        let content = all.4 ∙ ap (λ l. l ++ all.1) c.truncate.ensures.content in
-        subst (λ l. IsWithin g.D.AsOctets.limit (length l)) (content ∙ ap (λ s. s.octets) same)
-        c.as_ref-within.ensures.within)
+    let one : Said = record { head = head_of c.in-Ok.head; octets = all.1 } in
+    let same = record_once one (record { head = other.0; octets = octets }) all.0 all.3 other.1 in
+    let content = all.4 ∙ ap (λ l. l ++ all.1) c.truncate.ensures.content in
+    subst (λ l. IsWithin g.D.AsOctets.limit (length l)) (content ∙ ap (λ s. s.octets) same)
+    c.as_ref-within.ensures.within)
 
 pub returns-in-Err-Short-clause-short : goal.returns-in-Err-Short-clause-short
 returns-in-Err-Short-clause-short g c = λ _.

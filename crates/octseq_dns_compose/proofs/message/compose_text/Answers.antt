@@ -331,8 +331,7 @@ returns-clause-within g c =
     c.additional-additionals.ensures (records_onstage authorities l c.push_records-2.new.message _
     (c.in_ok-push_records-2.ensures.added l.m l.writes) c.in_ok-push_records-2.ensures.push_limit us.2) in
     let o = records_onstage additionals n c.push_records-3.new.message _
-    (c.in_ok-push_records-3.ensures.added n.m n.writes) c.in_ok-push_records-3.ensures.push_limit ds.2 in
-    (
+    (c.in_ok-push_records-3.ensures.added n.m n.writes) c.in_ok-push_records-3.ensures.push_limit ds.2 in (
       over_onstage most limit text _ c.push_records-3.new.message o,
       subst (λ s. IsWithin limit (length s.octets)) (sym o.writes.state_is) o.within,
     )

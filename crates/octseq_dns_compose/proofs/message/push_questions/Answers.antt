@@ -15,9 +15,14 @@ use Rattle.octseq_dns_compose.proofs.Overrun.{push_exceeds}
 use Rattle.octseq_dns_compose.proofs.message.push_questions.Goals as goal
 
 pub lines-init : goal.lines-init
-lines-init g c =
-    ([], read_none IsQuestionLine _ _ _ _ refl refl, λ m writes. writes, refl, refl,
-        λ m writes. added_none m c.args.lines.now.ahead.now (writes, refl))
+lines-init g c = (
+  [],
+  read_none IsQuestionLine _ _ _ _ refl refl,
+  λ m writes. writes,
+  refl,
+  refl,
+  λ m writes. added_none m c.args.lines.now.ahead.now (writes, refl),
+)
 
 pub returns-in_default-clause-ok : goal.returns-in_default-clause-ok
 returns-in_default-clause-ok g c =
@@ -68,7 +73,7 @@ returns-in-Err-clause-stopped g c = λ place is m writes.
     let so_far = c.lines.invariant in
     let found = c.in-Err.ensures.malformed place (search (rules, is)) in
     added_so m c.args.lines.now.ahead.now (so_far.5 m writes) (λ after ahead now.
-        subst (λ t. IsFaultyLine (codes "question") IsAnyQuestion t place.offset) (sym now.1) found.1)
+    subst (λ t. IsFaultyLine (codes "question") IsAnyQuestion t place.offset) (sym now.1) found.1)
 
 pub returns-in-Err-clause-malformed : goal.returns-in-Err-clause-malformed
 returns-in-Err-clause-malformed g c = λ place is.

@@ -14,9 +14,14 @@ use Rattle.octseq_dns_compose.proofs.MessageTexts.{read_more, read_none, read_sa
 use Rattle.octseq_dns_compose.proofs.message.push_records.Goals as goal
 
 pub lines-init : goal.lines-init
-lines-init g c =
-    ([], read_none (IsRecordLine c.args.section.now) _ _ _ _ refl refl, written_none _ _ _ _ _, refl, refl,
-        λ m writes. added_none m c.args.lines.now.ahead.now (writes, refl))
+lines-init g c = (
+  [],
+  read_none (IsRecordLine c.args.section.now) _ _ _ _ refl refl,
+  written_none _ _ _ _ _,
+  refl,
+  refl,
+  λ m writes. added_none m c.args.lines.now.ahead.now (writes, refl),
+)
 
 pub returns-in_default-clause-ok : goal.returns-in_default-clause-ok
 returns-in_default-clause-ok g c =
