@@ -5,9 +5,8 @@ ghost use Rattle.octseq_dns_tool.specs.Composed.{IsTextPiece, fault_line};
 use crate::engine::rewrite::{Composing, Writer};
 use crate::engine::stream::{left_line, left_out, written_piece};
 use octseq_cli::{FrameCommand, Piece};
-use octseq_dns_compose::Place;
 use octseq_dns_compose::{
-    a_refused_text_is_no_message, a_text_has_one_fault, a_text_is_of_one_message,
+    Place, a_refused_text_is_no_message, a_text_has_one_fault, a_text_is_of_one_message,
 };
 use std::alloc::{AllocError, Global};
 
