@@ -249,7 +249,7 @@ pub fn take_stream<C: StreamCommand, R: Read, W: Write, E: Write>(
 }
 
 /// Whether both are true.
-fn both(first: bool, second: bool) -> bool
+pub(crate) fn both(first: bool, second: bool) -> bool
     ensures { result ≡ (first && second) }
 {
     first && second
@@ -268,7 +268,7 @@ fn status_of(is_all: bool) -> Status
 
 /// Returns how the program ends after its output was written: by whether everything is valid, and whether all notes were
 /// written.
-fn ended(is_all: bool, is_noted: bool) -> Result<Status, ProgramFault>
+pub(crate) fn ended(is_all: bool, is_noted: bool) -> Result<Status, ProgramFault>
     ensures { result ≡ ended_as is_all is_noted }
 {
     if is_noted {

@@ -13,6 +13,7 @@ pub mod report;
 pub mod request;
 pub mod status;
 pub mod streams;
+pub mod texts;
 pub mod watched;
 
 pub use engine::Commands;
@@ -22,3 +23,4 @@ pub use frames::{
 pub use process::{arguments, exit_code, run, start};
 pub use request::{Asked, asked_for, command_word, input_path};
 pub use status::{ProgramFault, Status};
+pub use texts::{read_text, take_texts};

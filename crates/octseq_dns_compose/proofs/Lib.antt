@@ -4,10 +4,13 @@ pub mod Faults
 pub mod Flags
 pub mod HeaderLines
 pub mod LineFaults
+pub mod LongTexts
 pub mod MessageFaults
 pub mod MessageTexts
 pub mod Named
+pub mod OneFault
 pub mod OneMessage
+pub mod Onstage
 pub mod Overrun
 pub mod Places
 pub mod PlainNames

@@ -31,7 +31,7 @@ lines_end (words ∷ front) text rest begins over =
     (begins.0, begins.1, lines_end front begins.0 rest begins.2 over)
 
 -- a line ends in one way
-line_same : (line other rest after : List ℕ) → IsLine line → IsLine other → EndsLine after
+pub line_same : (line other rest after : List ℕ) → IsLine line → IsLine other → EndsLine after
     → line ++ 10 ∷ rest ≡ other ++ after → (line ≡ other) × (after ≡ 10 ∷ rest)
 line_same [] [] rest after is also ends same = (refl, sym same)
 line_same [] (y ∷ other) rest after is also ends same = absurd (also.0 (cc))
@@ -150,7 +150,7 @@ no_lines Is text first number offset fault lines are is =
 -- ---- the first line
 
 -- it is split off in one way
-splits_same : (line other after rest : List ℕ) → IsLine line → IsLine other → EndsLine after → EndsLine rest
+pub splits_same : (line other after rest : List ℕ) → IsLine line → IsLine other → EndsLine after → EndsLine rest
     → line ++ after ≡ other ++ rest → line ≡ other
 splits_same [] [] after rest is also ends end same = refl
 splits_same [] (y ∷ other) [] rest is also ends end same = absurd (cc)

@@ -119,7 +119,7 @@ after_header header first is = record {
 }
 
 -- the word for a section, by its length
-abbrev section_in : List ℕ → ℕ
+abbrev pub section_in : List ℕ → ℕ
 section_in word = cond (nat_eq (length word) 8) 0 (cond (nat_eq (length word) 6) 1 (cond (nat_eq (length word) 9) 2 3))
 
 abbrev pub word_of : Entry → List ℕ
@@ -129,7 +129,7 @@ word_of (Entry.authority said) = codes "authority"
 word_of (Entry.additional said) = codes "additional"
 
 -- the word for a section, of its entries alone
-abbrev word_in : ℕ → List ℕ
+abbrev pub word_in : ℕ → List ℕ
 word_in section = cond (nat_eq section 0) (codes "question") (cond (nat_eq section 1) (codes "answer")
     (cond (nat_eq section 2) (codes "authority") (codes "additional")))
 
@@ -139,19 +139,19 @@ in_section (Entry.answer said) = refl
 in_section (Entry.authority said) = refl
 in_section (Entry.additional said) = refl
 
-word_is : (entry : Entry) (word : List ℕ) (words : Line) → IsEntryLine entry (word ∷ words) → word ≡ word_of entry
+pub word_is : (entry : Entry) (word : List ℕ) (words : Line) → IsEntryLine entry (word ∷ words) → word ≡ word_of entry
 word_is (Entry.question q) word words is = is.0
 word_is (Entry.answer said) word words is = is.0
 word_is (Entry.authority said) word words is = is.0
 word_is (Entry.additional said) word words is = is.0
 
-section_is : (entry : Entry) → section_in (word_of entry) ≡ section_of entry
+pub section_is : (entry : Entry) → section_in (word_of entry) ≡ section_of entry
 section_is (Entry.question q) = refl
 section_is (Entry.answer said) = refl
 section_is (Entry.authority said) = refl
 section_is (Entry.additional said) = refl
 
-no_entry : (entry : Entry) → ¬ IsEntryLine entry []
+pub no_entry : (entry : Entry) → ¬ IsEntryLine entry []
 no_entry (Entry.question q) is = is
 no_entry (Entry.answer said) is = is
 no_entry (Entry.authority said) is = is
@@ -329,7 +329,7 @@ abbrev pub NoneFrom : ℕ → ℕ → List ℕ → Type 0
 NoneFrom from to text =
     (entry : Entry) → from ≤ section_of entry → section_of entry < to → IsNoneOf (word_of entry) text
 
-below_four : (entry : Entry) → section_of entry < 4
+pub below_four : (entry : Entry) → section_of entry < 4
 below_four (Entry.question q) = omega arith
 below_four (Entry.answer said) = omega arith
 below_four (Entry.authority said) = omega arith
@@ -371,7 +371,7 @@ none_case from to section text ahead none here entry false is after before same 
     let other : ¬ (section_of entry ≡ section) = grind (arith, nat_tests) in
     subst (IsNoneOf (word_of entry)) (sym same) (none entry after (omega (arith, other, before)))
 
-here_none : (section : ℕ) (word text : List ℕ) → word ≡ word_in section → IsNoneOf word text → (entry : Entry)
+pub here_none : (section : ℕ) (word text : List ℕ) → word ≡ word_in section → IsNoneOf word text → (entry : Entry)
     → section_of entry ≡ section → IsNoneOf (word_of entry) text
 here_none section word text is none entry here =
     subst (λ w. IsNoneOf w text) (is ∙ ap word_in (sym here) ∙ sym (in_section entry)) none

@@ -103,7 +103,7 @@ flags_once f g words one two =
 number_once : (most a b : ℕ) (word : List ℕ) → IsUpTo most a word → IsUpTo most b word → a ≡ b
 number_once most a b word (numeral, is, few) (also, too, less) = sym is ∙ too
 
-header_once : (header other : Header) (words : Line) → IsHeaderLine header words → IsHeaderLine other words
+pub header_once : (header other : Header) (words : Line) → IsHeaderLine header words → IsHeaderLine other words
     → header ≡ other
 header_once h k [] one two = absurd one
 header_once h k (a ∷ []) one two = absurd one.1
@@ -189,7 +189,7 @@ after_once said other (a ∷ b ∷ c ∷ more) one two =
       data_one None said.head.rtype said.head.class more said.octets other.octets x.1.1 too,
     )
 
-record_once : (said other : Said) (words : Line) → IsRecordText None said.head words said.octets
+pub record_once : (said other : Said) (words : Line) → IsRecordText None said.head words said.octets
     → IsRecordText None other.head words other.octets → said ≡ other
 record_once said other [] one two = absurd one
 record_once said other (owner ∷ words) one two =
@@ -205,7 +205,7 @@ record_once said other (owner ∷ words) one two =
 apart : {A : Type 0} (a b word : List ℕ) → not (bytes_eq a b) ≡ true → word ≡ a → word ≡ b → A
 apart a b word other one two = absurd (not_same a b other (sym one ∙ two))
 
-entry_once : (entry other : Entry) (words : Line) → IsEntryLine entry words → IsEntryLine other words → entry ≡ other
+pub entry_once : (entry other : Entry) (words : Line) → IsEntryLine entry words → IsEntryLine other words → entry ≡ other
 entry_once (Entry.question q) other [] one two = absurd one
 entry_once (Entry.answer said) other [] one two = absurd one
 entry_once (Entry.authority said) other [] one two = absurd one
@@ -283,7 +283,7 @@ record_of_once said r other one two =
       fields = rdata_fields (bare_rdata (parsed i));
     }) ∙ sym two.is
 
-with_once : (m more other : Message) (entry : Entry) → IsWith m entry more → IsWith m entry other → more ≡ other
+pub with_once : (m more other : Message) (entry : Entry) → IsWith m entry more → IsWith m entry other → more ≡ other
 with_once m more other (Entry.question q) one two = one ∙ sym two
 with_once m more other (Entry.answer said) (r, is, one) (s, also, two) =
     one ∙ ap (more_answers m) (record_of_once said r s is also) ∙ sym two

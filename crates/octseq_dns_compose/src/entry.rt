@@ -84,6 +84,8 @@ pub(crate) fn next_record<D: OctetsBuilder + Truncate>(
         × IsFaultyLine first.now (IsAnyRecord None) lines.old.ahead.now place.offset }
     ensures short { IsErrOf result ComposeError.Short
         → IsLongLine first.now (IsAnyRecord None) D.limit lines.old.ahead.now }
+    ensures first { (place : Place) → IsErrOf result (ComposeError.Malformed place)
+        → ¬ IsLongLine first.now (IsAnyRecord None) D.limit lines.old.ahead.now }
     ensures memory { IsErrOf result ComposeError.Memory
         → (D.asks ≡ true) ⊎ IsListLine first.now lines.old.ahead.now }
 {
@@ -98,6 +100,7 @@ pub(crate) fn next_record<D: OctetsBuilder + Truncate>(
         Err(ScanError::Short) => return Err(ComposeError::Short),
         Err(ScanError::Memory) => return Err(ComposeError::Memory),
     };
+    let _within = target.as_ref();
     let Some(rest) = after_feed(line.1) else {
         return Err(lines.malformed(line.0.len()));
     };

@@ -7,6 +7,7 @@
 mod alone;
 mod entry;
 pub mod error;
+pub mod fault;
 mod head;
 mod header;
 pub mod laws;
@@ -18,6 +19,7 @@ pub mod record;
 mod take;
 
 pub use error::{ComposeError, Place};
+pub use fault::a_text_has_one_fault;
 pub use laws::{
     a_message_is_what_its_lines_say, a_text_is_of_one_message, messages_are_read_as_shown,
     records_are_read_as_shown,

@@ -1,6 +1,6 @@
 //! Messages, composed of their text.
-ghost use Rattle.std.specs.Prelude.{◌≡◌, ◌⊎◌, ℕ, List, None, true, codes, IfOk, OnOk, IsErrOf};
-ghost use Rattle.octseq.specs.Limit.{IsPast};
+ghost use Rattle.std.specs.Prelude.{◌≡◌, ◌⊎◌, ℕ, List, None, true, codes, length, IfOk, OnOk, IsErrOf};
+ghost use Rattle.octseq.specs.Limit.{IsPast, IsWithin};
 ghost use Rattle.octseq.specs.Refusal.{IsMemory, IsShort, append_error};
 ghost use Rattle.octseq_dns.specs.Blank.{blank_message};
 ghost use Rattle.octseq_dns.specs.Contents.{Message, Question, Record};
@@ -8,10 +8,11 @@ ghost use Rattle.octseq_dns.specs.Writes.{Writes, all_more, least_limit, more_qu
 ghost use Rattle.octseq_dns_compress.specs.Composed.{message_limit};
 ghost use Rattle.octseq_dns_compose.specs.MessageText.{HasRead, HasWritten, IsMessageText, IsQuestionLine};
 ghost use Rattle.octseq_dns_compose.specs.MessageText.{IsAnyText, IsRecordLine, IsRecordOf, IsStop, Said};
+ghost use Rattle.octseq_dns_compose.specs.Onward.{AddsQuestion, AddsRecord, AddsUpTo};
 ghost use Rattle.octseq_dns_compose.specs.QuestionText.{IsAnyQuestion};
 ghost use Rattle.octseq_dns_compose.specs.Read.{head_of};
 ghost use Rattle.octseq_dns_compose.specs.RecordText.{IsAnyRecord};
-ghost use Rattle.octseq_dns_compose.specs.TextLines.{IsLineFault, IsLongLine, IsNoneOf};
+ghost use Rattle.octseq_dns_compose.specs.TextLines.{IsFaultyLine, IsLineFault, IsLongLine, IsNoneOf};
 ghost use Rattle.octseq_dns_compose.specs.TooLong.{Exceeds, ExceedsWith, HasListLine, IsListLine, IsTooLong, ReadUpTo};
 
 use crate::alone::data_of;
@@ -53,6 +54,10 @@ pub fn compose_text<B: OctetsBuilder + Truncate + AsOctetsMut, T: Compressor>(
         × Writes T.most m b.state b.header b.counts) }
     ensures malformed { (place : Place) → IsErrOf result (ComposeError.Malformed place)
         → IsLineFault IsAnyText text.now 1 place.line place.offset }
+    ensures first { (place : Place) → IsErrOf result (ComposeError.Malformed place)
+        → ¬ IsTooLong T.most (message_limit B.limit) text.now }
+    ensures within { IfOk result (λ b. ¬ IsTooLong T.most (message_limit B.limit) text.now
+        × IsWithin (message_limit B.limit) (length b.state.octets)) }
     ensures short { IsErrOf result ComposeError.Short → IsTooLong T.most (message_limit B.limit) text.now }
     ensures memory { IsErrOf result ComposeError.Memory
         → (B.asks ≡ true) ⊎ (T.asks ≡ true) ⊎ HasListLine text.now }
@@ -90,6 +95,7 @@ fn started<B: OctetsBuilder + Truncate + AsOctetsMut, T: Compressor>(
 ) -> Result<MessageBuilder<B, T>, ComposeError>
     ensures written { IfOk result (λ m. Writes T.most blank_message m.state m.header m.counts) }
     ensures other { (place : Place) → ¬ IsErrOf result (ComposeError.Malformed place) }
+    ensures within { IfOk result (λ m. IsWithin (message_limit B.limit) (length m.state.octets)) }
     ensures push_limit { IfOk result (λ m. m.push_limit ≡ None) }
     ensures short { IsErrOf result ComposeError.Short → IsPast B.limit 12 }
     ensures memory { IsErrOf result ComposeError.Memory → B.asks ≡ true }
@@ -116,6 +122,15 @@ fn push_questions<B: OctetsBuilder + Truncate + AsOctetsMut, T: Compressor>(
     ensures malformed { (place : Place) → IsErrOf result (ComposeError.Malformed place)
         → IsStop IsQuestionLine (codes "question") IsAnyQuestion lines.old.ahead.now lines.old.number place.line
         place.offset }
+    ensures added { OnOk result ((m : Message)
+        → Writes T.most m message.old.state message.old.header message.old.counts
+        → AddsUpTo (AddsQuestion T.most (least_limit message.old.push_limit (message_limit B.limit))) m
+        lines.old.ahead.now (λ after ahead. Writes T.most after message.new.state message.new.header
+        message.new.counts × (ahead ≡ lines.new.ahead.now))) }
+    ensures stopped { (place : Place) → IsErrOf result (ComposeError.Malformed place) → (m : Message)
+        → Writes T.most m message.old.state message.old.header message.old.counts
+        → AddsUpTo (AddsQuestion T.most (least_limit message.old.push_limit (message_limit B.limit))) m
+        lines.old.ahead.now (λ after ahead. IsFaultyLine (codes "question") IsAnyQuestion ahead place.offset) }
     ensures short { IsErrOf result ComposeError.Short → ReadUpTo IsQuestionLine lines.old.ahead.now lines.old.number
         (λ questions ahead. (m : Message) → Writes T.most m message.old.state message.old.header message.old.counts
         → Exceeds T.most (least_limit message.old.push_limit (message_limit B.limit)) (λ counts. counts.qdcount)
@@ -163,6 +178,16 @@ fn push_records<
     ensures malformed { (place : Place) → IsErrOf result (ComposeError.Malformed place)
         → IsStop (IsRecordLine section.now) section.now (IsAnyRecord None) lines.old.ahead.now lines.old.number
         place.line place.offset }
+    ensures added { OnOk result ((m : Message)
+        → Writes T.most m message.old.state message.old.header message.old.counts
+        → AddsUpTo (AddsRecord T.most (least_limit message.old.push_limit (message_limit B.limit)) D.limit section.now
+        S.more) m lines.old.ahead.now (λ after ahead. Writes T.most after message.new.state message.new.header
+        message.new.counts × (ahead ≡ lines.new.ahead.now))) }
+    ensures stopped { (place : Place) → IsErrOf result (ComposeError.Malformed place) → (m : Message)
+        → Writes T.most m message.old.state message.old.header message.old.counts
+        → AddsUpTo (AddsRecord T.most (least_limit message.old.push_limit (message_limit B.limit)) D.limit section.now
+        S.more) m lines.old.ahead.now (λ after ahead. IsFaultyLine section.now (IsAnyRecord None) ahead place.offset
+        × ¬ IsLongLine section.now (IsAnyRecord None) D.limit ahead) }
     ensures short { IsErrOf result ComposeError.Short
         → ReadUpTo (IsRecordLine section.now) lines.old.ahead.now lines.old.number (λ said ahead.
         ExceedsWith T.most (least_limit message.old.push_limit (message_limit B.limit)) S.count S.more said
@@ -204,6 +229,8 @@ fn push_record<B: OctetsBuilder + Truncate + AsOctetsMut, T: Compressor, S: Reco
         × IsRecordOf (record { head = head_of head.now; octets = octets.now }) r
         × ((m : Message) → Writes T.most m message.old.state message.old.header message.old.counts
         → Exceeds T.most (least_limit message.old.push_limit (message_limit B.limit)) S.count (S.more m r)) }
+    ensures within { OnOk result (IsWithin (least_limit message.old.push_limit (message_limit B.limit))
+        (length message.new.state.octets)) }
     ensures memory { IsMemory append_error result → (B.asks ≡ true) ⊎ (T.asks ≡ true) }
     ensures push_limit { message.new.push_limit ≡ message.old.push_limit }
     ensures borrows { B.borrows message.new.octets ≡ B.borrows message.old.octets }

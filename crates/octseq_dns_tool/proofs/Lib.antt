@@ -1,4 +1,5 @@
 pub mod Moves
 pub mod OneAnswer
 pub mod OnePiece
+pub mod OneText
 pub mod Stops

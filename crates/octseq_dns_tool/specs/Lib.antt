@@ -1,3 +1,4 @@
+pub mod Composed
 pub mod Out
 pub mod Rewritten
 pub mod Shown

@@ -2,13 +2,15 @@
 use Rattle.std.specs.Prelude.{ℕ, List, codes}
 use Rattle.octseq.specs.Part.{part_of}
 use Rattle.octseq_dns.specs.Frames.{FitsStream}
+use Rattle.octseq_dns_tool.specs.Composed.{IsTextPiece}
 use Rattle.octseq_dns_tool.specs.Shown.{IsMessagePiece}
 use Rattle.octseq_dns_tool.specs.Taken.{IsEnd, IsPiece}
 use Rattle.octseq_dns_tool.specs.declared.engine.Command.{Command}
-use Rattle.octseq_dns_tool.specs.declared.engine.Command.TheVariants.{Message, Rewrite, Stream}
+use Rattle.octseq_dns_tool.specs.declared.engine.Command.TheVariants.{Compose, Message, Rewrite, Stream}
 use Rattle.octseq_dns_tool.specs.declared.engine.stream.Messages.{Messages}
 use Rattle.octseq_dns_tool.specs.declared.engine.stream.Messages.TheVariants.{Shown, Rewritten}
 use Rattle.octseq_cli.specs.Frames.{IsStreamOut, IsWholeOut}
+use Rattle.octseq_cli.specs.Texts.{IsTextsOut}
 use Rattle.octseq_cli.specs.declared.status.Status.{Status}
 
 -- the name of a command
@@ -16,6 +18,7 @@ abbrev pub name_of : Command → List ℕ
 name_of Message = codes "message"
 name_of Stream = codes "stream"
 name_of Rewrite = codes "rewrite"
+name_of Compose = codes "compose"
 
 -- what is written for a command that takes messages, each preceded by its length in two octets
 abbrev pub MessagesOut : Messages → List ℕ → List ℕ → List ℕ → Status → Type 0
@@ -26,3 +29,4 @@ abbrev pub Out : Command → List ℕ → List ℕ → List ℕ → Status → T
 Out Message = IsWholeOut (IsMessagePiece 1)
 Out Stream = MessagesOut Shown
 Out Rewrite = MessagesOut Rewritten
+Out Compose = IsTextsOut IsTextPiece

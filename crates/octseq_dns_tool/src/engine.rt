@@ -5,12 +5,14 @@ ghost use Rattle.octseq_dns_tool.specs.declared.engine.Command.{Command};
 ghost use Rattle.octseq_cli.specs.Run.{IsNamed};
 ghost use Rattle.octseq_cli.specs.declared.status.Status.{Status};
 
+use crate::engine::compose::{Composed, one_text_piece};
 use crate::engine::shown::{OneMessage, one_message_piece};
 use crate::engine::stream::{Messages, one_stream_piece};
-use octseq_cli::{Commands, ProgramFault, Status, take_stream, take_whole};
+use octseq_cli::{Commands, ProgramFault, Status, take_stream, take_texts, take_whole};
 use std::alloc::Global;
 use std::io::{Read, Write};
 
+mod compose;
 mod place;
 mod rewrite;
 mod shown;
@@ -20,7 +22,7 @@ mod tests;
 
 /// The help text of the program.
 const HELP: &str = "\
-octseq_dns_tool reads DNS messages, and shows them as text or writes them anew.
+octseq_dns_tool reads DNS messages, and shows them as text or writes them anew. It also composes them of their text.
 
 usage: octseq_dns_tool [COMMAND [FILE]]
 
@@ -34,10 +36,14 @@ commands, the first where none is named:
   rewrite  writes such messages anew, with their names compressed; it leaves out what is no message, what can't be
            moved and what takes more than 65,535 octets
            octseq_dns_tool rewrite FILE > OUTPUT
+  compose  composes messages of texts as stream shows them, with their names compressed, and writes each after its
+           length in 2 octets; it leaves out what is no such text and what takes more than 65,535 octets; one empty line
+           or more is between two texts, and none has to be after the last, but a line feed has to end each line
+           octseq_dns_tool compose TEXTS > OUTPUT
   --help   writes this
 
 Of what is malformed or left out, standard error has a line with the number of the message and the place where reading
-stopped, or the reason. If such a line can't be written, none follows, the output goes on, and the status is 4.
+stopped, in a text as line and octet, or the reason. If such a line can't be written, none follows, the output goes on, and the status is 4.
 
 status:
   0  all went well
@@ -56,6 +62,9 @@ pub enum Command {
     Stream,
     /// Rewrite each message of such a stream, with its names compressed, as a stream.
     Rewrite,
+    /// Compose the message of each text of the input, with its names compressed, as a stream. Empty lines are between
+    /// texts.
+    Compose,
 }
 
 /// A word names at most one command, and a command has one output, on standard output and on standard error, and one
@@ -69,6 +78,7 @@ pub fn one_answer()
 {
     one_message_piece();
     one_stream_piece();
+    one_text_piece();
 }
 
 impl Commands for Command {
@@ -89,6 +99,7 @@ impl Commands for Command {
             "message" => Some(Command::Message),
             "stream" => Some(Command::Stream),
             "rewrite" => Some(Command::Rewrite),
+            "compose" => Some(Command::Compose),
             _ => None,
         }
     }
@@ -112,6 +123,7 @@ impl Commands for Command {
             Command::Message => take_whole(OneMessage, alloc, reader, writer, errors),
             Command::Stream => take_stream(Messages::Shown, alloc, reader, writer, errors),
             Command::Rewrite => take_stream(Messages::Rewritten, alloc, reader, writer, errors),
+            Command::Compose => take_texts(Composed, alloc, reader, writer, errors),
         }
     }
 }

@@ -1,9 +1,11 @@
-//! Rewriting messages.
+//! Rewriting messages, and composing them of their texts.
 ghost use Rattle.std.specs.Prelude.{IfOk};
 ghost use Rattle.octseq_dns.specs.Parsed.{header_of, questions_of, answers_of, authorities_of, additionals_of};
+ghost use Rattle.octseq_dns_tool.specs.Composed.{IsComposing};
 ghost use Rattle.octseq_dns_tool.specs.Rewritten.{IsRewriting};
 
 use octseq_dns::{Message, RewriteError, Target, rewrite};
+use octseq_dns_compose::{ComposeError, Place, compose_text};
 use std::alloc::{AllocError, Global};
 use std::mem;
 
@@ -18,7 +20,18 @@ pub(super) enum Rewriting {
     Long,
 }
 
-/// Rewrites one message after another. It holds the octets of the last one, and a table that is used for each.
+/// Whether the message of a text was composed, or why the text is left out.
+#[derive(Clone, Copy, Debug, PartialEq, Eq)]
+pub(super) enum Composing {
+    /// It was.
+    Written,
+    /// The text of no message goes on as it does from this place on.
+    Malformed(Place),
+    /// The message takes more than 65,535 octets.
+    Long,
+}
+
+/// Rewrites or composes one message after another. It holds the octets of the last one, and a table that is used for each.
 #[derive(Drop)]
 pub(super) struct Writer {
     pub(super) octets: Vec<u8>,
@@ -57,6 +70,26 @@ impl Writer {
             Err(RewriteError::Immovable) => Ok(Rewriting::Immovable),
             Err(RewriteError::Short(_)) => Ok(Rewriting::Long),
             Err(RewriteError::Memory) => Err(AllocError),
+        }
+    }
+
+    /// Composes the message of a text with its names compressed, in place of the last one. Returns whether it was
+    /// written, or why not.
+    pub(super) fn compose(&mut self, alloc: Global, text: &[u8]) -> Result<Composing, AllocError>
+        ensures { IfOk result (λ composing. IsComposing text.now composing self.new.octets.items) }
+    {
+        let octets = mem::replace(&mut self.octets, Vec::new(alloc));
+        let table = mem::replace(&mut self.table, Vec::new(alloc));
+        match compose_text(alloc, text, octets, table) {
+            Ok(composed) => {
+                let (octets, table) = composed.finish();
+                self.octets = octets;
+                self.table = table;
+                Ok(Composing::Written)
+            }
+            Err(ComposeError::Malformed(place)) => Ok(Composing::Malformed(place)),
+            Err(ComposeError::Short) => Ok(Composing::Long),
+            Err(ComposeError::Memory) => Err(AllocError),
         }
     }
 }

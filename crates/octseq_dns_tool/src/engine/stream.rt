@@ -84,7 +84,7 @@ fn moved_piece(
 }
 
 /// Returns the octets of a message, preceded by their length.
-fn written_piece(alloc: Global, octets: &[u8]) -> Result<Piece, AllocError>
+pub(super) fn written_piece(alloc: Global, octets: &[u8]) -> Result<Piece, AllocError>
     requires { length octets.now ≤ 65535 }
     ensures { IfOk result (λ piece. (piece.output.items ≡ part_of 2 octets.now) × (piece.note.items ≡ [])
         × (piece.is_fine ≡ true)) }
@@ -102,7 +102,7 @@ fn written_piece(alloc: Global, octets: &[u8]) -> Result<Piece, AllocError>
 }
 
 /// Returns the line that reports why a numbered message is left out.
-fn left_line(alloc: Global, number: u64, why: &str) -> Result<Vec<u8>, AllocError>
+pub(super) fn left_line(alloc: Global, number: u64, why: &str) -> Result<Vec<u8>, AllocError>
     ensures { IfOk result (λ line. line.items ≡ left_line number why.now) }
 {
     let line = format!(in alloc; "message {number}: left out: {why}\n")?;
@@ -110,7 +110,7 @@ fn left_line(alloc: Global, number: u64, why: &str) -> Result<Vec<u8>, AllocErro
 }
 
 /// Returns nothing for a message that is left out, with this note.
-fn left_out(alloc: Global, note: Vec<u8>) -> Piece
+pub(super) fn left_out(alloc: Global, note: Vec<u8>) -> Piece
     ensures output { result.output.items ≡ [] }
     ensures note { result.note.items ≡ note.items }
     ensures is_fine { result.is_fine ≡ false }

@@ -32,6 +32,7 @@ fn unwrap<T, E: Debug + Drop>(rt: &impl Abort, made: Result<T, E>) -> T {
     }
 }
 
+mod composed;
 mod hostile;
 mod refused;
 mod rewritten;
@@ -131,6 +132,7 @@ fn help_tells_commands_and_statuses(rt: HostRuntime) {
         "  message  ",
         "  stream   ",
         "  rewrite  ",
+        "  compose  ",
         "  --help   ",
         "\nstatus:\n  0  ",
         "\n  1  ",

@@ -1,8 +1,12 @@
-use Rattle.std.proofs.Common.{◌≡◌, ◌+◌, None, [], length, refl, sym, ap, subst, arith, rules}
-use Rattle.octseq.specs.Limit.{IsPast}
+use Rattle.std.proofs.Common.{◌≡◌, ◌+◌, ◌++◌, ◌∙◌, None, [], length, refl, sym, ap, subst, arith, rules}
+use Rattle.octseq.specs.Limit.{IsPast, IsWithin}
+use Rattle.octseq_dns_compose.specs.MessageText.{Said}
+use Rattle.octseq_dns_compose.specs.Read.{head_of}
 use Rattle.octseq_dns_compose.specs.RecordText.{IsAnyRecord}
 use Rattle.octseq_dns_compose.specs.TextLines.{IsFaultyLine}
 use Rattle.octseq_dns_compose.proofs.LineFaults.{faulty_words, list_line, no_feed, none_of}
+use Rattle.octseq_dns_compose.proofs.LongTexts.{no_long_fault, no_long_read}
+use Rattle.octseq_dns_compose.proofs.OneMessage.{record_once}
 use Rattle.octseq_dns_compose.proofs.Places.{malformed_at}
 use Rattle.octseq_dns_compose.proofs.entry.next_record.Goals as goal
 
@@ -22,6 +26,25 @@ returns-in-Err-Malformed-clause-malformed g c = λ place is.
           (faulty_words c.args.first.now (IsAnyRecord None) c.args.lines.now.ahead.now _ _ _ _ _ c.split_line-line.ensures
           taken.0 taken.1 fault),
     )
+
+pub returns-in-Err-Malformed-clause-first : goal.returns-in-Err-Malformed-clause-first
+returns-in-Err-Malformed-clause-first g c = λ place is.
+    let taken = c.in-Some.ensures.some in
+    let fault = c.in-Err-Malformed.ensures.fault c.in-Err-Malformed.offset (search rules) in
+    no_long_fault c.args.first.now (IsAnyRecord None) g.D.AsOctets.limit c.args.lines.now.ahead.now _ _ _ _ _
+    c.split_line-line.ensures taken.0 fault
+
+pub returns-in_default-after_feed-clause-first : goal.returns-in_default-after_feed-clause-first
+returns-in_default-after_feed-clause-first g c = λ place is.
+    let taken = c.in-Some.ensures.some in
+    let all = c.in-Ok.ensures.ok in
+    no_long_read c.args.first.now (IsAnyRecord None) g.D.AsOctets.limit c.args.lines.now.ahead.now _ _ _ all.0
+    c.split_line-line.ensures taken.0 all.2 (λ octets other.
+    let one : Said = record { head = head_of c.in-Ok.head; octets = all.1 } in
+    let same = record_once one (record { head = other.0; octets = octets }) all.0 all.3 other.1 in
+    let content = all.4 ∙ ap (λ l. l ++ all.1) c.truncate.ensures.content in
+    subst (λ l. IsWithin g.D.AsOctets.limit (length l)) (content ∙ ap (λ s. s.octets) same)
+    c.as_ref-within.ensures.within)
 
 pub returns-in-Err-Short-clause-short : goal.returns-in-Err-Short-clause-short
 returns-in-Err-Short-clause-short g c = λ _.

@@ -2,13 +2,19 @@
 use Rattle.std.proofs.Common.{◌≡◌, [], length, sym, ◌∙◌, subst, arith, rules}
 use Rattle.std.proofs.lemmas.Bool.{true≢false}
 use Rattle.std.proofs.lemmas.List.{nil_from_length}
+use Rattle.octseq.specs.Limit.{IsWithin}
 use Rattle.octseq_dns.specs.Blank.{blank_message}
+use Rattle.octseq_dns_compress.specs.Composed.{message_limit}
 use Rattle.octseq_dns_compose.specs.MessageText.{IsAnyText}
 use Rattle.octseq_dns_compose.specs.TextLines.{IsFaultyHeader, IsLineFault, TakesLine}
 use Rattle.octseq_dns_compose.proofs.Composing.{additionals, answers, authorities, end_at, header_stage, list_asked}
 use Rattle.octseq_dns_compose.proofs.Composing.{long_header, long_questions, long_records, questions, questions_stage}
 use Rattle.octseq_dns_compose.proofs.Composing.{records_stage, same_stage, stop_at, whole_text}
 use Rattle.octseq_dns_compose.proofs.MessageFaults.{header_fault}
+use Rattle.octseq_dns_compose.proofs.LongTexts.{no_long_header}
+use Rattle.octseq_dns_compose.proofs.Onstage.{additional_data, answer_data, authority_data, header_onstage, over_onstage}
+use Rattle.octseq_dns_compose.proofs.Onstage.{questions_onstage, questions_stopped, records_onstage, records_stopped}
+use Rattle.octseq_dns_compose.proofs.Onstage.{same_onstage}
 use Rattle.octseq_dns_compose.proofs.Places.{malformed_at}
 use Rattle.octseq_dns_compose.proofs.message.compose_text.Goals as goal
 
@@ -78,6 +84,16 @@ returns-in_err-push_questions g c =
           stop_at questions q.said place.line place.offset (stopped.malformed place (search (rules, is)));
       short = λ is. long_questions q g.B.AsOctets.limit (stopped.short (search (rules, is)));
       memory = search rules;
+      first = λ place is.
+          let bad = stopped.stopped place (search (rules, is)) in
+          let limit = message_limit g.B.AsOctets.limit in
+          let h = same_onstage most limit text _ 0 c.set_header.new.self c.question-questions.result
+          c.question-questions.ensures (header_onstage most limit text _ _ _ c.set_header.new.self taken first.2
+          (c.set_header.ensures.written blank_message c.in_ok-message.ensures.written)
+          (c.set_header.ensures.push_limit ∙ c.in_ok-message.ensures.push_limit)
+          (subst (IsWithin limit) (sym c.set_header.ensures.len) c.in_ok-message.ensures.within)) in
+          questions_stopped h place.offset (bad h.m h.writes);
+      within = search rules;
       borrows = search rules;
     }
 
@@ -105,6 +121,19 @@ returns-in_err-push_records g c =
       short = λ is. long_records answers r g.B.AsOctets.limit (stopped.short (search (rules, is)));
       memory = λ is.
           list_asked answers r _ (λ asks. true≢false (sym asks)) (stopped.memory (search (rules, is)));
+      first = λ place is.
+          let bad = stopped.stopped place (search (rules, is)) in
+          let limit = message_limit g.B.AsOctets.limit in
+          let h = same_onstage most limit text _ 0 c.set_header.new.self c.question-questions.result
+          c.question-questions.ensures (header_onstage most limit text _ _ _ c.set_header.new.self taken first.2
+          (c.set_header.ensures.written blank_message c.in_ok-message.ensures.written)
+          (c.set_header.ensures.push_limit ∙ c.in_ok-message.ensures.push_limit)
+          (subst (IsWithin limit) (sym c.set_header.ensures.len) c.in_ok-message.ensures.within)) in
+          let k = same_onstage most limit text _ 1 c.push_questions.new.message c.answer-answers.result c.answer-answers.ensures
+          (questions_onstage h c.push_questions.new.message _ (c.in_ok-push_questions.ensures.added h.m h.writes)
+          c.in_ok-push_questions.ensures.push_limit qs.2) in
+          records_stopped answers k place.offset answer_data (bad k.m k.writes);
+      within = search rules;
       borrows = search rules;
     }
 
@@ -136,6 +165,22 @@ returns-in_err-push_records-2 g c =
       short = λ is. long_records authorities u g.B.AsOctets.limit (stopped.short (search (rules, is)));
       memory = λ is.
           list_asked authorities u _ (λ asks. true≢false (sym asks)) (stopped.memory (search (rules, is)));
+      first = λ place is.
+          let bad = stopped.stopped place (search (rules, is)) in
+          let limit = message_limit g.B.AsOctets.limit in
+          let h = same_onstage most limit text _ 0 c.set_header.new.self c.question-questions.result
+          c.question-questions.ensures (header_onstage most limit text _ _ _ c.set_header.new.self taken first.2
+          (c.set_header.ensures.written blank_message c.in_ok-message.ensures.written)
+          (c.set_header.ensures.push_limit ∙ c.in_ok-message.ensures.push_limit)
+          (subst (IsWithin limit) (sym c.set_header.ensures.len) c.in_ok-message.ensures.within)) in
+          let k = same_onstage most limit text _ 1 c.push_questions.new.message c.answer-answers.result c.answer-answers.ensures
+          (questions_onstage h c.push_questions.new.message _ (c.in_ok-push_questions.ensures.added h.m h.writes)
+          c.in_ok-push_questions.ensures.push_limit qs.2) in
+          let l = same_onstage most limit text _ 2 c.push_records.new.message c.authority-authorities.result
+          c.authority-authorities.ensures (records_onstage answers k c.push_records.new.message _
+          (c.in_ok-push_records.ensures.added k.m k.writes) c.in_ok-push_records.ensures.push_limit rs.2) in
+          records_stopped authorities l place.offset authority_data (bad l.m l.writes);
+      within = search rules;
       borrows = search rules;
     }
 
@@ -171,6 +216,25 @@ returns-in_err-push_records-3 g c =
       short = λ is. long_records additionals d g.B.AsOctets.limit (stopped.short (search (rules, is)));
       memory = λ is.
           list_asked additionals d _ (λ asks. true≢false (sym asks)) (stopped.memory (search (rules, is)));
+      first = λ place is.
+          let bad = stopped.stopped place (search (rules, is)) in
+          let limit = message_limit g.B.AsOctets.limit in
+          let h = same_onstage most limit text _ 0 c.set_header.new.self c.question-questions.result
+          c.question-questions.ensures (header_onstage most limit text _ _ _ c.set_header.new.self taken first.2
+          (c.set_header.ensures.written blank_message c.in_ok-message.ensures.written)
+          (c.set_header.ensures.push_limit ∙ c.in_ok-message.ensures.push_limit)
+          (subst (IsWithin limit) (sym c.set_header.ensures.len) c.in_ok-message.ensures.within)) in
+          let k = same_onstage most limit text _ 1 c.push_questions.new.message c.answer-answers.result c.answer-answers.ensures
+          (questions_onstage h c.push_questions.new.message _ (c.in_ok-push_questions.ensures.added h.m h.writes)
+          c.in_ok-push_questions.ensures.push_limit qs.2) in
+          let l = same_onstage most limit text _ 2 c.push_records.new.message c.authority-authorities.result
+          c.authority-authorities.ensures (records_onstage answers k c.push_records.new.message _
+          (c.in_ok-push_records.ensures.added k.m k.writes) c.in_ok-push_records.ensures.push_limit rs.2) in
+          let n = same_onstage most limit text _ 3 c.push_records-2.new.message c.additional-additionals.result
+          c.additional-additionals.ensures (records_onstage authorities l c.push_records-2.new.message _
+          (c.in_ok-push_records-2.ensures.added l.m l.writes) c.in_ok-push_records-2.ensures.push_limit us.2) in
+          records_stopped additionals n place.offset additional_data (bad n.m n.writes);
+      within = search rules;
       borrows = search rules;
     }
 
@@ -205,3 +269,69 @@ returns-then-not-is_empty-clause-malformed g c = λ place is.
     let both = malformed_at _ _ place _ c.malformed.ensures is in
     subst (λ n. IsLineFault IsAnyText text 1 n place.offset) (sym both.0)
     (subst (IsLineFault IsAnyText text 1 c.push_records-3.new.lines.number) (sym both.1) (end_at text _ _ e.said some))
+
+pub returns-in_err-header-clause-first : goal.returns-in_err-header-clause-first
+returns-in_err-header-clause-first g c = λ place is.
+    let found = c.in_err-header.ensures.malformed place (search (rules, is)) in
+    no_long_header g.T.Compressor.most (message_limit g.B.AsOctets.limit) c.args.text.now place.offset
+    (subst (λ t. IsFaultyHeader t place.offset) c.new-lines.ensures.ahead found.1)
+
+pub returns-then-not-is_empty-clause-first : goal.returns-then-not-is_empty-clause-first
+returns-then-not-is_empty-clause-first g c = λ place is.
+    let text = c.args.text.now in
+    let most = g.T.Compressor.most in
+    let first = c.in_ok-header.ensures.ok in
+    let taken = subst (λ t. TakesLine first.0 t c.next_header.new.lines.ahead.now) c.new-lines.ensures.ahead first.1 in
+    let qs = c.in_ok-push_questions.ensures.ok in
+    let rs = c.in_ok-push_records.ensures.ok in
+    let us = c.in_ok-push_records-2.ensures.ok in
+    let ds = c.in_ok-push_records-3.ensures.ok in
+    let limit = message_limit g.B.AsOctets.limit in
+    let h = same_onstage most limit text _ 0 c.set_header.new.self c.question-questions.result
+    c.question-questions.ensures (header_onstage most limit text _ _ _ c.set_header.new.self taken first.2
+    (c.set_header.ensures.written blank_message c.in_ok-message.ensures.written)
+    (c.set_header.ensures.push_limit ∙ c.in_ok-message.ensures.push_limit)
+    (subst (IsWithin limit) (sym c.set_header.ensures.len) c.in_ok-message.ensures.within)) in
+    let k = same_onstage most limit text _ 1 c.push_questions.new.message c.answer-answers.result c.answer-answers.ensures
+    (questions_onstage h c.push_questions.new.message _ (c.in_ok-push_questions.ensures.added h.m h.writes)
+    c.in_ok-push_questions.ensures.push_limit qs.2) in
+    let l = same_onstage most limit text _ 2 c.push_records.new.message c.authority-authorities.result
+    c.authority-authorities.ensures (records_onstage answers k c.push_records.new.message _
+    (c.in_ok-push_records.ensures.added k.m k.writes) c.in_ok-push_records.ensures.push_limit rs.2) in
+    let n = same_onstage most limit text _ 3 c.push_records-2.new.message c.additional-additionals.result
+    c.additional-additionals.ensures (records_onstage authorities l c.push_records-2.new.message _
+    (c.in_ok-push_records-2.ensures.added l.m l.writes) c.in_ok-push_records-2.ensures.push_limit us.2) in
+    let o = records_onstage additionals n c.push_records-3.new.message _
+    (c.in_ok-push_records-3.ensures.added n.m n.writes) c.in_ok-push_records-3.ensures.push_limit ds.2 in
+    over_onstage most limit text _ c.push_records-3.new.message o
+
+pub returns-clause-within : goal.returns-clause-within
+returns-clause-within g c =
+    let text = c.args.text.now in
+    let most = g.T.Compressor.most in
+    let first = c.in_ok-header.ensures.ok in
+    let taken = subst (λ t. TakesLine first.0 t c.next_header.new.lines.ahead.now) c.new-lines.ensures.ahead first.1 in
+    let qs = c.in_ok-push_questions.ensures.ok in
+    let rs = c.in_ok-push_records.ensures.ok in
+    let us = c.in_ok-push_records-2.ensures.ok in
+    let ds = c.in_ok-push_records-3.ensures.ok in
+    let limit = message_limit g.B.AsOctets.limit in
+    let h = same_onstage most limit text _ 0 c.set_header.new.self c.question-questions.result
+    c.question-questions.ensures (header_onstage most limit text _ _ _ c.set_header.new.self taken first.2
+    (c.set_header.ensures.written blank_message c.in_ok-message.ensures.written)
+    (c.set_header.ensures.push_limit ∙ c.in_ok-message.ensures.push_limit)
+    (subst (IsWithin limit) (sym c.set_header.ensures.len) c.in_ok-message.ensures.within)) in
+    let k = same_onstage most limit text _ 1 c.push_questions.new.message c.answer-answers.result c.answer-answers.ensures
+    (questions_onstage h c.push_questions.new.message _ (c.in_ok-push_questions.ensures.added h.m h.writes)
+    c.in_ok-push_questions.ensures.push_limit qs.2) in
+    let l = same_onstage most limit text _ 2 c.push_records.new.message c.authority-authorities.result
+    c.authority-authorities.ensures (records_onstage answers k c.push_records.new.message _
+    (c.in_ok-push_records.ensures.added k.m k.writes) c.in_ok-push_records.ensures.push_limit rs.2) in
+    let n = same_onstage most limit text _ 3 c.push_records-2.new.message c.additional-additionals.result
+    c.additional-additionals.ensures (records_onstage authorities l c.push_records-2.new.message _
+    (c.in_ok-push_records-2.ensures.added l.m l.writes) c.in_ok-push_records-2.ensures.push_limit us.2) in
+    let o = records_onstage additionals n c.push_records-3.new.message _
+    (c.in_ok-push_records-3.ensures.added n.m n.writes) c.in_ok-push_records-3.ensures.push_limit ds.2 in (
+      over_onstage most limit text _ c.push_records-3.new.message o,
+      subst (λ s. IsWithin limit (length s.octets)) (sym o.writes.state_is) o.within,
+    )

@@ -1,7 +1,9 @@
-use Rattle.std.proofs.Common.{[], ◌∷◌, ◌++◌, ◌∙◌, codes, refl, sym, subst, rules}
+use Rattle.std.proofs.Common.{[], ◌∷◌, ◌++◌, ◌∙◌, codes, length, refl, sym, subst, rules}
 use Rattle.octseq_dns_compose.specs.MessageText.{IsQuestionLine}
-use Rattle.octseq_dns_compose.specs.QuestionText.{IsQuestionText}
-use Rattle.octseq_dns_compose.specs.TextLines.{IsNoneOf}
+use Rattle.octseq.specs.Limit.{IsWithin}
+use Rattle.octseq_dns_compose.specs.QuestionText.{IsAnyQuestion, IsQuestionText}
+use Rattle.octseq_dns_compose.specs.TextLines.{IsFaultyLine, IsNoneOf}
+use Rattle.octseq_dns_compose.proofs.Onstage.{added_more, added_none, added_so, question_added}
 use Rattle.octseq_dns.specs.Pushed.{pushed_question}
 use Rattle.octseq_dns.specs.Sections.{takes_questions}
 use Rattle.octseq_dns.specs.Writes.{all_more, least_limit, more_questions}
@@ -13,7 +15,14 @@ use Rattle.octseq_dns_compose.proofs.Overrun.{push_exceeds}
 use Rattle.octseq_dns_compose.proofs.message.push_questions.Goals as goal
 
 pub lines-init : goal.lines-init
-lines-init g c = ([], read_none IsQuestionLine _ _ _ _ refl refl, λ m writes. writes, refl, refl)
+lines-init g c = (
+  [],
+  read_none IsQuestionLine _ _ _ _ refl refl,
+  λ m writes. writes,
+  refl,
+  refl,
+  λ m writes. added_none m c.args.lines.now.ahead.now (writes, refl),
+)
 
 pub returns-in_default-clause-ok : goal.returns-in_default-clause-ok
 returns-in_default-clause-ok g c =
@@ -40,7 +49,31 @@ lines-preserved g c =
           (c.in-Ok-push_question.ensures.written _ (so_far.2 m writes)),
       c.in-Ok-push_question.ensures.push_limit ∙ so_far.3,
       c.in-Ok-push_question.ensures.borrows ∙ so_far.4,
+      λ m writes. added_more m c.args.lines.now.ahead.now (so_far.5 m writes) (λ after ahead here.
+          question_added g.T.Compressor.most
+          (least_limit c.args.message.now.push_limit (message_limit g.B.AsOctets.limit)) after c.lines.lines.ahead.now
+          ahead c.next_question.new.lines.ahead.now q (codes "question" ∷ some.0) c.push_question.new.self.state
+          c.push_question.new.self.header c.push_question.new.self.counts here.1 some.1 (
+            refl,
+            subst (λ labels. IsQuestionText labels c.in-Some.question.qclass c.in-Some.question.qtype some.0)
+                (sym c.parsed-qname.ensures) some.2,
+          ) (c.in-Ok-push_question.ensures.written after here.0)
+          (subst (λ l. IsWithin (least_limit l (message_limit g.B.AsOctets.limit))
+          (length c.push_question.new.self.state.octets)) so_far.3 c.in-Ok-push_question.ensures.within)),
     )
+
+pub returns-in_default-clause-added : goal.returns-in_default-clause-added
+returns-in_default-clause-added g c = λ m writes.
+    let so_far = c.lines.invariant in
+    let none = if_none c.in-Ok.next _ (search rules) c.in-Ok.ensures.none in
+    added_so m c.args.lines.now.ahead.now (so_far.5 m writes) (λ after ahead now. (now.0, now.1 ∙ sym none.1))
+
+pub returns-in-Err-clause-stopped : goal.returns-in-Err-clause-stopped
+returns-in-Err-clause-stopped g c = λ place is m writes.
+    let so_far = c.lines.invariant in
+    let found = c.in-Err.ensures.malformed place (search (rules, is)) in
+    added_so m c.args.lines.now.ahead.now (so_far.5 m writes) (λ after ahead now.
+    subst (λ t. IsFaultyLine (codes "question") IsAnyQuestion t place.offset) (sym now.1) found.1)
 
 pub returns-in-Err-clause-malformed : goal.returns-in-Err-clause-malformed
 returns-in-Err-clause-malformed g c = λ place is.

@@ -7,4 +7,5 @@ pub returns-clause-command : goal.returns-clause-command
 returns-clause-command c = one_named name_of same_name
 
 pub returns-clause-output : goal.returns-clause-output
-returns-clause-output c = one_output c.one_message_piece.ensures.piece c.one_stream_piece.ensures.piece
+returns-clause-output c =
+    one_output c.one_message_piece.ensures.piece c.one_stream_piece.ensures.piece c.one_text_piece.ensures

@@ -11,11 +11,15 @@ use std::process::Abort;
 /// A message of zeros, preceded by its length.
 const BLANK: [u8; 14] = [0, 12, 0, 0, 0, 0, 0, 0, 0, 0, 0, 0, 0, 0];
 
-/// What each command writes for `BLANK`.
-const OUTPUTS: [(&str, Status, &str); 3] = [
-    ("message", Status::Refused, "malformed\n"),
-    ("stream", Status::Fine, "id 0 opcode 0 rcode 0 flags\n\n"),
-    ("rewrite", Status::Fine, "\0\x0C\0\0\0\0\0\0\0\0\0\0\0\0"),
+/// The text of that message, and an empty line.
+const BLANK_LINES: &[u8] = b"id 0 opcode 0 rcode 0 flags\n\n";
+
+/// What each command writes for an input: for `BLANK`, or for its text.
+const OUTPUTS: [(&str, &[u8], Status, &[u8]); 4] = [
+    ("message", &BLANK, Status::Refused, b"malformed\n"),
+    ("stream", &BLANK, Status::Fine, BLANK_LINES),
+    ("rewrite", &BLANK, Status::Fine, &BLANK),
+    ("compose", BLANK_LINES, Status::Fine, &BLANK),
 ];
 
 /// Runs a command over readers that fail after no read, after one, and so on. Returns after how many reads it succeeds.
@@ -23,11 +27,11 @@ fn failed_reads(
     rt: &impl Abort,
     alloc: Global,
     at_once: usize,
-    (command, status, output): (&str, Status, &str),
+    (command, input, status, output): (&str, &[u8], Status, &[u8]),
 ) -> usize {
     for reads in 0..32 {
         let mut reader = Drip {
-            rest: BLANK.as_slice(),
+            rest: input,
             at_once,
             reads,
         };
@@ -35,26 +39,28 @@ fn failed_reads(
         let answer = engine(alloc, command, &mut reader, &mut written);
         if answer.is_ok() {
             assert_equal!(rt, answer, Ok(status));
-            assert_equal!(rt, written.as_slice(), output.as_bytes());
+            assert_equal!(rt, written.as_slice(), output);
             return reads;
         }
         assert_equal!(rt, answer, Err(ProgramFault::Read));
         // (the whole message is written after it was read, and nothing before that)
-        assert_true!(
-            rt,
-            written.is_empty() || written.as_slice() == output.as_bytes()
-        );
+        assert_true!(rt, written.is_empty() || written.as_slice() == output);
     }
     32
 }
 
 #[test]
 fn a_failed_read_writes_what_was_read(rt: HostRuntime) {
-    for (command, status, output) in OUTPUTS {
-        // (the read that finds the end counts too, and a length and its message are read one after the other)
+    for (command, input, status, output) in OUTPUTS {
+        // (the read that finds the end counts too, a length and its message are read one after the other, and a text
+        // octet by octet)
         for (at_once, whole, apart) in [(1, 15, 15), (2, 8, 8), (7, 3, 4), (14, 2, 3), (15, 2, 3)] {
-            let wanted = if command == "message" { whole } else { apart };
-            let failed = failed_reads(&rt, rt.alloc(), at_once, (command, status, output));
+            let wanted = match command {
+                "message" => whole,
+                "compose" => input.len() + 1,
+                _ => apart,
+            };
+            let failed = failed_reads(&rt, rt.alloc(), at_once, (command, input, status, output));
             assert_eq!(rt; failed, wanted, "{command} by {at_once}");
         }
     }
@@ -62,7 +68,7 @@ fn a_failed_read_writes_what_was_read(rt: HostRuntime) {
 
 #[test]
 fn a_failed_write_is_reported(rt: HostRuntime) {
-    for (command, status, output) in OUTPUTS {
+    for (command, input, status, output) in OUTPUTS {
         for at_once in [1, 7, usize::MAX] {
             // (each write that is needed, and a call to flush)
             let needed = output.len().div_ceil(at_once) + 1;
@@ -72,8 +78,7 @@ fn a_failed_write_is_reported(rt: HostRuntime) {
                     at_once,
                     calls,
                 };
-                let octets = BLANK.as_slice();
-                let answer = engine(rt.alloc(), command, &mut { octets }, &mut writer);
+                let answer = engine(rt.alloc(), command, &mut { input }, &mut writer);
                 let wanted = if calls < needed {
                     Err(ProgramFault::Write)
                 } else {
@@ -81,7 +86,7 @@ fn a_failed_write_is_reported(rt: HostRuntime) {
                 };
                 assert_eq!(rt; answer, wanted, "{command} of {calls}");
                 let taken = writer.taken.as_slice();
-                assert_equal!(&rt, output.as_bytes().get(..taken.len()), Some(taken));
+                assert_equal!(&rt, output.get(..taken.len()), Some(taken));
                 assert_true!(&rt, answer.is_err() || taken.len() == output.len());
             }
         }
@@ -118,20 +123,24 @@ const BROKEN: [u8; 18] = [0, 0, 0, 12, 0, 0, 0, 0, 0, 0, 0, 0, 0, 0, 0, 0, 0, 0]
 /// The notes about `BROKEN`.
 const NOTES: &str = "message 1: malformed at octet 0\nmessage 3: malformed at octet 0\n";
 
-/// What is written for `BROKEN` by each command that takes it.
-const AROUND: [(&str, Status, &str); 2] = [
-    (
-        "stream",
-        Status::Fine,
-        "malformed\n\nid 0 opcode 0 rcode 0 flags\n\nmalformed\n\n",
-    ),
-    ("rewrite", Status::Refused, "\0\x0C\0\0\0\0\0\0\0\0\0\0\0\0"),
+/// Their texts, as they are shown.
+const BROKEN_LINES: &[u8] = b"malformed\n\nid 0 opcode 0 rcode 0 flags\n\nmalformed\n\n";
+
+/// The notes about those.
+const LINE_NOTES: &str =
+    "message 1: malformed at line 1, octet 0\nmessage 3: malformed at line 1, octet 0\n";
+
+/// What each command writes for an input, `BROKEN` or its texts, and the notes.
+const AROUND: [(&str, &[u8], Status, &[u8], &str); 3] = [
+    ("stream", &BROKEN, Status::Fine, BROKEN_LINES, NOTES),
+    ("rewrite", &BROKEN, Status::Refused, &BLANK, NOTES),
+    ("compose", BROKEN_LINES, Status::Refused, &BLANK, LINE_NOTES),
 ];
 
 #[test]
 fn a_note_that_cant_be_written_doesnt_end_the_output(rt: HostRuntime) {
     let alloc = rt.alloc();
-    for (command, status, output) in AROUND {
+    for (command, input, status, output, notes) in AROUND {
         // (a note takes a write and a flush)
         for calls in 0..=4 {
             let mut errors = Narrow {
@@ -143,7 +152,7 @@ fn a_note_that_cant_be_written_doesnt_end_the_output(rt: HostRuntime) {
             let answer = octseq_cli::engine::engine::<Command, _, _, _>(
                 alloc,
                 command,
-                &mut BROKEN.as_slice(),
+                &mut { input },
                 &mut written,
                 &mut errors,
             );
@@ -153,9 +162,9 @@ fn a_note_that_cant_be_written_doesnt_end_the_output(rt: HostRuntime) {
                 Ok(status)
             };
             assert_eq!(rt; answer, wanted, "{command} of {calls}");
-            assert_equal!(&rt, written.as_slice(), output.as_bytes());
+            assert_equal!(&rt, written.as_slice(), output);
             let taken = errors.taken.as_slice();
-            assert_equal!(&rt, NOTES.as_bytes().get(..taken.len()), Some(taken));
+            assert_equal!(&rt, notes.as_bytes().get(..taken.len()), Some(taken));
         }
     }
 }

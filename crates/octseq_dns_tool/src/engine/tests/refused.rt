@@ -65,6 +65,22 @@ fn rewrite_tells_a_front(rt: HostRuntime) {
     is_reported(&rt, alloc, "rewrite", b"\0\x01a", b"");
 }
 
+#[test]
+fn compose_tells_a_front(rt: HostRuntime) {
+    let alloc = rt.alloc();
+    let mut stream = Vec::new(alloc);
+    unwrap(&rt, stream.extend_from_slice(&[0, 45]));
+    unwrap(&rt, stream.extend_from_slice(&REPLY));
+    is_reported(
+        &rt,
+        alloc,
+        "compose",
+        REPLY_TEXT.as_bytes(),
+        stream.as_slice(),
+    );
+    is_reported(&rt, alloc, "compose", b"id\n\nid", b"");
+}
+
 /// Checks that the line of a failure is written, or that of refused memory. Returns the fault.
 fn is_told(
     rt: &impl Abort,

@@ -18,7 +18,7 @@ fn message_of(alloc: Global, rtype: u8, class: u8, rdata: &[u8]) -> Result<Vec<u
 }
 
 /// Makes a stream of messages, each preceded by its length.
-fn stream_of(alloc: Global, messages: &[&[u8]]) -> Result<Vec<u8>, AllocError> {
+pub(super) fn stream_of(alloc: Global, messages: &[&[u8]]) -> Result<Vec<u8>, AllocError> {
     let mut stream = Vec::new(alloc);
     for message in messages {
         let len = u16::try_from(message.len()).unwrap_or(0);
