@@ -5,7 +5,7 @@ use Rattle.octseq_dns_data.specs.declared.layout.Tail.{Tail}
 use Rattle.octseq_dns_text.specs.Fields.{IsFieldText}
 use Rattle.octseq_dns_text.specs.Tails.{IsTailText}
 pub use Rattle.octseq_dns_data.specs.Layout.{TextLayout, layout_value}
-pub use Rattle.octseq_dns_data.specs.Typed.{layout_of}
+unfoldable pub use Rattle.octseq_dns_data.specs.Typed.{layout_of}
 
 -- the words are fields, each of them one word, and then what comes after them
 abbrev pub IsLayoutText : Option (List (List ℕ)) → List Field → Tail → List (List ℕ) → List ℕ → Type 0
