@@ -14,7 +14,8 @@ use Rattle.octseq_dns_data.specs.Local.{form}
 use Rattle.octseq_dns_data.specs.RdataText.{rdata_text}
 use Rattle.octseq_dns_data.specs.Rtype as types
 use Rattle.octseq_dns_data.specs.Strings.{HasString, HasStrings}
-use Rattle.octseq_dns_data.specs.Typed.{ParsedRdata, layout_of, mx_parts, naptr_parts, soa_parts, srv_parts}
+use Rattle.octseq_dns_data.specs.Form.{Form, ◌followed_by◌, alone, domain_name, number}
+use Rattle.octseq_dns_data.specs.Typed.{ParsedRdata, layout_of, mx_parts, naptr_parts, quoted, soa_parts, srv_parts}
 use Rattle.octseq_dns_scan.proofs.Addresses.{ipv4_word, ipv6_word}
 use Rattle.octseq_dns_scan.proofs.Numerals.{shown_digits, shown_value}
 use Rattle.octseq_dns_scan.proofs.Taken.{escaped_word}
@@ -25,6 +26,7 @@ use Rattle.octseq_format.specs.Row.{Row}
 use Rattle.octseq_dns_text.proofs.NameWords.{string_first}
 use Rattle.octseq_dns_text.proofs.OrdinaryTexts.{decimal_first, hex_first, ipv4_first, ipv6_first}
 use Rattle.octseq_dns_text.proofs.ShownFields.{hex_shown, string_shown}
+use Rattle.octseq_dns_text.proofs.ShownForms.{IsShownForm}
 use Rattle.octseq_dns_text.proofs.ShownForms.{Shown, ◌shown_before◌, a_name, a_string, all_octets_of}
 use Rattle.octseq_dns_text.proofs.ShownForms.{each_rest, four_octets, one_be, shown_alone, two_octets}
 use Rattle.octseq_dns_text.proofs.ShownTypes.{data_shown, local_shown}
@@ -75,7 +77,7 @@ ipv6_shown w octets v sound is =
 
 -- ---- strings
 
-string_at : (w v : Window) (string : List ℕ) → IsSound w → HasString w string v
+pub string_at : (w v : Window) (string : List ℕ) → IsSound w → HasString w string v
     → AreOctets string × (length string ≤ 255) × IsSound v
 string_at w v string sound (has, is, moved) =
     let on = sound_past 1 w sound has.0 in
@@ -129,6 +131,31 @@ strings_shown w v (string ∷ strings) sound (some, (u, is, row)) =
 
 -- ---- data that is read in the message
 
+abbrev IsAlone : List Field → Form → Type 0
+IsAlone fields form = IsShownForm fields tail.Nothing form
+
+pub mx_shown : IsAlone (field.U16 ∷ field.Name ∷ [])
+    (number 2 followed_by alone domain_name)
+mx_shown = two_octets shown_before shown_alone a_name
+
+pub soa_shown : IsAlone
+    (field.Name ∷ field.Name ∷ field.U32 ∷ field.U32 ∷ field.U32 ∷ field.U32 ∷ field.U32 ∷ [])
+    (domain_name followed_by domain_name followed_by number 4 followed_by number 4 followed_by number 4
+    followed_by number 4 followed_by alone (number 4))
+soa_shown = a_name shown_before a_name shown_before four_octets shown_before four_octets
+    shown_before four_octets shown_before four_octets shown_before shown_alone four_octets
+
+pub srv_shown : IsAlone (field.U16 ∷ field.U16 ∷ field.U16 ∷ field.Name ∷ [])
+    (number 2 followed_by number 2 followed_by number 2 followed_by alone domain_name)
+srv_shown = two_octets shown_before two_octets shown_before two_octets shown_before shown_alone a_name
+
+pub naptr_shown : IsAlone
+    (field.U16 ∷ field.U16 ∷ field.String ∷ field.String ∷ field.String ∷ field.Name ∷ [])
+    (number 2 followed_by number 2 followed_by quoted followed_by quoted followed_by quoted
+    followed_by alone domain_name)
+naptr_shown = two_octets shown_before two_octets shown_before a_string shown_before a_string
+    shown_before a_string shown_before shown_alone a_name
+
 in_layout : {fields : List Field} {end : Tail} (rtype class number : ℕ) (text octets : List ℕ) → rtype ≡ number
     → layout_of number class ≡ Some (layout_value fields end) → Shown (IsLayoutText None fields end) text octets
     → ShowsData rtype class text octets
@@ -161,25 +188,19 @@ typed_shown rtype class w inside (ParsedRdata.ptr name) sound in_it is =
     in_layout rtype class types.ptr _ _ same refl ((shown_alone a_name).shown w name is.end sound at)
 typed_shown rtype class w inside (ParsedRdata.mx mx) sound in_it is =
     let (same, at) = is.rdata_is in
-    let form = two_octets shown_before shown_alone a_name in
-    in_layout rtype class types.mx _ _ same refl (form.shown w (mx_parts mx) is.end sound at)
+    in_layout rtype class types.mx _ _ same refl (mx_shown.shown w (mx_parts mx) is.end sound at)
 typed_shown rtype class w inside (ParsedRdata.soa soa) sound in_it is =
     let (same, at) = is.rdata_is in
-    let form = a_name shown_before a_name shown_before four_octets shown_before four_octets
-    shown_before four_octets shown_before four_octets shown_before shown_alone four_octets in
-    in_layout rtype class types.soa _ _ same refl (form.shown w (soa_parts soa) is.end sound at)
+    in_layout rtype class types.soa _ _ same refl (soa_shown.shown w (soa_parts soa) is.end sound at)
 typed_shown rtype class w inside (ParsedRdata.txt strings) sound in_it is =
     let (same, at) = is.rdata_is in
     in_layout rtype class types.txt _ _ same refl (strings_shown w is.end strings sound at)
 typed_shown rtype class w inside (ParsedRdata.srv srv) sound in_it is =
     let (same, one, at) = is.rdata_is in
-    let form = two_octets shown_before two_octets shown_before two_octets shown_before shown_alone a_name in
-    in_one rtype class types.srv _ _ same one refl (form.shown w (srv_parts srv) is.end sound at)
+    in_one rtype class types.srv _ _ same one refl (srv_shown.shown w (srv_parts srv) is.end sound at)
 typed_shown rtype class w inside (ParsedRdata.naptr naptr) sound in_it is =
     let (same, one, at) = is.rdata_is in
-    let form = two_octets shown_before two_octets shown_before a_string shown_before a_string
-    shown_before a_string shown_before shown_alone a_name in
-    in_one rtype class types.naptr _ _ same one refl (form.shown w (naptr_parts naptr) is.end sound at)
+    in_one rtype class types.naptr _ _ same one refl (naptr_shown.shown w (naptr_parts naptr) is.end sound at)
 typed_shown rtype class w inside (ParsedRdata.local k found) sound in_it is =
     subst (λ n. ShowsData n class ((form k).text found) ((form k).octets ((form k).says found))) (sym is.rtype_is)
     (local_shown k class inside found _ in_it is.class_is is.whole)

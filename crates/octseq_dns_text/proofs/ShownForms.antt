@@ -3,11 +3,11 @@ use Rattle.std.proofs.Common.{◌≡◌, ℕ, ◌+◌, ◌-◌, ◌≤◌, ◌^�
 use Rattle.std.proofs.Common.{subst, arith, append-nil, decimal}
 use Rattle.std.proofs.lemmas.List.Elements.{All-from_recursion}
 use Rattle.std.specs.List.{All, AllByRecursion}
-use Rattle.octseq.proofs.WrittenBack.{AreOctets, as_be, small_be}
+use Rattle.octseq.proofs.WrittenBack.{AreOctets, as_be}
 use Rattle.octseq.proofs.Written.{be_one}
 use Rattle.octseq.specs.Integer.{be, octets_be}
 use Rattle.octseq.specs.OctetsText.{string_text}
-use Rattle.octseq.specs.Window.{Window, nested, next, rest}
+use Rattle.octseq.specs.Window.{Window, nested, rest}
 use Rattle.octseq_dns_data.specs.Form.{Form, Part, ◌followed_by◌, ◌then_each◌, all_octets, alone, domain_name, number}
 use Rattle.octseq_dns_data.specs.Form.{octets_of, plain_name, string}
 use Rattle.octseq_dns_data.specs.Formed.{IsFormed, IsSome, IsSomeString, IsString}
@@ -17,16 +17,17 @@ use Rattle.octseq_dns_data.specs.Typed.{hexadecimal, owner_hash, quoted, rtype_n
 use Rattle.octseq_dns_data.specs.Typed.{some_hexadecimal, time}
 use Rattle.octseq_dns_name.proofs.LabelLaws.{named_labels, named_octets}
 use Rattle.octseq_dns_name.specs.Name.{HasName, Name}
-use Rattle.octseq_dns_name.specs.NameFormat.{onward_name}
+use Rattle.octseq_dns_name.specs.NameFormat.{NameFits, onward_name}
 use Rattle.octseq_dns_name.specs.OneName.{Named}
 use Rattle.octseq_dns_name.specs.Text.{name_text}
 use Rattle.octseq_dns_name.specs.Wire.{wire}
 use Rattle.octseq_dns_scan.specs.Base32hex.{base32hex_text}
 use Rattle.octseq_dns_scan.specs.Base64.{base64_text}
-use Rattle.octseq_format.specs.Canonical.{IsSound, each_dropped, each_next, each_taken, many_next, sound_nested}
+use Rattle.octseq_format.specs.Canonical.{IsSound, each_dropped, each_taken, sound_nested}
 use Rattle.octseq_format.specs.Canonical.{sound_on, sound_past}
 use Rattle.octseq_format.specs.Counted.{Counted, counted_octets}
-use Rattle.octseq_format.specs.Fixed.{IsFixed, most_fixed}
+use Rattle.octseq_format.specs.Fixed.{IsFixed, canonical_fixed, most_fixed}
+use Rattle.octseq_format.specs.Integers.{are_be}
 use Rattle.octseq_format.specs.Pair.{both_octets, both_say}
 use Rattle.octseq_dns_text.proofs.NameWords.{name_first, string_first}
 use Rattle.octseq_dns_text.proofs.OrdinaryTexts.{base32hex_first, base64_first, decimal_first, hex_first, rtype_first}
@@ -60,21 +61,27 @@ pub record ShownAfter (it : Tail) (text octets : List ℕ) : Type 0 where
   pub each : AllByRecursion IsLineWord words
   pub is : IsTailText it words octets
 
--- The text of a part is a word, which is a field of the part's octets.
+-- The text of a part is a word, which is a field of the part's octets. What it says has octets.
 pub record IsShownPart (it : Field) (part : Part) : Type 0 where
   pub word : (w : Window) (found : part.Found) (v : Window) → IsSound w → part.Is w found v
       → IsFirst (part.text found) × IsFieldText None it (part.text found) (part.octets (part.says found))
+  pub fits : (w : Window) (found : part.Found) (v : Window) → IsSound w → part.Is w found v
+      → part.Fits (part.says found)
   pub on : (w : Window) (found : part.Found) (v : Window) → IsSound w → part.Is w found v → IsSound v
 
--- The text of a form consists of the words of a layout.
+-- The text of a form consists of the words of a layout. What it says has octets.
 pub record IsShownForm (fields : List Field) (it : Tail) (form : Form) : Type 0 where
   pub shown : (w : Window) (found : form.Found) (v : Window) → IsSound w → form.Is w found v
       → Shown (IsLayoutText None fields it) (form.text found) (form.octets (form.says found))
+  pub fits : (w : Window) (found : form.Found) (v : Window) → IsSound w → form.Is w found v
+      → form.Fits (form.says found)
 
 -- The text of a form is a tail, with a space before each word.
 pub record IsShownTail (it : Tail) (form : Form) : Type 0 where
   pub shown : (w : Window) (found : form.Found) (v : Window) → IsSound w → form.Is w found v
       → ShownAfter it (form.text found) (form.octets (form.says found))
+  pub fits : (w : Window) (found : form.Found) (v : Window) → IsSound w → form.Is w found v
+      → form.Fits (form.says found)
 
 -- ---- one after another
 
@@ -98,6 +105,10 @@ module _ {it : Field} {part : Part} {fields : List Field} {end : Tail} {form : F
           each = ((after.first.0, after.first.1), after.each);
           is = (word, after.word ∷ after.more, octets, rest, refl, here.1, after.is, refl);
         };
+    fits = λ w found v sound is. record {
+      first = one.fits w found.0 is.0 sound is.1;
+      second = two.fits is.0 found.1 v (one.on w found.0 is.0 sound is.1) is.2;
+    };
   }
 
 module _ {it : Field} {part : Part} {end : Tail} {form : Form} where
@@ -119,6 +130,10 @@ module _ {it : Field} {part : Part} {end : Tail} {form : Form} where
           each = after.each;
           is = (word, after.words, octets, rest, refl, here.1, after.is, refl);
         };
+    fits = λ w found v sound is. record {
+      first = one.fits w found.0 is.0 sound is.1;
+      second = two.fits is.0 found.1 v (one.on w found.0 is.0 sound is.1) is.2;
+    };
   }
 
 pub shown_alone : {it : Field} {part : Part} → IsShownPart it part
@@ -136,19 +151,16 @@ shown_alone {part = part} one = record {
         each = tt;
         is = (word, [], octets, [], refl, here.1, (refl, refl), sym (append-nil octets));
       };
+  fits = one.fits;
 }
 
 -- ---- parts of one word
 
-number_fits : (k n : ℕ) (w v : Window) → IsSound w → IsFixed k be w n v → n < 256 ^ k
-number_fits k n w v sound is =
-    let octets = next k w in
-    let small = small_be octets (each_next k w sound) in
-    let few = subst (λ size. be octets < 256 ^ size) (many_next k w sound is.0) small in
-    subst (λ m. m < 256 ^ k) (sym is.1) few
+pub number_fits : (k n : ℕ) (w v : Window) → IsSound w → IsFixed k be w n v → n < 256 ^ k
+number_fits k n w v sound is = ((canonical_fixed (are_be k)).written w n v sound is).0
 
-number_on : (k n : ℕ) (w v : Window) → IsSound w → IsFixed k be w n v → IsSound v
-number_on k n w v sound is = subst IsSound (sym is.2) (sound_past k w sound is.0)
+pub number_on : (k n : ℕ) (w v : Window) → IsSound w → IsFixed k be w n v → IsSound v
+number_on k n w v sound is = (canonical_fixed (are_be k)).on w n v sound is
 
 -- a number of at most 4 octets is shown in digits
 digits_first : (k n : ℕ) → k ≤ 4 → n < 256 ^ k → IsFirst (decimal n)
@@ -159,6 +171,7 @@ one_octet = record {
   word = λ w n v sound is.
       let small = number_fits 1 n w v sound is in
       (digits_first 1 n (omega arith) small, number_shown 1 n (omega arith) small);
+  fits = λ w n v sound is. number_fits 1 n w v sound is;
   on = λ w n v sound is. number_on 1 n w v sound is;
 }
 
@@ -167,6 +180,7 @@ two_octets = record {
   word = λ w n v sound is.
       let small = number_fits 2 n w v sound is in
       (digits_first 2 n (omega arith) small, number_shown 2 n (omega arith) small);
+  fits = λ w n v sound is. number_fits 2 n w v sound is;
   on = λ w n v sound is. number_on 2 n w v sound is;
 }
 
@@ -175,6 +189,7 @@ four_octets = record {
   word = λ w n v sound is.
       let small = number_fits 4 n w v sound is in
       (digits_first 4 n (omega arith) small, number_shown 4 n (omega arith) small);
+  fits = λ w n v sound is. number_fits 4 n w v sound is;
   on = λ w n v sound is. number_on 4 n w v sound is;
 }
 
@@ -183,6 +198,7 @@ a_time = record {
   word = λ w n v sound is.
       let small = number_fits 4 n w v sound is in
       (digits_first 4 n (omega arith) small, time_shown n small);
+  fits = λ w n v sound is. number_fits 4 n w v sound is;
   on = λ w n v sound is. number_on 4 n w v sound is;
 }
 
@@ -191,6 +207,7 @@ a_type = record {
   word = λ w n v sound is.
       let small = number_fits 2 n w v sound is in
       (rtype_first n small, rtype_shown n small);
+  fits = λ w n v sound is. number_fits 2 n w v sound is;
   on = λ w n v sound is. number_on 2 n w v sound is;
 }
 
@@ -200,15 +217,22 @@ name_is_shown w name v sound is =
     let labels : Named w = (name.labels, ∣ (v, is.1) ∣₁) in
     name_shown None name.labels (named_octets w labels sound.each) (named_labels w labels sound.within) is.1.short
 
+pub name_fits : (w : Window) (name : Name) (v : Window) → IsSound w → HasName w name v → NameFits name.labels
+name_fits w name v sound is =
+    let labels : Named w = (name.labels, ∣ (v, is.1) ∣₁) in
+    record { each = named_labels w labels sound.within; short = is.1.short }
+
 pub a_name : IsShownPart field.Name domain_name
 a_name = record {
   word = λ w name v sound is. (name_first name.labels, name_is_shown w name v sound is);
+  fits = λ w name v sound is. name_fits w name v sound is;
   on = λ w name v sound is. sound_on onward_name w name v sound is;
 }
 
 pub a_plain_name : IsShownPart field.Name plain_name
 a_plain_name = record {
   word = λ w name v sound is. (name_first name.labels, name_is_shown w name v sound (named w v name is));
+  fits = λ w name v sound is. name_fits w name v sound (named w v name is);
   on = λ w name v sound is. sound_on onward_name w name v sound (named w v name is);
 }
 
@@ -258,6 +282,10 @@ a_counted {it = it} {HasForm = HasForm} {text = text} shows = record {
       let both = shows.word (rest place) each.0 each.1 in
       let same = counted (rest place) (shows.few (rest place) each.1) in
       (both.0, subst (IsFieldText None it (text (rest place))) (sym same) both.1);
+  fits = λ w place v sound is.
+      let form = (counted_each HasForm w place v sound is).1 in
+      let few = shows.few (rest place) form in
+      record { tag_fits = omega (arith, few); inside = record { inside = (tt, form); many = refl } };
   on = λ w place v sound is. counted_on HasForm w place v sound is;
 }
 
@@ -307,6 +335,7 @@ some_octets {it = it} {text = text} shows = record {
       let each = subst (λ p. AreOctets (rest p)) (sym is.0.0) (each_rest w sound) in
       let both = shows (rest place) each is.1 in
       one_word it (text (rest place)) (rest place) both.0 both.1;
+  fits = λ w place v sound is. (tt, is.1);
 }
 
 pub a_digest : IsShownForm [] tail.Hex some_hexadecimal
@@ -326,4 +355,5 @@ a_value = record {
       let all = all_octets_of (rest place) each in
       one_word tail.Value (string_text (rest place)) (rest place) (string_first (rest place) all)
       (value_shown (rest place) 0 all (omega arith));
+  fits = λ w place v sound is. tt;
 }

@@ -36,6 +36,7 @@ the_params = record {
             (recursion_from_All IsWord _ (shown_words octets each is.1)) (shown_feedless octets each is.1);
         is = params_shown octets each is.1;
       };
+  fits = λ w place v sound is. (tt, is.1);
 }
 
 type_words : (rtypes : List ℕ) → AllByRecursion (λ rtype. rtype < 65536) rtypes
@@ -60,4 +61,5 @@ a_bitmap = record {
         is = subst (IsTypesText (map rtype_text rtypes)) (bitmap_again octets each is.1)
             (types_shown rtypes all (types_distinct octets is.1));
       };
+  fits = λ w place v sound is. (tt, is.1);
 }

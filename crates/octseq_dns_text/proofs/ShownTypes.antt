@@ -41,6 +41,8 @@ data_shown rtype class fields end text octets known shown = record {
 record IsShownType (number : ℕ) (it : KnownType) : Type 0 where
   shown : (class : ℕ) (w : Window) (found : it.form.Found) (v : Window) → IsSound w → IsClass it.is_of_class_in class
       → it.form.Is w found v → ShowsData number class (it.form.text found) (it.form.octets (it.form.says found))
+  fits : (w : Window) (found : it.form.Found) (v : Window) → IsSound w → it.form.Is w found v
+      → it.form.Fits (it.form.says found)
 
 of_any : {fields : List Field} {end : Tail} (number : ℕ) (f : Form)
     → ((class : ℕ) → layout_of number class ≡ Some (layout_value fields end)) → IsShownForm fields end f
@@ -49,6 +51,7 @@ of_any {fields = fields} {end = end} number f known shows = record {
   shown = λ class w found v sound any is.
       data_shown number class fields end (f.text found) (f.octets (f.says found)) (known class)
       (shows.shown w found v sound is);
+  fits = shows.fits;
 }
 
 of_in : {fields : List Field} {end : Tail} (number : ℕ) (f : Form)
@@ -58,6 +61,7 @@ of_in {fields = fields} {end = end} number f known shows = record {
   shown = λ class w found v sound in_one is.
       data_shown number class fields end (f.text found) (f.octets (f.says found))
       (ap (layout_of number) in_one ∙ known) (shows.shown w found v sound is);
+  fits = shows.fits;
 }
 
 abbrev AreShown : List KnownType → Type 0
@@ -117,7 +121,10 @@ one_of it rest n true number one more = subst (λ m. IsShownType m it) (number r
 one_of it rest n false number one more = more
 
 none_shown : (n : ℕ) → IsShownType n (in_any_class n no_form)
-none_shown n = record { shown = λ class w found v sound any is. absurd is }
+none_shown n = record {
+  shown = λ class w found v sound any is. absurd is;
+  fits = λ w found v sound is. absurd is;
+}
 
 known_shown : (known : List KnownType) (n : ℕ) → AreShown known → IsShownType n (known_in known n)
 known_shown [] n are = none_shown n
@@ -130,3 +137,8 @@ pub local_shown : (rtype class : ℕ) (w : Window) (found : (form rtype).Found) 
     → ShowsData rtype class ((form rtype).text found) ((form rtype).octets ((form rtype).says found))
 local_shown rtype class w found v sound of is =
     (known_shown known_types rtype all_shown).shown class w found v sound of is
+
+-- and has octets
+pub local_fits : (rtype : ℕ) (w : Window) (found : (form rtype).Found) (v : Window) → IsSound w
+    → (form rtype).Is w found v → (form rtype).Fits ((form rtype).says found)
+local_fits rtype w found v sound is = (known_shown known_types rtype all_shown).fits w found v sound is
