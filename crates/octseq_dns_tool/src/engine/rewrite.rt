@@ -1,10 +1,10 @@
 //! Rewriting messages, and composing them of their texts.
-ghost use Rattle.std.specs.Prelude.{IfOk};
+ghost use Rattle.std.specs.Prelude.{◌≡◌, IfOk};
 ghost use Rattle.octseq_dns.specs.Parsed.{header_of, questions_of, answers_of, authorities_of, additionals_of};
 ghost use Rattle.octseq_dns_tool.specs.Composed.{IsComposing};
 ghost use Rattle.octseq_dns_tool.specs.Rewritten.{IsRewriting};
 
-use octseq_dns::{Message, RewriteError, Target, rewrite};
+use octseq_dns::{AdditionalBuilder, Message, RewriteError, Target, rewrite};
 use octseq_dns_compose::{ComposeError, Place, compose_text};
 use std::alloc::{AllocError, Global};
 use std::mem;
@@ -47,6 +47,22 @@ impl Writer {
         }
     }
 
+    /// Takes out the octets and the table, to be written anew.
+    fn take(&mut self, alloc: Global) -> (Vec<u8>, Vec<Target>) {
+        let octets = mem::replace(&mut self.octets, Vec::new(alloc));
+        let table = mem::replace(&mut self.table, Vec::new(alloc));
+        (octets, table)
+    }
+
+    /// Keeps the octets and the table of a message that was written.
+    fn keep(&mut self, message: AdditionalBuilder<Vec<u8>, Vec<Target>>)
+        ensures { self.new.octets.items ≡ message.state.octets }
+    {
+        let (octets, table) = message.finish();
+        self.octets = octets;
+        self.table = table;
+    }
+
     /// Rewrites a message with its names compressed, in place of the last one. Returns whether it was written, or why
     /// not.
     pub(super) fn rewrite(
@@ -58,13 +74,10 @@ impl Writer {
             (answers_of message.now) (authorities_of message.now) (additionals_of message.now) rewriting
             self.new.octets.items) }
     {
-        let octets = mem::replace(&mut self.octets, Vec::new(alloc));
-        let table = mem::replace(&mut self.table, Vec::new(alloc));
+        let (octets, table) = self.take(alloc);
         match rewrite(message, octets, table) {
             Ok(written) => {
-                let (octets, table) = written.finish();
-                self.octets = octets;
-                self.table = table;
+                self.keep(written);
                 Ok(Rewriting::Written)
             }
             Err(RewriteError::Immovable) => Ok(Rewriting::Immovable),
@@ -78,13 +91,10 @@ impl Writer {
     pub(super) fn compose(&mut self, alloc: Global, text: &[u8]) -> Result<Composing, AllocError>
         ensures { IfOk result (λ composing. IsComposing text.now composing self.new.octets.items) }
     {
-        let octets = mem::replace(&mut self.octets, Vec::new(alloc));
-        let table = mem::replace(&mut self.table, Vec::new(alloc));
+        let (octets, table) = self.take(alloc);
         match compose_text(alloc, text, octets, table) {
             Ok(composed) => {
-                let (octets, table) = composed.finish();
-                self.octets = octets;
-                self.table = table;
+                self.keep(composed);
                 Ok(Composing::Written)
             }
             Err(ComposeError::Malformed(place)) => Ok(Composing::Malformed(place)),
