@@ -134,6 +134,7 @@ impl<R: AsOctets + Copy, B: OctetsBuilder + Truncate + AsOctetsMut, T: Compresso
     ghost writes = { λ octets old result new. Composes (message_limit B.limit) (B.asks ≡ true) result
         (with_octets old.state octets) old new × (B.borrows new.octets ≡ B.borrows old.octets) };
 
+    #[inline(always)]
     fn write<F: Format<R>>(
         message: &mut Composer<B, T>,
         value: &F::Value,

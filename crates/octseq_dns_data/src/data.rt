@@ -292,6 +292,7 @@ impl<R: AsOctets + Copy> Data<R> {
     /// # Errors
     ///
     /// Those of the writer.
+    #[inline(always)]
     pub fn write_form<W: FormWriter<R>>(&self, target: &mut W::Target) -> Result<(), AppendError>
         requires { is_by_form (rdata_of self.now) ≡ true }
         ensures { W.writes (form_octets (rdata_of self.now)) target.old result target.new }

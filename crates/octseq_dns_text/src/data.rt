@@ -1,13 +1,14 @@
 //! The data of a record.
 ghost use Rattle.std.specs.Prelude.{◌≡◌, ◌+◌, ◌||◌, true, ℕ, Option, List, length, option_map, IsNone, IfSome, IfOk};
 ghost use Rattle.std.specs.Prelude.{IfErr, OnErr, IsErrOf};
+ghost use Rattle.octseq_dns_data.specs.Typed.{layout_of};
 ghost use Rattle.octseq_dns_data.specs.declared.layout.Tail.{Tail};
 ghost use Rattle.octseq_dns_name.specs.Read.{labels_of};
 ghost use Rattle.octseq_dns_scan.specs.Word.{TakesWord};
 ghost use Rattle.octseq_dns_scan.specs.Words.{ahead_of, offset_of};
 ghost use Rattle.octseq_dns_text.specs.DataText.{IsSizedText, opaque_word, ends_in_list, IsDataText};
 ghost use Rattle.octseq_dns_text.specs.Fields.{IsFieldText};
-ghost use Rattle.octseq_dns_text.specs.Layouts.{layout_of, IsLayoutText};
+ghost use Rattle.octseq_dns_text.specs.Layouts.{IsLayoutText};
 ghost use Rattle.octseq_dns_text.specs.Output.{Adds, Grows, unless_full};
 ghost use Rattle.octseq_dns_text.specs.Reached.{Reached, ReadsText};
 ghost use Rattle.octseq_dns_text.specs.Scans.{Scans, IsFault};
