@@ -8,6 +8,7 @@ pub mod MessageTexts
 pub mod Named
 pub mod OneMessage
 pub mod Places
+pub mod PlainData
 pub mod Questions
 pub mod Records
 pub mod Samples
