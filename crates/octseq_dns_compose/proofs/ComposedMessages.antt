@@ -2,7 +2,7 @@
 use Rattle.std.proofs.Common.{◌≡◌, ◌↔◌, ℕ, List, [], ◌∷◌, ◌++◌, map, refl, sym, ap, ◌∙◌, subst}
 use Rattle.std.proofs.Common.{append_assoc, append-nil}
 use Rattle.std.specs.List.{AllByRecursion, AllZip, each_same}
-use Rattle.octseq.specs.Window.{Window, at}
+use Rattle.octseq.specs.Window.{Window}
 use Rattle.octseq_dns.specs.Rdata.{rdata_fields}
 use Rattle.octseq_dns.specs.ReadBack.{bare}
 use Rattle.octseq_dns.specs.Rewritten as rewritten
@@ -195,8 +195,7 @@ record_again : (w : Window) (r : read.Record) (v : Window) (rdata : ParsedRdata)
     → StaysUnknown r → IsDataOf r rdata → IsRecordOf (said_of r rdata) (record_of_parsed r rdata)
 record_again w r v rdata sound is own says =
     let (u, fit) = record_fit w r v sound is in
-    let (parsed, same, alone) = says_alone r.rtype r.class (at r.rdata.position r.owner.place) r.rdata rdata fit.place
-    fit.inside fit.rtype own says in
+    let (parsed, same, alone) = says_alone r rdata fit.place fit.inside fit.rtype own says in
     record {
       parsed = parsed;
       says = alone;

@@ -1,5 +1,6 @@
 -- Data is read by itself from its octets with names in plain form.
-use Rattle.std.proofs.Common.{◌≡◌, ℕ, ◌≤◌, ◌<◌, List, [], ◌∷◌, ◌++◌, length, inl, inr, refl, sym, ap, ◌∙◌, subst}
+use Rattle.std.proofs.Common.{◌≡◌, ℕ, ◌≤◌, ◌<◌, Bool, true, false, List, [], ◌∷◌, ◌++◌, length, inl, inr, refl, sym, ap}
+use Rattle.std.proofs.Common.{◌∙◌, subst}
 use Rattle.std.proofs.Common.{append_assoc, append-nil, arith}
 use Rattle.std.specs.List.{AllByRecursion}
 use Rattle.std.proofs.lemmas.List.Elements.{All-from_recursion}
@@ -13,19 +14,21 @@ use Rattle.octseq_dns.specs.ReadBack.{HasFields}
 use Rattle.octseq_dns_compress.specs.Fields.{AreFields}
 use Rattle.octseq_dns_compress.specs.Fits.{FitsField}
 use Rattle.octseq_dns_compress.specs.State.{Field}
-use Rattle.octseq_dns_data.specs.Data.{IsTypedData, ParsedRdata, SaysData}
+use Rattle.octseq_dns_data.proofs.Rdata.{IsEither, either, none_in_message}
+use Rattle.octseq_dns_data.specs.Data.{IsTypedData, ParsedRdata, SaysData, is_in_message}
 use Rattle.octseq_dns_data.specs.Local.{form}
 use Rattle.octseq_dns_data.specs.Strings.{HasString}
 use Rattle.octseq_dns_data.specs.Typed.{mx_parts, naptr_parts, soa_parts, srv_parts}
 use Rattle.octseq_dns_message.specs.Entry as read
+use Rattle.octseq_dns_message.specs.RecordData.{IsDataOf, IsTyped}
 use Rattle.octseq_dns_name.specs.NameFormat.{wire_has_labels}
 use Rattle.octseq_dns_name.specs.Wire.{wire}
 use Rattle.octseq_dns_text.proofs.ShownData.{mx_shown, naptr_shown, soa_shown, srv_shown, string_at}
-use Rattle.octseq_dns_text.proofs.ShownForms.{name_fits}
-use Rattle.octseq_dns_text.proofs.ShownTypes.{local_fits}
+use Rattle.octseq_dns_text.proofs.ShownForms.{each_rest, name_fits}
+use Rattle.octseq_dns_text.proofs.ShownTypes.{local_fits, local_same}
 use Rattle.octseq_dns_text.specs.DataShown.{rdata_octets}
-use Rattle.octseq_dns_compose.specs.MessageShown.{HasNoForm}
-use Rattle.octseq_format.specs.Canonical.{IsSound, many_next}
+use Rattle.octseq_dns_compose.specs.MessageShown.{HasNoForm, StaysUnknown}
+use Rattle.octseq_format.specs.Canonical.{IsSound, many_next, many_rest}
 use Rattle.octseq_format.specs.Pair.{both_octets, both_say, past_both}
 use Rattle.octseq_format.specs.Row.{Row}
 
@@ -200,12 +203,44 @@ alone rtype class rdata fits of =
     let has = has_fields rtype class octets fields (fields_fit (bare_rdata rdata) fits) (fields_plain rdata) in
     data_is_read (own_record rtype class octets) (bare_rdata rdata) has fits of
 
-pub says_alone : (rtype class : ℕ) (w inside : Window) (rdata : ParsedRdata) → IsSound w → IsSound inside
-    → rtype < 65536 → (((other : ParsedRdata) → ¬ IsTypedData rtype class w inside other)
-    → HasNoForm rtype class (rest inside)) → SaysData rtype class w inside rdata → SaysAlone rtype class rdata
-says_alone rtype class w inside rdata sound in_it few own (inl is) =
-    alone rtype class rdata (typed_fits rtype class w inside rdata sound in_it is)
-    (typed_of rtype class w inside rdata (rdata_octets rdata) is)
-says_alone rtype class w inside rdata sound in_it few own (inr (same, none)) =
-    subst (SaysAlone rtype class) (sym same)
-    (alone rtype class (ParsedRdata.unknown rtype inside) few (refl, own none))
+-- data that is read by itself has its form wherever it is
+local_stays : (rtype class : ℕ) (w inside : Window) → IsSound inside → is_in_message rtype ≡ false
+    → ((other : ParsedRdata) → ¬ IsTypedData rtype class w inside other) → HasNoForm rtype class (rest inside)
+local_stays rtype class w inside sound apart none other is =
+    by_case (either rtype class (whole (rest inside)) (whole (rest inside)) other is)
+  where
+    by_case : IsEither rtype class (whole (rest inside)) (whole (rest inside)) other → ⊥
+    by_case (inl here) = none_in_message rtype class (whole (rest inside)) (whole (rest inside)) apart other here
+    by_case (inr (k, found, same, local)) =
+        let alone = whole (rest inside) in
+        let sound_alone : IsSound alone =
+        record { each = each_rest inside sound; ordered = omega arith; within = omega arith } in
+        let said = (form k).says found in
+        let octets = (form k).octets said in
+        let all = local_same k alone found sound_alone local.whole ∙ rest_whole (rest inside) in
+        let many = ap length all in
+        let long = many_rest inside sound in
+        let fits = local_fits k alone found _ sound_alone local.whole in
+        let taken = (form k).back.back inside said fits (sym all) (omega (arith, many, long)) in
+        none (ParsedRdata.local k taken.it) (record {
+          rtype_is = local.rtype_is;
+          class_is = local.class_is;
+          whole = subst (λ n. (form k).Is inside taken.it (past n inside)) (omega (arith, many, long)) taken.is;
+        })
+
+stays : (r : read.Record) → IsSound r.rdata → StaysUnknown r → (in_it : Bool) → is_in_message r.rtype ≡ in_it
+    → ((other : ParsedRdata) → ¬ IsTyped r other) → HasNoForm r.rtype r.class (rest r.rdata)
+stays r sound own true same = own same
+stays r sound own false same =
+    local_stays r.rtype r.class (at r.rdata.position r.owner.place) r.rdata sound same
+
+pub says_alone : (r : read.Record) (rdata : ParsedRdata) → IsSound (at r.rdata.position r.owner.place)
+    → IsSound r.rdata → r.rtype < 65536 → StaysUnknown r → IsDataOf r rdata → SaysAlone r.rtype r.class rdata
+says_alone r rdata sound in_it few own (inl is) =
+    alone r.rtype r.class rdata
+    (typed_fits r.rtype r.class (at r.rdata.position r.owner.place) r.rdata rdata sound in_it is)
+    (typed_of r.rtype r.class (at r.rdata.position r.owner.place) r.rdata rdata (rdata_octets rdata) is)
+says_alone r rdata sound in_it few own (inr (same, none)) =
+    subst (SaysAlone r.rtype r.class) (sym same)
+    (alone r.rtype r.class (ParsedRdata.unknown r.rtype r.rdata) few
+    (refl, stays r in_it own (is_in_message r.rtype) refl none))

@@ -1,10 +1,10 @@
 -- What the text says that is shown of a record, a question and a message.
-use Rattle.std.specs.Prelude.{◌≡◌, ℕ, false, None, List, [], ◌++◌, map}
+use Rattle.std.specs.Prelude.{◌≡◌, ℕ, true, false, None, List, [], ◌++◌, map}
 use Rattle.std.specs.List.{AllByRecursion, AllZip}
 use Rattle.octseq.specs.Window.{rest, whole}
 use Rattle.octseq_dns.specs.Contents.{Message, Question}
 use Rattle.octseq_dns.specs.ReadBack.{bare}
-use Rattle.octseq_dns_data.specs.Data.{IsTypedData, ParsedRdata}
+use Rattle.octseq_dns_data.specs.Data.{IsTypedData, ParsedRdata, is_in_message}
 use Rattle.octseq_dns_message.specs.Entry as read
 use Rattle.octseq_dns_message.specs.RecordData.{IsDataOf, IsTyped}
 use Rattle.octseq_dns_message.specs.declared.header.Header.{Header}
@@ -83,7 +83,8 @@ pub record IsMessageOf (header : Header) (questions : List Question) (answers au
 abbrev pub HasNoForm : ℕ → ℕ → List ℕ → Type 0
 HasNoForm rtype class octets = (other : ParsedRdata) → ¬ IsTypedData rtype class (whole octets) (whole octets) other
 
--- If the data of a record has no form in the message, it has none by itself either. It may have one only if it has
--- pointers.
+-- If the data of a record has no form in the message, it has none by itself either. This is asked only of the types
+-- that are read in the message.
 abbrev pub StaysUnknown : read.Record → Type 0
-StaysUnknown r = ((other : ParsedRdata) → ¬ IsTyped r other) → HasNoForm r.rtype r.class (rest r.rdata)
+StaysUnknown r = is_in_message r.rtype ≡ true → ((other : ParsedRdata) → ¬ IsTyped r other)
+    → HasNoForm r.rtype r.class (rest r.rdata)

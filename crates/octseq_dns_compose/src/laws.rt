@@ -60,8 +60,8 @@ pub fn a_message_is_what_its_lines_say()
         → IsMessageText text m ↔ IsMessageOf header questions answers authorities additionals m }
 {}
 
-/// The text that is shown of a message is the text of that message, with the same data octet for octet and without the
-/// reserved bit, if no data of an unknown form has a form by itself.
+/// The text that is shown of a message is the text of that message without the reserved bit. Of the types that are read
+/// in the message it is asked that data with no form there has none by itself, as by a pointer into the data.
 ///
 /// It does nothing. Calling it brings the law into the caller's proof.
 pub fn a_shown_message_is_composed_again()
