@@ -13,6 +13,7 @@ pub mod OneMessage
 pub mod Onstage
 pub mod Overrun
 pub mod Places
+pub mod PlainData
 pub mod PlainNames
 pub mod Questions
 pub mod Records

@@ -25,6 +25,7 @@ use Rattle.octseq_dns_text.proofs.OrdinaryTexts.{plain_first}
 use Rattle.octseq_dns_text.proofs.SpacedWords.{IsFeedless, IsLineWord, spaced, spaced_feedless, spaced_words}
 use Rattle.octseq_dns_text.proofs.SpacedWords.{words_before}
 use Rattle.octseq_format.specs.Canonical.{IsSound, sound_on}
+use Rattle.octseq_format.specs.Laws.{Relation}
 use Rattle.octseq_format.specs.Row.{Row, onward_row}
 use Rattle.octseq_dns_compose.specs.HeaderLine.{IsHeaderLine, flag_word, flag_words}
 use Rattle.octseq_dns_compose.specs.MessageShown.{IsSaidOf, ShowsMessage, ShowsWords}
@@ -221,12 +222,29 @@ header_shown h small few less =
 
 -- ---- the message
 
-pub message_shown : (octets text : List ℕ) (header : Header) (questions : List read.Question)
+-- Values are in a window, one after another.
+pub record IsRow {A : Type 0} (Is : Relation A) (row : List A) : Type 0 where
+  pub start : Window
+  pub end : Window
+  pub sound : IsSound start
+  pub are : Row Is start row end
+
+-- The sections of a message are rows.
+pub record AreRows (header : Header) (questions : List read.Question)
+    (answers authorities additionals : List read.Record) : Type 0 where
+  pub id : header.id < 65536
+  pub opcode : header.opcode < 16
+  pub rcode : header.rcode < 16
+  pub asked : IsRow IsQuestion questions
+  pub answered : IsRow IsRecord answers
+  pub authorized : IsRow IsRecord authorities
+  pub added : IsRow IsRecord additionals
+
+pub rows_of : (octets : List ℕ) (header : Header) (questions : List read.Question)
     (answers authorities additionals : List read.Record) → AreOctets octets
     → IsMessage octets header questions answers authorities additionals
-    → shown.IsMessageText header questions answers authorities additionals text
-    → ShowsMessage header questions answers authorities additionals text
-message_shown octets text header questions answers authorities additionals each is x =
+    → AreRows header questions answers authorities additionals
+rows_of octets header questions answers authorities additionals each is =
     let w = whole octets in
     let sound : IsSound w = record { each = each; ordered = omega arith; within = omega arith } in
     let numbers = is.header_is.numbers in
@@ -236,24 +254,42 @@ message_shown octets text header questions answers authorities additionals each 
     let s2 = sound_on (onward_row IsQuestion onward_question) past questions u1 s1 qs.1 in
     let s3 = sound_on (onward_row IsRecord onward_record) u1 answers u2 s2 rs.1 in
     let s4 = sound_on (onward_row IsRecord onward_record) u2 authorities u3 s3 us.1 in
+    record {
+      id = fixed_fits 2 header.id w numbers.0 sound numbers.1;
+      opcode = is.header_is.opcode;
+      rcode = is.header_is.rcode;
+      asked = record { start = past; end = u1; sound = s1; are = qs.1 };
+      answered = record { start = u1; end = u2; sound = s2; are = rs.1 };
+      authorized = record { start = u2; end = u3; sound = s3; are = us.1 };
+      added = record { start = u3; end = is.past_sections; sound = s4; are = ds.1 };
+    }
+
+pub message_shown : (text : List ℕ) (header : Header) (questions : List read.Question)
+    (answers authorities additionals : List read.Record) → AreRows header questions answers authorities additionals
+    → shown.IsMessageText header questions answers authorities additionals text
+    → ShowsMessage header questions answers authorities additionals text
+message_shown text header questions answers authorities additionals rows x =
+    let asked = rows.asked in
+    let answered = rows.answered in
+    let authorized = rows.authorized in
+    let added = rows.added in
     let d = x.of_additionals ++ [] in
     let c = x.of_authorities ++ d in
     let b = x.of_answers ++ c in
     let a = questions_text questions ++ b in
-    let small = fixed_fits 2 header.id w numbers.0 sound numbers.1 in
-    let first = header_shown header small is.header_is.opcode is.header_is.rcode in
+    let first = header_shown header rows.id rows.opcode rows.rcode in
     let whole_text = x.whole
     ∙ five (header_line header) (questions_text questions) x.of_answers x.of_authorities x.of_additionals
     ∙ ap (λ t. header_line header ++ (questions_text questions ++ (x.of_answers ++ (x.of_authorities ++ t))))
     (sym (append-nil x.of_additionals)) ∙ append_assoc (header_text header) (10 ∷ []) a in
-    let (lines, begins, asked) =
-    questions_shown (given_word (codes "question") refl (omega arith)) past u1 questions b s1 qs.1 in
-    let r = records_shown (codes "answer") (given_word (codes "answer") refl (omega arith)) u1 u2 answers x.of_answers c
-    s2 rs.1 x.answers_are in
-    let u = records_shown (codes "authority") (given_word (codes "authority") refl (omega arith)) u2 u3 authorities
-    x.of_authorities d s3 us.1 x.authorities_are in
-    let e = records_shown (codes "additional") (given_word (codes "additional") refl (omega arith)) u3 is.past_sections
-    additionals x.of_additionals [] s4 ds.1 x.additionals_are in
+    let (lines, begins, read) = questions_shown (given_word (codes "question") refl (omega arith)) asked.start asked.end
+    questions b asked.sound asked.are in
+    let r = records_shown (codes "answer") (given_word (codes "answer") refl (omega arith)) answered.start answered.end
+    answers x.of_answers c answered.sound answered.are x.answers_are in
+    let u = records_shown (codes "authority") (given_word (codes "authority") refl (omega arith)) authorized.start
+    authorized.end authorities x.of_authorities d authorized.sound authorized.are x.authorities_are in
+    let e = records_shown (codes "additional") (given_word (codes "additional") refl (omega arith)) added.start
+    added.end additionals x.of_additionals [] added.sound added.are x.additionals_are in
     let taken : TakesLine first.words text a = (header_text header, whole_text, first.one_line, first.are) in
     record {
       answers_said = r.said;
@@ -264,6 +300,6 @@ message_shown octets text header questions answers authorities additionals each 
       additionals_are = e.are;
       says =
           says_lines text a b c d [] (header_said header) first.words (map bare questions) r.said u.said e.said
-          lines r.lines u.lines e.lines taken first.is begins asked
+          lines r.lines u.lines e.lines taken first.is begins read
           r.begins r.read u.begins u.read e.begins e.read refl;
     }

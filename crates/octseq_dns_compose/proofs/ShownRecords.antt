@@ -100,16 +100,16 @@ question_shown w q v sound (u, named, (a, rtype, class)) =
 -- ---- records
 
 -- The values of a record fit, and its data is in its windows.
-record IsFit (w u : Window) (r : Record) : Type 0 where
-  named : HasName w r.owner u
-  rtype : r.rtype < 65536
-  class : r.class < 65536
-  ttl : r.ttl < 4294967296
-  place : IsSound (at r.rdata.position r.owner.place)
-  inside : IsSound r.rdata
-  few : left r.rdata ≤ 65535
+pub record IsFit (w u : Window) (r : Record) : Type 0 where
+  pub named : HasName w r.owner u
+  pub rtype : r.rtype < 65536
+  pub class : r.class < 65536
+  pub ttl : r.ttl < 4294967296
+  pub place : IsSound (at r.rdata.position r.owner.place)
+  pub inside : IsSound r.rdata
+  pub few : left r.rdata ≤ 65535
 
-record_fit : (w : Window) (r : Record) (v : Window) → IsSound w → IsRecord w r v → (u : Window) × IsFit w u r
+pub record_fit : (w : Window) (r : Record) (v : Window) → IsSound w → IsRecord w r v → (u : Window) × IsFit w u r
 record_fit w r v sound (u, named, (a, rtype, (b, class, (c, ttl, (has, is, moved))))) =
     let s0 = sound_on onward_name w r.owner u sound named in
     let s1 = fixed_on 2 r.rtype u a s0 rtype in

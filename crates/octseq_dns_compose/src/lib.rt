@@ -21,8 +21,8 @@ mod take;
 pub use error::{ComposeError, Place};
 pub use fault::a_text_has_one_fault;
 pub use laws::{
-    a_message_is_what_its_lines_say, a_text_is_of_one_message, messages_are_read_as_shown,
-    records_are_read_as_shown,
+    a_message_is_what_its_lines_say, a_shown_message_is_composed_again, a_text_is_of_one_message,
+    messages_are_read_as_shown, records_are_read_as_shown,
 };
 pub use message::{a_refused_text_is_no_message, compose_text};
 pub use record::{RecordHead, scan_record};

@@ -16,6 +16,7 @@ pub mod Outcomes
 pub mod ParamsTexts
 pub mod Plain
 pub mod PlainNames
+pub mod PlainWires
 pub mod ReadTexts
 pub mod ReaderLengths
 pub mod RunTexts

@@ -1,5 +1,5 @@
 -- The text of data is read back.
-use Rattle.std.proofs.Common.{◌≡◌, ℕ, ◌≤◌, ◌<◌, ◌^◌, inl, inr, Some, None, List, [], ◌∷◌, ◌++◌, length, map}
+use Rattle.std.proofs.Common.{true, ◌≡◌, ℕ, ◌≤◌, ◌<◌, ◌^◌, inl, inr, Some, None, List, [], ◌∷◌, ◌++◌, length, map}
 use Rattle.std.proofs.Common.{refl, sym, ap, ◌∙◌, subst, append-nil, arith, decimal, codes}
 use Rattle.std.specs.List.{AllByRecursion, flat_map}
 use Rattle.std.specs.Net.Text.{ipv4_text}
@@ -28,7 +28,8 @@ use Rattle.octseq_dns_text.proofs.OrdinaryTexts.{decimal_first, hex_first, ipv4_
 use Rattle.octseq_dns_text.proofs.ShownFields.{hex_shown, string_shown}
 use Rattle.octseq_dns_text.proofs.ShownForms.{IsShownForm}
 use Rattle.octseq_dns_text.proofs.ShownForms.{Shown, ◌shown_before◌, a_name, a_string, all_octets_of}
-use Rattle.octseq_dns_text.proofs.ShownForms.{each_rest, four_octets, one_be, shown_alone, two_octets}
+use Rattle.octseq_dns_text.proofs.ShownForms.{each_rest, four_octets, shown_alone, two_octets}
+use Rattle.octseq_dns_text.proofs.PlainWires.{one_be}
 use Rattle.octseq_dns_text.proofs.ShownTypes.{data_shown, local_shown}
 use Rattle.octseq_dns_text.proofs.SpacedWords.{IsFeedless, IsFirst, IsLineWord, spaced, spaced_feedless, spaced_map}
 use Rattle.octseq_dns_text.proofs.SpacedWords.{spaced_words}
@@ -131,8 +132,9 @@ strings_shown w v (string ∷ strings) sound (some, (u, is, row)) =
 
 -- ---- data that is read in the message
 
+-- forms whose names may have pointers
 abbrev IsAlone : List Field → Form → Type 0
-IsAlone fields form = IsShownForm fields tail.Nothing form
+IsAlone fields form = IsShownForm true fields tail.Nothing form
 
 pub mx_shown : IsAlone (field.U16 ∷ field.Name ∷ [])
     (number 2 followed_by alone domain_name)

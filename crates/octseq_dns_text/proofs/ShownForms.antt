@@ -3,8 +3,7 @@ use Rattle.std.proofs.Common.{◌≡◌, ℕ, ◌+◌, ◌-◌, ◌≤◌, ◌^�
 use Rattle.std.proofs.Common.{subst, arith, append-nil, decimal}
 use Rattle.std.proofs.lemmas.List.Elements.{All-from_recursion}
 use Rattle.std.specs.List.{All, AllByRecursion}
-use Rattle.octseq.proofs.WrittenBack.{AreOctets, as_be}
-use Rattle.octseq.proofs.Written.{be_one}
+use Rattle.octseq.proofs.WrittenBack.{AreOctets}
 use Rattle.octseq.specs.Integer.{be, octets_be}
 use Rattle.octseq.specs.OctetsText.{string_text}
 use Rattle.octseq.specs.Window.{Window, nested, rest}
@@ -29,6 +28,12 @@ use Rattle.octseq_format.specs.Counted.{Counted, counted_octets}
 use Rattle.octseq_format.specs.Fixed.{IsFixed, canonical_fixed, most_fixed}
 use Rattle.octseq_format.specs.Integers.{are_be}
 use Rattle.octseq_format.specs.Pair.{both_octets, both_say}
+use Rattle.std.proofs.lemmas.Bool.{or_parts}
+use Rattle.std.proofs.Math.Bool.{true≢false}
+use Rattle.std.proofs.Common.{Bool, true, false, ◌||◌, append_assoc}
+use Rattle.octseq_format.specs.Rest.{IsRest, canonical_rest}
+use Rattle.octseq_format.specs.Counted.{canonical_counted}
+use Rattle.octseq_dns_text.proofs.PlainWires.{labels_written, one_be}
 use Rattle.octseq_dns_text.proofs.NameWords.{name_first, string_first}
 use Rattle.octseq_dns_text.proofs.OrdinaryTexts.{base32hex_first, base64_first, decimal_first, hex_first, rtype_first}
 use Rattle.octseq_dns_text.proofs.OrdinaryTexts.{salt_first, tag_first}
@@ -61,20 +66,26 @@ pub record ShownAfter (it : Tail) (text octets : List ℕ) : Type 0 where
   pub each : AllByRecursion IsLineWord words
   pub is : IsTailText it words octets
 
--- The text of a part is a word, which is a field of the part's octets. What it says has octets.
-pub record IsShownPart (it : Field) (part : Part) : Type 0 where
+-- The text of a part is a word, which is a field of the part's octets. What it says has octets. They are those that it
+-- takes, unless it may have pointers.
+pub record IsShownPart (may : Bool) (it : Field) (part : Part) : Type 0 where
   pub word : (w : Window) (found : part.Found) (v : Window) → IsSound w → part.Is w found v
       → IsFirst (part.text found) × IsFieldText None it (part.text found) (part.octets (part.says found))
   pub fits : (w : Window) (found : part.Found) (v : Window) → IsSound w → part.Is w found v
       → part.Fits (part.says found)
+  pub written : may ≡ false → (w : Window) (found : part.Found) (v : Window) → IsSound w → part.Is w found v
+      → rest w ≡ part.octets (part.says found) ++ rest v
   pub on : (w : Window) (found : part.Found) (v : Window) → IsSound w → part.Is w found v → IsSound v
 
--- The text of a form consists of the words of a layout. What it says has octets.
-pub record IsShownForm (fields : List Field) (it : Tail) (form : Form) : Type 0 where
+-- The text of a form consists of the words of a layout. What it says has octets. They are those that it takes, unless
+-- it may have pointers.
+pub record IsShownForm (may : Bool) (fields : List Field) (it : Tail) (form : Form) : Type 0 where
   pub shown : (w : Window) (found : form.Found) (v : Window) → IsSound w → form.Is w found v
       → Shown (IsLayoutText None fields it) (form.text found) (form.octets (form.says found))
   pub fits : (w : Window) (found : form.Found) (v : Window) → IsSound w → form.Is w found v
       → form.Fits (form.says found)
+  pub written : may ≡ false → (w : Window) (found : form.Found) (v : Window) → IsSound w → form.Is w found v
+      → rest w ≡ form.octets (form.says found) ++ rest v
 
 -- The text of a form is a tail, with a space before each word.
 pub record IsShownTail (it : Tail) (form : Form) : Type 0 where
@@ -82,13 +93,15 @@ pub record IsShownTail (it : Tail) (form : Form) : Type 0 where
       → ShownAfter it (form.text found) (form.octets (form.says found))
   pub fits : (w : Window) (found : form.Found) (v : Window) → IsSound w → form.Is w found v
       → form.Fits (form.says found)
+  pub written : (w : Window) (found : form.Found) (v : Window) → IsSound w → form.Is w found v
+      → rest w ≡ form.octets (form.says found) ++ rest v
 
 -- ---- one after another
 
-module _ {it : Field} {part : Part} {fields : List Field} {end : Tail} {form : Form} where
+module _ {a b : Bool} {it : Field} {part : Part} {fields : List Field} {end : Tail} {form : Form} where
   infixr 5 ◌shown_before◌
-  pub ◌shown_before◌ : IsShownPart it part → IsShownForm fields end form
-      → IsShownForm (it ∷ fields) end (part followed_by form)
+  pub ◌shown_before◌ : IsShownPart a it part → IsShownForm b fields end form
+      → IsShownForm (a || b) (it ∷ fields) end (part followed_by form)
   unfolding both_octets both_say
   one shown_before two = record {
     shown = λ w found v sound is.
@@ -96,24 +109,32 @@ module _ {it : Field} {part : Part} {fields : List Field} {end : Tail} {form : F
         let after = two.shown is.0 found.1 v (one.on w found.0 is.0 sound is.1) is.2 in
         let word = part.text found.0 in
         let octets = part.octets (part.says found.0) in
-        let rest = form.octets (form.says found.1) in
+        let others = form.octets (form.says found.1) in
         record {
           word = word;
           more = after.word ∷ after.more;
           spelled = ap (λ t. word ++ 32 ∷ t) after.spelled;
           first = here.0;
           each = ((after.first.0, after.first.1), after.each);
-          is = (word, after.word ∷ after.more, octets, rest, refl, here.1, after.is, refl);
+          is = (word, after.word ∷ after.more, octets, others, refl, here.1, after.is, refl);
         };
     fits = λ w found v sound is. record {
       first = one.fits w found.0 is.0 sound is.1;
       second = two.fits is.0 found.1 v (one.on w found.0 is.0 sound is.1) is.2;
     };
+    written = λ plain w found v sound is.
+        let both = or_parts a b plain in
+        let x = part.octets (part.says found.0) in
+        let y = form.octets (form.says found.1) in
+        let on = one.on w found.0 is.0 sound is.1 in
+        one.written both.0 w found.0 is.0 sound is.1 ∙ ap (λ t. x ++ t) (two.written both.1 is.0 found.1 v on is.2)
+        ∙ sym (append_assoc x y (rest v));
   }
 
-module _ {it : Field} {part : Part} {end : Tail} {form : Form} where
+module _ {may : Bool} {it : Field} {part : Part} {end : Tail} {form : Form} where
   infixr 5 ◌shown_with◌
-  pub ◌shown_with◌ : IsShownPart it part → IsShownTail end form → IsShownForm (it ∷ []) end (part then_each form)
+  pub ◌shown_with◌ : IsShownPart may it part → IsShownTail end form
+      → IsShownForm may (it ∷ []) end (part then_each form)
   unfolding both_octets both_say
   one shown_with two = record {
     shown = λ w found v sound is.
@@ -121,23 +142,29 @@ module _ {it : Field} {part : Part} {end : Tail} {form : Form} where
         let after = two.shown is.0 found.1 v (one.on w found.0 is.0 sound is.1) is.2 in
         let word = part.text found.0 in
         let octets = part.octets (part.says found.0) in
-        let rest = form.octets (form.says found.1) in
+        let others = form.octets (form.says found.1) in
         record {
           word = word;
           more = after.words;
           spelled = ap (λ t. word ++ t) after.spelled;
           first = here.0;
           each = after.each;
-          is = (word, after.words, octets, rest, refl, here.1, after.is, refl);
+          is = (word, after.words, octets, others, refl, here.1, after.is, refl);
         };
     fits = λ w found v sound is. record {
       first = one.fits w found.0 is.0 sound is.1;
       second = two.fits is.0 found.1 v (one.on w found.0 is.0 sound is.1) is.2;
     };
+    written = λ plain w found v sound is.
+        let x = part.octets (part.says found.0) in
+        let y = form.octets (form.says found.1) in
+        let on = one.on w found.0 is.0 sound is.1 in
+        one.written plain w found.0 is.0 sound is.1 ∙ ap (λ t. x ++ t) (two.written is.0 found.1 v on is.2)
+        ∙ sym (append_assoc x y (rest v));
   }
 
-pub shown_alone : {it : Field} {part : Part} → IsShownPart it part
-    → IsShownForm (it ∷ []) tail.Nothing (alone part)
+pub shown_alone : {may : Bool} {it : Field} {part : Part} → IsShownPart may it part
+    → IsShownForm may (it ∷ []) tail.Nothing (alone part)
 shown_alone {part = part} one = record {
   shown = λ w found v sound is.
       let here = one.word w found v sound is in
@@ -152,6 +179,7 @@ shown_alone {part = part} one = record {
         is = (word, [], octets, [], refl, here.1, (refl, refl), sym (append-nil octets));
       };
   fits = one.fits;
+  written = one.written;
 }
 
 -- ---- parts of one word
@@ -166,48 +194,53 @@ number_on k n w v sound is = (canonical_fixed (are_be k)).on w n v sound is
 digits_first : (k n : ℕ) → k ≤ 4 → n < 256 ^ k → IsFirst (decimal n)
 digits_first k n few small = decimal_first n (most_fixed k (omega (arith, few)) n small)
 
-pub one_octet : IsShownPart field.U8 (number 1)
+pub one_octet : IsShownPart false field.U8 (number 1)
 one_octet = record {
   word = λ w n v sound is.
       let small = number_fits 1 n w v sound is in
       (digits_first 1 n (omega arith) small, number_shown 1 n (omega arith) small);
   fits = λ w n v sound is. number_fits 1 n w v sound is;
+  written = λ plain w n v sound is. ((canonical_fixed (are_be 1)).written w n v sound is).1;
   on = λ w n v sound is. number_on 1 n w v sound is;
 }
 
-pub two_octets : IsShownPart field.U16 (number 2)
+pub two_octets : IsShownPart false field.U16 (number 2)
 two_octets = record {
   word = λ w n v sound is.
       let small = number_fits 2 n w v sound is in
       (digits_first 2 n (omega arith) small, number_shown 2 n (omega arith) small);
   fits = λ w n v sound is. number_fits 2 n w v sound is;
+  written = λ plain w n v sound is. ((canonical_fixed (are_be 2)).written w n v sound is).1;
   on = λ w n v sound is. number_on 2 n w v sound is;
 }
 
-pub four_octets : IsShownPart field.U32 (number 4)
+pub four_octets : IsShownPart false field.U32 (number 4)
 four_octets = record {
   word = λ w n v sound is.
       let small = number_fits 4 n w v sound is in
       (digits_first 4 n (omega arith) small, number_shown 4 n (omega arith) small);
   fits = λ w n v sound is. number_fits 4 n w v sound is;
+  written = λ plain w n v sound is. ((canonical_fixed (are_be 4)).written w n v sound is).1;
   on = λ w n v sound is. number_on 4 n w v sound is;
 }
 
-pub a_time : IsShownPart field.Time time
+pub a_time : IsShownPart false field.Time time
 a_time = record {
   word = λ w n v sound is.
       let small = number_fits 4 n w v sound is in
       (digits_first 4 n (omega arith) small, time_shown n small);
   fits = λ w n v sound is. number_fits 4 n w v sound is;
+  written = λ plain w n v sound is. ((canonical_fixed (are_be 4)).written w n v sound is).1;
   on = λ w n v sound is. number_on 4 n w v sound is;
 }
 
-pub a_type : IsShownPart field.Rtype rtype_number
+pub a_type : IsShownPart false field.Rtype rtype_number
 a_type = record {
   word = λ w n v sound is.
       let small = number_fits 2 n w v sound is in
       (rtype_first n small, rtype_shown n small);
   fits = λ w n v sound is. number_fits 2 n w v sound is;
+  written = λ plain w n v sound is. ((canonical_fixed (are_be 2)).written w n v sound is).1;
   on = λ w n v sound is. number_on 2 n w v sound is;
 }
 
@@ -222,17 +255,19 @@ name_fits w name v sound is =
     let labels : Named w = (name.labels, ∣ (v, is.1) ∣₁) in
     record { each = named_labels w labels sound.within; short = is.1.short }
 
-pub a_name : IsShownPart field.Name domain_name
+pub a_name : IsShownPart true field.Name domain_name
 a_name = record {
   word = λ w name v sound is. (name_first name.labels, name_is_shown w name v sound is);
   fits = λ w name v sound is. name_fits w name v sound is;
+  written = λ plain. absurd (true≢false plain);
   on = λ w name v sound is. sound_on onward_name w name v sound is;
 }
 
-pub a_plain_name : IsShownPart field.Name plain_name
+pub a_plain_name : IsShownPart false field.Name plain_name
 a_plain_name = record {
   word = λ w name v sound is. (name_first name.labels, name_is_shown w name v sound (named w v name is));
   fits = λ w name v sound is. name_fits w name v sound (named w v name is);
+  written = λ plain w name v sound is. labels_written w.position w v name.labels 0 sound refl is.1.has_labels;
   on = λ w name v sound is. sound_on onward_name w name v sound (named w v name is);
 }
 
@@ -243,9 +278,6 @@ each_rest w sound = each_taken (w.end - w.position) _ (each_dropped w.position w
 
 pub all_octets_of : (octets : List ℕ) → AreOctets octets → All (λ octet. octet < 256) octets
 all_octets_of octets each = All-from_recursion (λ octet. octet < 256) octets each
-
-pub one_be : (n : ℕ) → n < 256 → octets_be 1 n ≡ n ∷ []
-one_be n small = ap (octets_be 1) (sym (be_one n)) ∙ as_be 1 (n ∷ []) refl (small, tt)
 
 -- octets after their length
 counted : (octets : List ℕ) → length octets ≤ 255
@@ -275,7 +307,7 @@ record IsShownString (it : Field) (HasForm : List ℕ → Type 0) (text : List �
       → IsFirst (text octets) × IsFieldText None it (text octets) (length octets ∷ octets)
 
 a_counted : {it : Field} {HasForm : List ℕ → Type 0} {text : List ℕ → List ℕ} → IsShownString it HasForm text
-    → IsShownPart it (string HasForm text it)
+    → IsShownPart false it (string HasForm text it)
 a_counted {it = it} {HasForm = HasForm} {text = text} shows = record {
   word = λ w place v sound is.
       let each = counted_each HasForm w place v sound is in
@@ -286,29 +318,33 @@ a_counted {it = it} {HasForm = HasForm} {text = text} shows = record {
       let form = (counted_each HasForm w place v sound is).1 in
       let few = shows.few (rest place) form in
       record { tag_fits = omega (arith, few); inside = record { inside = (tt, form); many = refl } };
+  written = λ plain w place v sound is.
+      let (n, u, number, (least, room, formed, moved)) = is in
+      let all : Counted 1 0 IsRest w place v = (n, u, number, (least, room, formed.0, moved)) in
+      ((canonical_counted {k = 1} {extra = 0} canonical_rest).written w place v sound all).1;
   on = λ w place v sound is. counted_on HasForm w place v sound is;
 }
 
-pub a_string : IsShownPart field.String quoted
+pub a_string : IsShownPart false field.String quoted
 a_string = a_counted {HasForm = IsString} (record {
   few = λ octets is. is;
   word = λ octets each is.
       let all = all_octets_of octets each in (string_first octets all, string_shown octets all is);
 })
 
-pub a_salt : IsShownPart field.Salt salt
+pub a_salt : IsShownPart false field.Salt salt
 a_salt = a_counted {HasForm = IsString} (record {
   few = λ octets is. is;
   word = λ octets each is. (salt_first octets, salt_shown octets each is);
 })
 
-pub a_hash : IsShownPart field.OwnerHash owner_hash
+pub a_hash : IsShownPart false field.OwnerHash owner_hash
 a_hash = a_counted {HasForm = IsSomeString} (record {
   few = λ octets is. is.1;
   word = λ octets each is. (base32hex_first octets is.0, hash_shown octets each is.0 is.1);
 })
 
-pub a_tag : IsShownPart field.Tag (string IsCaaTag (λ tag. tag) field.Tag)
+pub a_tag : IsShownPart false field.Tag (string IsCaaTag (λ tag. tag) field.Tag)
 a_tag = a_counted {HasForm = IsCaaTag} (record {
   few = λ tag is. is.1;
   word = λ tag each is. (tag_first tag is.0, (tag, (refl, is.0), is.1, refl));
@@ -329,26 +365,27 @@ one_word it word octets first is = record {
 
 -- all octets that are left, of which there is one
 some_octets : {it : Tail} {text : List ℕ → List ℕ} → ((octets : List ℕ) → AreOctets octets → 1 ≤ length octets
-    → IsFirst (text octets) × IsTailText it (text octets ∷ []) octets) → IsShownForm [] it (octets_of IsSome text it)
+    → IsFirst (text octets) × IsTailText it (text octets ∷ []) octets) → IsShownForm false [] it (octets_of IsSome text it)
 some_octets {it = it} {text = text} shows = record {
   shown = λ w place v sound is.
       let each = subst (λ p. AreOctets (rest p)) (sym is.0.0) (each_rest w sound) in
       let both = shows (rest place) each is.1 in
       one_word it (text (rest place)) (rest place) both.0 both.1;
   fits = λ w place v sound is. (tt, is.1);
+  written = λ plain w place v sound is. (canonical_rest.written w place v sound is.0).1;
 }
 
-pub a_digest : IsShownForm [] tail.Hex some_hexadecimal
+pub a_digest : IsShownForm false [] tail.Hex some_hexadecimal
 a_digest = some_octets (λ octets each some. (hex_first octets some, hex_shown octets each))
 
-pub a_key : IsShownForm [] tail.Base64 some_base64
+pub a_key : IsShownForm false [] tail.Base64 some_base64
 a_key = some_octets (λ octets each some. (base64_first octets some, base64_shown octets each))
 
-pub a_target : IsShownForm [] tail.Target (octets_of IsSome string_text tail.Target)
+pub a_target : IsShownForm false [] tail.Target (octets_of IsSome string_text tail.Target)
 a_target = some_octets (λ octets each some.
     let all = all_octets_of octets each in (string_first octets all, value_shown octets 1 all some))
 
-pub a_value : IsShownForm [] tail.Value (all_octets string_text tail.Value)
+pub a_value : IsShownForm false [] tail.Value (all_octets string_text tail.Value)
 a_value = record {
   shown = λ w place v sound is.
       let each = subst (λ p. AreOctets (rest p)) (sym is.0) (each_rest w sound) in
@@ -356,4 +393,5 @@ a_value = record {
       one_word tail.Value (string_text (rest place)) (rest place) (string_first (rest place) all)
       (value_shown (rest place) 0 all (omega arith));
   fits = λ w place v sound is. tt;
+  written = λ plain w place v sound is. (canonical_rest.written w place v sound is).1;
 }

@@ -10,6 +10,7 @@ use Rattle.octseq_dns_data.specs.Typed.{bitmap, svc_params}
 use Rattle.octseq_dns_data.specs.SvcParams.{params_of}
 use Rattle.octseq_dns_data.specs.SvcParamsText.{param_text}
 use Rattle.octseq_dns_scan.specs.Word.{IsWord}
+use Rattle.octseq_format.specs.Rest.{canonical_rest}
 use Rattle.octseq_dns_text.proofs.BitmapTypes.{bitmap_again, types_distinct, types_few}
 use Rattle.octseq_dns_text.proofs.OrdinaryTexts.{rtype_first}
 use Rattle.octseq_dns_text.proofs.Shown.{params_shown, shown_feedless, shown_words}
@@ -37,6 +38,7 @@ the_params = record {
         is = params_shown octets each is.1;
       };
   fits = λ w place v sound is. (tt, is.1);
+  written = λ w place v sound is. (canonical_rest.written w place v sound is.0).1;
 }
 
 type_words : (rtypes : List ℕ) → AllByRecursion (λ rtype. rtype < 65536) rtypes
@@ -62,4 +64,5 @@ a_bitmap = record {
             (types_shown rtypes all (types_distinct octets is.1));
       };
   fits = λ w place v sound is. (tt, is.1);
+  written = λ w place v sound is. (canonical_rest.written w place v sound is.0).1;
 }

@@ -1,15 +1,17 @@
 -- The text of data of each type that is read by itself consists of the words of the type's layout.
-use Rattle.std.proofs.Common.{◌≡◌, ℕ, Bool, true, false, inr, Some, None, List, [], ◌∷◌}
-use Rattle.std.proofs.Common.{refl, sym, ap, ◌∙◌, subst}
+use Rattle.std.proofs.Common.{◌≡◌, ℕ, Bool, true, false, inr, Some, None, List, [], ◌∷◌, ◌++◌}
+use Rattle.std.proofs.Common.{refl, sym, ap, ◌∙◌, subst, append-nil}
 use Rattle.std.proofs.lemmas.Bool.Decides.{Decides-eqb}
 use Rattle.std.specs.Prelude.{nat_eq}
-use Rattle.octseq.specs.Window.{Window}
+use Rattle.octseq.specs.Window.{Window, left, past, rest}
 use Rattle.octseq_dns_data.specs.Form.{Form, no_form}
 use Rattle.octseq_dns_data.specs.Typed.{IsClass, IsOfClass, KnownType, form, in_any_class, in_class_in, known_in}
 use Rattle.octseq_dns_data.specs.Typed.{known_types, layout_of, pick}
+use Rattle.octseq_dns_data.specs.Local.{IsWhole}
 use Rattle.octseq_dns_data.specs.Rtype as types
 use Rattle.octseq_dns_scan.specs.Word.{AreWords}
 use Rattle.octseq_format.specs.Canonical.{IsSound}
+use Rattle.octseq_format.specs.Rest.{nothing_left}
 use Rattle.octseq_dns_text.proofs.ShownForms.{IsShownForm, Shown, ◌shown_before◌, ◌shown_with◌, a_digest, a_hash}
 use Rattle.octseq_dns_text.proofs.ShownForms.{a_key, a_plain_name, a_salt, a_string, a_tag, a_target, a_time}
 use Rattle.octseq_dns_text.proofs.ShownForms.{a_type, a_value, four_octets, one_octet, shown_alone, two_octets}
@@ -43,25 +45,29 @@ record IsShownType (number : ℕ) (it : KnownType) : Type 0 where
       → it.form.Is w found v → ShowsData number class (it.form.text found) (it.form.octets (it.form.says found))
   fits : (w : Window) (found : it.form.Found) (v : Window) → IsSound w → it.form.Is w found v
       → it.form.Fits (it.form.says found)
+  written : (w : Window) (found : it.form.Found) (v : Window) → IsSound w → it.form.Is w found v
+      → rest w ≡ it.form.octets (it.form.says found) ++ rest v
 
 of_any : {fields : List Field} {end : Tail} (number : ℕ) (f : Form)
-    → ((class : ℕ) → layout_of number class ≡ Some (layout_value fields end)) → IsShownForm fields end f
+    → ((class : ℕ) → layout_of number class ≡ Some (layout_value fields end)) → IsShownForm false fields end f
     → IsShownType number (in_any_class number f)
 of_any {fields = fields} {end = end} number f known shows = record {
   shown = λ class w found v sound any is.
       data_shown number class fields end (f.text found) (f.octets (f.says found)) (known class)
       (shows.shown w found v sound is);
   fits = shows.fits;
+  written = shows.written refl;
 }
 
 of_in : {fields : List Field} {end : Tail} (number : ℕ) (f : Form)
-    → layout_of number 1 ≡ Some (layout_value fields end) → IsShownForm fields end f
+    → layout_of number 1 ≡ Some (layout_value fields end) → IsShownForm false fields end f
     → IsShownType number (in_class_in number f)
 of_in {fields = fields} {end = end} number f known shows = record {
   shown = λ class w found v sound in_one is.
       data_shown number class fields end (f.text found) (f.octets (f.says found))
       (ap (layout_of number) in_one ∙ known) (shows.shown w found v sound is);
   fits = shows.fits;
+  written = shows.written refl;
 }
 
 abbrev AreShown : List KnownType → Type 0
@@ -124,6 +130,7 @@ none_shown : (n : ℕ) → IsShownType n (in_any_class n no_form)
 none_shown n = record {
   shown = λ class w found v sound any is. absurd is;
   fits = λ w found v sound is. absurd is;
+  written = λ w found v sound is. absurd is;
 }
 
 known_shown : (known : List KnownType) (n : ℕ) → AreShown known → IsShownType n (known_in known n)
@@ -142,3 +149,12 @@ local_shown rtype class w found v sound of is =
 pub local_fits : (rtype : ℕ) (w : Window) (found : (form rtype).Found) (v : Window) → IsSound w
     → (form rtype).Is w found v → (form rtype).Fits ((form rtype).says found)
 local_fits rtype w found v sound is = (known_shown known_types rtype all_shown).fits w found v sound is
+
+-- If it takes its whole window, these are the octets of the window.
+pub local_same : (rtype : ℕ) (w : Window) (found : (form rtype).Found) → IsSound w → IsWhole (form rtype).Is w found
+    → (form rtype).octets ((form rtype).says found) ≡ rest w
+local_same rtype w found sound is =
+    let v = past (left w) w in
+    let octets = (form rtype).octets ((form rtype).says found) in
+    let all = (known_shown known_types rtype all_shown).written w found v sound is in
+    sym (all ∙ ap (λ t. octets ++ t) (nothing_left w v sound.ordered refl) ∙ append-nil octets)

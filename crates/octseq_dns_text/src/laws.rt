@@ -6,8 +6,9 @@ ghost use Rattle.std.specs.Net.Text.{ipv4_text};
 ghost use Rattle.octseq.proofs.WrittenBack.{AreOctets};
 ghost use Rattle.octseq.specs.Integer.{octets_be};
 ghost use Rattle.octseq.specs.OctetsText.{hex_text, ipv6_address_text, opaque_text, string_text};
-ghost use Rattle.octseq.specs.Window.{Window};
+ghost use Rattle.octseq.specs.Window.{Window, rest};
 ghost use Rattle.octseq_dns_data.specs.Data.{IsTypedData};
+ghost use Rattle.octseq_dns_data.specs.Local.{IsLocal, form};
 ghost use Rattle.octseq_dns_data.specs.Mnemonic.{rtype_text};
 ghost use Rattle.octseq_dns_data.specs.RdataText.{rdata_text};
 ghost use Rattle.octseq_dns_data.specs.Tag.{IsCaaTag};
@@ -57,12 +58,15 @@ pub fn fields_are_read_as_shown()
 {}
 
 /// The text that is shown of data consists of words that are data of its type and class, and is read back as the octets
-/// that the data says: data with the form of its type, and any octets that are shown as opaque data.
+/// that the data says: data with the form of its type, and any octets that are shown as opaque data. Data that is read
+/// without the message says its own octets.
 ///
 /// It does nothing. Calling it brings the law into the caller's proof.
 pub fn data_is_read_as_shown()
     ensures typed { (rtype class : ℕ) (w inside : Window) (rdata : ParsedRdata) → IsSound w → IsSound inside
         → IsTypedData rtype class w inside rdata → ShowsData rtype class (rdata_text rdata) (rdata_octets rdata) }
+    ensures own { (rtype class k : ℕ) (inside : Window) (found : (form k).Found) → IsSound inside
+        → IsLocal rtype class inside k found → rdata_octets (ParsedRdata.local k found) ≡ rest inside }
     ensures opaque { (rtype class : ℕ) (octets : List ℕ) → AreOctets octets → length octets ≤ 65535
         → ShowsData rtype class (opaque_text octets) octets }
 {}
