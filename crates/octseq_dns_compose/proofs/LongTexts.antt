@@ -16,7 +16,8 @@ use Rattle.octseq_dns_compose.specs.TooLong.{IsTooLong, data_octets}
 use Rattle.octseq_dns_compose.proofs.Faults.{no_text}
 use Rattle.octseq_dns_compose.proofs.HeaderLines.{HeaderTexts}
 use Rattle.octseq_dns_compose.proofs.LineFaults.{Line, line_once, line_same, splits_same}
-use Rattle.octseq_dns_compose.proofs.MessageFaults.{IsSection, below_four, no_entry, section_in, section_is, word_is, word_of}
+use Rattle.octseq_dns_compose.proofs.MessageFaults.{IsSection, below_four, no_entry, section_in, section_is, word_is}
+use Rattle.octseq_dns_compose.proofs.MessageFaults.{word_of}
 use Rattle.octseq_dns_compose.proofs.OneMessage.{entry_once, header_once, with_once}
 
 -- ---- texts that go on to be too long
@@ -39,7 +40,8 @@ LongDataAfter (words ∷ lines) from text = (entry : Entry) × (rest : List ℕ)
 
 abbrev pub GoesLong : ℕ → Option ℕ → ℕ → Message → List ℕ → Type 0
 GoesLong most limit from m text =
-    ((lines : List Line) × LongAfter most limit lines from m text) ⊎ ((lines : List Line) × LongDataAfter lines from text)
+    ((lines : List Line) × LongAfter most limit lines from m text)
+    ⊎ ((lines : List Line) × LongDataAfter lines from text)
 
 long_after : (most : ℕ) (limit : Option ℕ) (lines : List Line) (from : ℕ) (m all : Message) (entries : List Entry)
     (text ahead : List ℕ) → BeginsWithLines lines text ahead → AreEntries from entries lines
@@ -73,7 +75,8 @@ long_data_after : (lines : List Line) (from : ℕ) (entries : List Entry) (entry
     (text ahead line after : List ℕ) → BeginsWithLines lines text ahead
     → AreEntries from (entries ++ entry ∷ []) (lines ++ words ∷ []) → Splits ahead line after → AreWords words line
     → 65535 < length (data_octets entry) → LongDataAfter lines from text
-long_data_after [] from entries entry words text ahead line after begins (other, more, is, less, said, over) split are past =
+long_data_after [] from entries entry words text ahead line after begins (other, more, is, less, said, over) split are
+    past =
     let same = last_is entries entry other (is ∙ ap (λ l. other ∷ l) over) in (
       other,
       words,
@@ -85,10 +88,13 @@ long_data_after [] from entries entry words text ahead line after begins (other,
       said,
       subst (λ e. 65535 < length (data_octets e)) same past,
     )
-long_data_after (first ∷ lines) from [] entry words text ahead line after begins (other, more, is, less, said, rest) split are past =
+long_data_after (first ∷ lines) from [] entry words text ahead line after begins
+    (other, more, is, less, said, rest) split are past =
     let none : more ≡ [] = cc in
-    absurd (none_are (section_of other) lines words (subst (λ l. AreEntries (section_of other) l (lines ++ words ∷ [])) none rest))
-long_data_after (first ∷ lines) from (one ∷ entries) entry words text ahead line after (mid, taken, begins) (other, more, is, less, said, rest) split are past =
+    absurd (none_are (section_of other) lines words
+    (subst (λ l. AreEntries (section_of other) l (lines ++ words ∷ [])) none rest))
+long_data_after (first ∷ lines) from (one ∷ entries) entry words text ahead line after (mid, taken, begins)
+    (other, more, is, less, said, rest) split are past =
     let same : more ≡ entries ++ entry ∷ [] = cc in (
       other,
       mid,
@@ -108,7 +114,8 @@ header_message : (most : ℕ) (limit : Option ℕ) (header : Header) (first : Li
     → IsPast limit (length (octets_of most all)) → GoesLong most limit 0 (headed_message header) ahead
 header_message most limit header first text ahead taken is [] other entries left begins say e all with past =
     absurd (cc (e))
-header_message most limit header first text ahead taken is (words ∷ lines) other entries left (mid, takes, begins) say e all with past =
+header_message most limit header first text ahead taken is (words ∷ lines) other entries left (mid, takes, begins) say e
+    all with past =
     let one = line_once first words text ahead mid taken takes in
     let head : say.first ≡ words = cc in
     let tail : say.others ≡ lines = cc in
@@ -127,9 +134,11 @@ header_data : (most : ℕ) (limit : Option ℕ) (header : Header) (first : Line)
     (words : Line) (left line after : List ℕ) → BeginsWithLines lines text left → ¬ (lines ≡ [])
     → (say : SayEntries (lines ++ words ∷ []) other (entries ++ entry ∷ [])) → Splits left line after
     → AreWords words line → 65535 < length (data_octets entry) → GoesLong most limit 0 (headed_message header) ahead
-header_data most limit header first text ahead taken [] other entries entry words left line after begins some say split are past =
+header_data most limit header first text ahead taken [] other entries entry words left line after begins some say split
+    are past =
     absurd (some refl)
-header_data most limit header first text ahead taken (front ∷ lines) other entries entry words left line after (mid, takes, begins) some say split are past =
+header_data most limit header first text ahead taken (front ∷ lines) other entries entry words left line after
+    (mid, takes, begins) some say split are past =
     let one = line_once first front text ahead mid taken takes in
     let lines_are = say.lines_are in
     let tail : say.others ≡ lines ++ words ∷ [] = cc in

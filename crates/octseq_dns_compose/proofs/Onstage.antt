@@ -9,7 +9,8 @@ use Rattle.octseq_dns_message.specs.declared.header.Header.{Header}
 use Rattle.octseq_dns_message.specs.declared.header.HeaderCounts.{HeaderCounts}
 use Rattle.octseq_dns_scan.specs.Word.{AreWords}
 use Rattle.octseq_dns_compose.specs.HeaderLine.{IsHeaderLine}
-use Rattle.octseq_dns_compose.specs.MessageText.{Entry, IsEntryLine, IsQuestionLine, IsRecordLine, IsRecordOf, IsWith, Said}
+use Rattle.octseq_dns_compose.specs.MessageText.{Entry, IsEntryLine, IsQuestionLine, IsRecordLine, IsRecordOf, IsWith}
+use Rattle.octseq_dns_compose.specs.MessageText.{Said}
 use Rattle.octseq_dns_compose.specs.MessageText.{headed_message, section_of}
 use Rattle.octseq_dns_compose.specs.Onward.{Adds, AddsQuestion, AddsRecord, AddsSome, AddsUpTo}
 use Rattle.octseq_dns_compose.specs.QuestionText.{IsAnyQuestion}
@@ -18,7 +19,8 @@ use Rattle.octseq_dns_compose.specs.TextLines.{IsFaultyLine, IsLongLine, IsNoneO
 use Rattle.octseq_dns_compose.specs.TooLong.{IsTooLong, data_octets}
 use Rattle.octseq_dns_compose.proofs.Composing.{Records}
 use Rattle.octseq_dns_compose.proofs.LineFaults.{Line}
-use Rattle.octseq_dns_compose.proofs.LongTexts.{GoesLong, next_section, no_long_line, no_section, pass_line, past_header}
+use Rattle.octseq_dns_compose.proofs.LongTexts.{GoesLong, next_section, no_long_line, no_section, pass_line}
+use Rattle.octseq_dns_compose.proofs.LongTexts.{past_header}
 use Rattle.octseq_dns_compose.proofs.MessageFaults.{IsSection, here_none, of_questions, word_in}
 
 -- ---- lines that are taken one after another

@@ -16,7 +16,8 @@ pub record AddsQuestion (most : ℕ) (limit : Option ℕ) (m : Message) (text : 
   pub after_is : after ≡ more_questions m q
   pub within : IsWithin limit (length (octets_of most after))
 
--- The next line says a record of a section, and with it a message stays within a limit. Its data has a limit of its own.
+-- The next line says a record of a section, and with it a message stays within a limit. Its data has a limit of its
+-- own.
 pub record AddsRecord (most : ℕ) (limit data_limit : Option ℕ) (section : List ℕ)
     (more : Message → Record → Message) (m : Message) (text : List ℕ) (after : Message) (ahead : List ℕ)
     : Type 0 where

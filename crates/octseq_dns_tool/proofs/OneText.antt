@@ -11,7 +11,8 @@ same_place : (place other : Place) → (place.line ≡ other.line) × (place.off
 same_place place other (line, offset) = λ i. record { line = line i; offset = offset i }
 
 -- by the laws of texts: a text is of one message, or has one fault, and not both
-module _ (one_message : (text : List ℕ) (m other : Message) → IsMessageText text m → IsMessageText text other → m ≡ other)
+module _ (one_message : (text : List ℕ) (m other : Message) → IsMessageText text m → IsMessageText text other
+    → m ≡ other)
     (one_fault : (text : List ℕ) (first number offset line place : ℕ)
     → IsLineFault IsAnyText text first number offset → IsLineFault IsAnyText text first line place
     → (number ≡ line) × (offset ≡ place))

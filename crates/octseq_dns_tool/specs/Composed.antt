@@ -11,8 +11,8 @@ use Rattle.octseq_dns_tool.specs.Taken.{left_line}
 use Rattle.octseq_dns_tool.specs.declared.engine.rewrite.Composing.{Composing}
 use Rattle.octseq_dns_tool.specs.declared.engine.rewrite.Composing.TheVariants.{Written, Malformed, Long}
 
--- The message of which a text says the first lines, or all of them, takes more than 65,535 octets, or the data of a line
--- does.
+-- The message of which a text says the first lines, or all of them, takes more than 65,535 octets, or the data of a
+-- line does.
 abbrev pub IsLongText : List ℕ → Type 0
 IsLongText = IsTooLong 16384 (Some 65535)
 

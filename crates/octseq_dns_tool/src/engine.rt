@@ -22,7 +22,7 @@ mod tests;
 
 /// The help text of the program.
 const HELP: &str = "\
-octseq_dns_tool reads DNS messages, and shows them as text or writes them anew. It also composes them of their text.
+octseq_dns_tool reads DNS messages, and shows them as text or writes them anew; it composes them of their text, too.
 
 usage: octseq_dns_tool [COMMAND [FILE]]
 
@@ -36,18 +36,19 @@ commands, the first where none is named:
   rewrite  writes such messages anew, with their names compressed; it leaves out what is no message, what can't be
            moved and what takes more than 65,535 octets
            octseq_dns_tool rewrite FILE > OUTPUT
-  compose  composes messages of texts as stream shows them, with their names compressed, and writes each after its
-           length in 2 octets; it leaves out what is no such text and what takes more than 65,535 octets; one empty line
-           or more is between two texts, and none has to be after the last, but a line feed has to end each line
+  compose  composes messages of texts, as stream shows them, as a stream, with their names compressed; it leaves out
+           what is the text of no message, and what takes more than 65,535 octets; one or more empty lines are between
+           two texts, and a line feed has to end each line
            octseq_dns_tool compose TEXTS > OUTPUT
   --help   writes this
 
 Of what is malformed or left out, standard error has a line with the number of the message and the place where reading
-stopped, in a text as line and octet, or the reason. If such a line can't be written, none follows, the output goes on, and the status is 4.
+stopped, in a text the line and the octet in it, or the reason. If such a line can't be written, none follows, the
+output goes on, and the status is 4.
 
 status:
   0  all went well
-  1  the message is malformed, a message is left out, or the stream ends inside one
+  1  the message is malformed, a message or a text is left out, or the stream ends inside a message
   2  the words name no command
   3  there was not enough memory
   4  a read or a write failed

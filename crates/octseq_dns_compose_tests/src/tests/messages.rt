@@ -1,6 +1,7 @@
 //! Messages composed of their text.
 use crate::tests::unwrap;
-use octseq::Array;
+use octseq::builder::AsOctetsMut;
+use octseq::{Array, OctetsBuilder, Truncate};
 use octseq_asserts::assert_equal;
 use octseq_dns::StaticCompressor;
 use octseq_dns_compose::{ComposeError, Place, compose_text};
@@ -29,7 +30,8 @@ fn a_message_is_composed(rt: HostRuntime) {
 #[test]
 fn a_pointer_in_opaque_data_leads_nowhere(rt: HostRuntime) {
     for (line, data) in [
-        // the exchange points at the preference, whose first octet would be the root
+        // a header has 12 octets, and a record of the root 11 before its data; the exchange points at the preference,
+        // whose first octet would be the root
         (
             b"answer . 0 IN MX \\# 4 000ac000\n".as_slice(),
             b"\0\x0a\xc0\0".as_slice(),
@@ -51,9 +53,7 @@ fn a_pointer_in_opaque_data_leads_nowhere(rt: HostRuntime) {
         );
         unwrap(&rt, text.extend_from_slice(line));
         let octets = unwrap(&rt, composed(rt.alloc(), &text));
-        let written = octets.as_slice();
-        assert_equal!(&rt, written.len(), 12 + 11 + data.len());
-        assert_equal!(&rt, &written[23..], data);
+        assert_equal!(&rt, octets.as_slice().get(23..), Some(data));
     }
 }
 
@@ -66,10 +66,14 @@ fn a_plain_name_in_opaque_data_is_compressed(rt: HostRuntime) {
     assert_equal!(&rt, octets.as_slice(), wanted.as_slice());
 }
 
-/// Composes the message of a text in an array of `N` octets.
-fn composed_in<const N: usize>(alloc: Global, text: &[u8]) -> Result<usize, ComposeError> {
+/// Composes the message of a text in a builder, and returns its number of octets.
+fn composed_in<B: OctetsBuilder + Truncate + AsOctetsMut>(
+    alloc: Global,
+    text: &[u8],
+    octets: B,
+) -> Result<usize, ComposeError> {
     let table = StaticCompressor::<16>::new();
-    let message = compose_text(alloc, text, Array::<N>::new(), table)?;
+    let message = compose_text(alloc, text, octets, table)?;
     Ok(message.as_slice().len())
 }
 
@@ -80,19 +84,19 @@ fn the_first_line_beyond_the_limit_decides(rt: HostRuntime) {
     let alloc = rt.alloc();
     let short = Err(ComposeError::Short);
     let header = b"id 1 opcode 0 rcode 0 flags\n";
-    assert_equal!(&rt, composed_in::<11>(alloc, header), short);
-    assert_equal!(&rt, composed_in::<12>(alloc, header), Ok(12));
+    assert_equal!(&rt, composed_in(alloc, header, Array::<11>::new()), short);
+    assert_equal!(&rt, composed_in(alloc, header, Array::<12>::new()), Ok(12));
     let question = b"id 1 opcode 0 rcode 0 flags\nquestion . IN A\nanswer\n";
     let third = Err(ComposeError::Malformed(Place { line: 3, offset: 6 }));
-    assert_equal!(&rt, composed_in::<11>(alloc, question), short);
-    assert_equal!(&rt, composed_in::<16>(alloc, question), short);
-    assert_equal!(&rt, composed_in::<17>(alloc, question), third);
+    assert_equal!(&rt, composed_in(alloc, question, Array::<11>::new()), short);
+    assert_equal!(&rt, composed_in(alloc, question, Array::<16>::new()), short);
+    assert_equal!(&rt, composed_in(alloc, question, Array::<17>::new()), third);
     let records =
         b"id 1 opcode 0 rcode 0 flags\nauthority . 0 IN A 1.2.3.4\nadditional . 0 IN TXT a\nx\n";
     let fourth = Err(ComposeError::Malformed(Place { line: 4, offset: 0 }));
-    assert_equal!(&rt, composed_in::<26>(alloc, records), short);
-    assert_equal!(&rt, composed_in::<39>(alloc, records), short);
-    assert_equal!(&rt, composed_in::<40>(alloc, records), fourth);
+    assert_equal!(&rt, composed_in(alloc, records, Array::<26>::new()), short);
+    assert_equal!(&rt, composed_in(alloc, records, Array::<39>::new()), short);
+    assert_equal!(&rt, composed_in(alloc, records, Array::<40>::new()), fourth);
 }
 
 /// Data has at most 65,535 octets: 256 strings of 255 octets, each after its length, are too many.

@@ -31,7 +31,8 @@ pub(super) enum Composing {
     Long,
 }
 
-/// Rewrites or composes one message after another. It holds the octets of the last one, and a table that is used for each.
+/// Rewrites or composes one message after another. It holds the octets of the last one, and a table that is used for
+/// each.
 #[derive(Drop)]
 pub(super) struct Writer {
     pub(super) octets: Vec<u8>,

@@ -5,7 +5,8 @@ use Rattle.octseq.proofs.Errors.{on_err}
 use Rattle.octseq_cli.proofs.TextSteps.{last_more, text_more}
 use Rattle.octseq_cli.specs.Texts.{IsEnded, IsText}
 use Rattle.octseq_cli.proofs.texts.append_lines.Goals as goal
-use Rattle.octseq_cli.proofs.texts.append_lines.Goals.{else-is_ended-via-then-is_ended+else-is_feed, else-is_ended-via-else-is_ended}
+use Rattle.octseq_cli.proofs.texts.append_lines.Goals.{else-is_ended-via-then-is_ended+else-is_feed}
+use Rattle.octseq_cli.proofs.texts.append_lines.Goals.{else-is_ended-via-else-is_ended}
 
 feed_is : (octet : ℕ) → nat_eq octet 10 ≡ true → octet ≡ 10
 feed_is octet e = grind (arith, nat_tests)

@@ -1,4 +1,5 @@
-use Rattle.std.proofs.Common.{◌≡◌, ◌∙◌, ◌∷◌, ◌++◌, [], ℕ, List, Bool, true, false, Option, Result, Ok, Err, refl, sym, ap}
+use Rattle.std.proofs.Common.{◌≡◌, ◌∙◌, ◌∷◌, ◌++◌, [], ℕ, List, Bool, true, false, Option, Result, Ok, Err, refl}
+use Rattle.std.proofs.Common.{sym, ap}
 use Rattle.std.proofs.Common.{append_assoc}
 use Rattle.std.proofs.KnownBytes.{Consumes-trans}
 use Rattle.std.specs.Io.KnownBytes.{Consumes, IsAtEnd}
@@ -46,7 +47,8 @@ returns-clause-text g c =
 -- octets were read before a call failed
 err_read : (given mid left : Option (List ℕ)) (first : List ℕ) → Consumes given mid first
     → ((read : List ℕ) × Consumes mid left read) → (read : List ℕ) × Consumes given left read
-err_read given mid left first was (read, consumed) = (first ++ read, Consumes-trans given mid left first read was consumed)
+err_read given mid left first was (read, consumed) =
+    (first ++ read, Consumes-trans given mid left first read was consumed)
 
 on_err_more : {T E : Type 0} {P Q : Type 0} (result : Result T E) → (P → Q) → OnErr result P → OnErr result Q
 on_err_more (Ok x) f p = p

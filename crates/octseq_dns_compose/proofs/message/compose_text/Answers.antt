@@ -12,7 +12,8 @@ use Rattle.octseq_dns_compose.proofs.Composing.{long_header, long_questions, lon
 use Rattle.octseq_dns_compose.proofs.Composing.{records_stage, same_stage, stop_at, whole_text}
 use Rattle.octseq_dns_compose.proofs.MessageFaults.{header_fault}
 use Rattle.octseq_dns_compose.proofs.LongTexts.{no_long_header}
-use Rattle.octseq_dns_compose.proofs.Onstage.{additional_data, answer_data, authority_data, header_onstage, over_onstage}
+use Rattle.octseq_dns_compose.proofs.Onstage.{additional_data, answer_data, authority_data, header_onstage}
+use Rattle.octseq_dns_compose.proofs.Onstage.{over_onstage}
 use Rattle.octseq_dns_compose.proofs.Onstage.{questions_onstage, questions_stopped, records_onstage, records_stopped}
 use Rattle.octseq_dns_compose.proofs.Onstage.{same_onstage}
 use Rattle.octseq_dns_compose.proofs.Places.{malformed_at}
@@ -129,8 +130,8 @@ returns-in_err-push_records g c =
           (c.set_header.ensures.written blank_message c.in_ok-message.ensures.written)
           (c.set_header.ensures.push_limit ∙ c.in_ok-message.ensures.push_limit)
           (subst (IsWithin limit) (sym c.set_header.ensures.len) c.in_ok-message.ensures.within)) in
-          let k = same_onstage most limit text _ 1 c.push_questions.new.message c.answer-answers.result c.answer-answers.ensures
-          (questions_onstage h c.push_questions.new.message _ (c.in_ok-push_questions.ensures.added h.m h.writes)
+          let k = same_onstage most limit text _ 1 c.push_questions.new.message c.answer-answers.result
+          c.answer-answers.ensures (questions_onstage h c.push_questions.new.message _ (c.in_ok-push_questions.ensures.added h.m h.writes)
           c.in_ok-push_questions.ensures.push_limit qs.2) in
           records_stopped answers k place.offset answer_data (bad k.m k.writes);
       within = search rules;
@@ -173,8 +174,8 @@ returns-in_err-push_records-2 g c =
           (c.set_header.ensures.written blank_message c.in_ok-message.ensures.written)
           (c.set_header.ensures.push_limit ∙ c.in_ok-message.ensures.push_limit)
           (subst (IsWithin limit) (sym c.set_header.ensures.len) c.in_ok-message.ensures.within)) in
-          let k = same_onstage most limit text _ 1 c.push_questions.new.message c.answer-answers.result c.answer-answers.ensures
-          (questions_onstage h c.push_questions.new.message _ (c.in_ok-push_questions.ensures.added h.m h.writes)
+          let k = same_onstage most limit text _ 1 c.push_questions.new.message c.answer-answers.result
+          c.answer-answers.ensures (questions_onstage h c.push_questions.new.message _ (c.in_ok-push_questions.ensures.added h.m h.writes)
           c.in_ok-push_questions.ensures.push_limit qs.2) in
           let l = same_onstage most limit text _ 2 c.push_records.new.message c.authority-authorities.result
           c.authority-authorities.ensures (records_onstage answers k c.push_records.new.message _
@@ -224,8 +225,8 @@ returns-in_err-push_records-3 g c =
           (c.set_header.ensures.written blank_message c.in_ok-message.ensures.written)
           (c.set_header.ensures.push_limit ∙ c.in_ok-message.ensures.push_limit)
           (subst (IsWithin limit) (sym c.set_header.ensures.len) c.in_ok-message.ensures.within)) in
-          let k = same_onstage most limit text _ 1 c.push_questions.new.message c.answer-answers.result c.answer-answers.ensures
-          (questions_onstage h c.push_questions.new.message _ (c.in_ok-push_questions.ensures.added h.m h.writes)
+          let k = same_onstage most limit text _ 1 c.push_questions.new.message c.answer-answers.result
+          c.answer-answers.ensures (questions_onstage h c.push_questions.new.message _ (c.in_ok-push_questions.ensures.added h.m h.writes)
           c.in_ok-push_questions.ensures.push_limit qs.2) in
           let l = same_onstage most limit text _ 2 c.push_records.new.message c.authority-authorities.result
           c.authority-authorities.ensures (records_onstage answers k c.push_records.new.message _
@@ -292,8 +293,8 @@ returns-then-not-is_empty-clause-first g c = λ place is.
     (c.set_header.ensures.written blank_message c.in_ok-message.ensures.written)
     (c.set_header.ensures.push_limit ∙ c.in_ok-message.ensures.push_limit)
     (subst (IsWithin limit) (sym c.set_header.ensures.len) c.in_ok-message.ensures.within)) in
-    let k = same_onstage most limit text _ 1 c.push_questions.new.message c.answer-answers.result c.answer-answers.ensures
-    (questions_onstage h c.push_questions.new.message _ (c.in_ok-push_questions.ensures.added h.m h.writes)
+    let k = same_onstage most limit text _ 1 c.push_questions.new.message c.answer-answers.result
+    c.answer-answers.ensures (questions_onstage h c.push_questions.new.message _ (c.in_ok-push_questions.ensures.added h.m h.writes)
     c.in_ok-push_questions.ensures.push_limit qs.2) in
     let l = same_onstage most limit text _ 2 c.push_records.new.message c.authority-authorities.result
     c.authority-authorities.ensures (records_onstage answers k c.push_records.new.message _
@@ -321,8 +322,8 @@ returns-clause-within g c =
     (c.set_header.ensures.written blank_message c.in_ok-message.ensures.written)
     (c.set_header.ensures.push_limit ∙ c.in_ok-message.ensures.push_limit)
     (subst (IsWithin limit) (sym c.set_header.ensures.len) c.in_ok-message.ensures.within)) in
-    let k = same_onstage most limit text _ 1 c.push_questions.new.message c.answer-answers.result c.answer-answers.ensures
-    (questions_onstage h c.push_questions.new.message _ (c.in_ok-push_questions.ensures.added h.m h.writes)
+    let k = same_onstage most limit text _ 1 c.push_questions.new.message c.answer-answers.result
+    c.answer-answers.ensures (questions_onstage h c.push_questions.new.message _ (c.in_ok-push_questions.ensures.added h.m h.writes)
     c.in_ok-push_questions.ensures.push_limit qs.2) in
     let l = same_onstage most limit text _ 2 c.push_records.new.message c.authority-authorities.result
     c.authority-authorities.ensures (records_onstage answers k c.push_records.new.message _

@@ -48,8 +48,8 @@ lines-preserved g c =
       c.in-Ok-push_record.ensures.push_limit ∙ so_far.3,
       c.in-Ok-push_record.ensures.borrows ∙ so_far.4,
       λ m writes. added_more m c.args.lines.now.ahead.now (so_far.5 m writes) (λ after ahead here.
-          record_added g.T.Compressor.most (least_limit c.args.message.now.push_limit (message_limit g.B.AsOctets.limit))
-          g.D.AsOctets.limit c.args.section.now g.S.RecordSection.more after c.lines.lines.ahead.now ahead
+          record_added g.T.Compressor.most
+          (least_limit c.args.message.now.push_limit (message_limit g.B.AsOctets.limit)) g.D.AsOctets.limit c.args.section.now g.S.RecordSection.more after c.lines.lines.ahead.now ahead
           c.next_record.new.lines.ahead.now one (c.args.section.now ∷ some.0) pushed.0 c.push_record.new.message.state
           c.push_record.new.message.header c.push_record.new.message.counts here.1 some.1
           (refl, subst (IsRecordText None (head_of c.in-Some.head) some.0) (sym c.as_ref.ensures.value) some.2)
