@@ -3,7 +3,7 @@ use Rattle.std.proofs.Common.{◌≡◌, ◌⊎◌, ℕ, ◌+◌, ◌≤◌, Opt
 use Rattle.std.proofs.Common.{Bool, true, append_assoc, refl, sym, ap, ◌∙◌, subst, inl, inr, arith}
 use Rattle.std.proofs.lemmas.List.{length-append}
 use Rattle.std.specs.List.{AllByRecursion, AllZip}
-use Rattle.octseq.specs.Limit.{IsPast}
+use Rattle.octseq.specs.Limit.{IsPast, IsWithin}
 use Rattle.octseq_dns.specs.Contents.{Message, Question, Record, counts_of, entries_of}
 use Rattle.octseq_dns.specs.Writes.{Building, Writes, all_more, least_limit, more_additionals, more_answers}
 use Rattle.octseq_dns.specs.Writes.{more_authorities, more_questions}
@@ -97,8 +97,8 @@ section_up_to make section (a ∷ values) of =
 
 -- ---- a text so far
 
--- A text begins with lines of entries, none of which is of a section after the next one. `to` is the section of the last
--- of them, or 0; those of its entries that are of this section on, and before the next one, are over.
+-- A text begins with lines of entries, none of which is of a section after the next one. `to` is the section of the
+-- last of them, or 0. No line of that section, or of a later one before the next, is ahead.
 pub record SaidUpTo (text ahead : List ℕ) (now next : ℕ) : Type 0 where
   pub front : BeginsWithEntries text ahead
   pub last : UpTo next front.entries
@@ -120,6 +120,10 @@ pub record Stage {B T : Type 0} (most : ℕ) (text ahead : List ℕ) (now next :
 pub same_stage : {B T : Type 0} (most : ℕ) (text ahead : List ℕ) (now next : ℕ) (a b : Building B T) → b ≡ a
     → Stage most text ahead now next a → Stage most text ahead now next b
 same_stage most text ahead now next a b same = subst (Stage most text ahead now next) (sym same)
+
+pub within_same : {B T : Type 0} (limit : Option ℕ) (a b : Building B T) → b ≡ a
+    → IsWithin limit (length a.state.octets) → IsWithin limit (length b.state.octets)
+within_same limit a b same = subst (λ (x : Building _ _). IsWithin limit (length x.state.octets)) (sym same)
 
 abbrev header_front : (text ahead : List ℕ) (header : Header) (first : Line) → TakesLine first text ahead
     → IsHeaderLine header first → BeginsWithEntries text ahead
@@ -204,7 +208,8 @@ module _ {A : Type 0} {make : A → Entry} {IsText : A → Line → Type 0} {sec
       → SaidUpTo text b j (section + 1)
   section_said b j values read none =
       let front = now.front in
-      let past = past_section make IsText section now.to values read.lines a b sect.says now.less read.begins read.are in
+      let past =
+      past_section make IsText section now.to values read.lines a b sect.says now.less read.begins read.are in
       let most = reached_most past.to now.to section a b now.less past.reached in
       let small = sect.few in
       record {
@@ -257,7 +262,11 @@ pub record Records (make : Said → Entry) (section : ℕ) (word : List ℕ) (mo
 
 pub answers : Records Entry.answer 1 (codes "answer") more_answers (λ counts. counts.ancount)
 answers = record {
-  sect = record { says = record { of = λ said. refl; is = λ said words is. is }; of = of_answers; few = omega arith };
+  sect = record {
+    says = record { of = λ said. refl; is = λ said words is. is };
+    of = of_answers;
+    few = omega arith;
+  };
   adds = λ m said r is. (r, is, refl);
   octets = λ said. refl;
   counted = counted_answers;
@@ -266,7 +275,11 @@ answers = record {
 
 pub authorities : Records Entry.authority 2 (codes "authority") more_authorities (λ counts. counts.nscount)
 authorities = record {
-  sect = record { says = record { of = λ said. refl; is = λ said words is. is }; of = of_authorities; few = omega arith };
+  sect = record {
+    says = record { of = λ said. refl; is = λ said words is. is };
+    of = of_authorities;
+    few = omega arith;
+  };
   adds = λ m said r is. (r, is, refl);
   octets = λ said. refl;
   counted = counted_authorities;
@@ -275,7 +288,11 @@ authorities = record {
 
 pub additionals : Records Entry.additional 3 (codes "additional") more_additionals (λ counts. counts.arcount)
 additionals = record {
-  sect = record { says = record { of = λ said. refl; is = λ said words is. is }; of = of_additionals; few = omega arith };
+  sect = record {
+    says = record { of = λ said. refl; is = λ said words is. is };
+    of = of_additionals;
+    few = omega arith;
+  };
   adds = λ m said r is. (r, is, refl);
   octets = λ said. refl;
   counted = counted_additionals;
@@ -315,8 +332,8 @@ module _ {A : Type 0} {make : A → Entry} {IsText : A → Line → Type 0} {sec
   section_message : (values : List A) (then : Message) → IsWithAll now.m (map make values) then
       → IsWithAll (headed_message now.said.front.header) (now.said.front.entries ++ map make values) then
   section_message values then more =
-      with_more (headed_message now.said.front.header) now.m then now.said.front.entries (map make values) now.message_is
-      more
+      let front = now.said.front in
+      with_more (headed_message front.header) now.m then front.entries (map make values) now.message_is more
 
   -- and make it too long
   long_message : (limit : Option ℕ) (count : HeaderCounts → ℕ) (b : List ℕ) (j : ℕ) (values : List A) (then : Message)

@@ -9,7 +9,7 @@ use Rattle.octseq_dns_compose.specs.RecordText.{Head, IsNameWord, IsTtlWord, IsC
 use Rattle.octseq_dns_compose.specs.RecordText.{BeginsWithList, TtlAndClass, IsRecordText, IsAnyRecord}
 use Rattle.octseq_dns_compose.specs.Take.{Then}
 use Rattle.octseq_dns_compose.specs.TakeOrder.{NoneNext, IsNoOrder}
-use Rattle.octseq_dns_compose.proofs.Faults.{Leads, led_fault, first_fault}
+use Rattle.octseq_dns_compose.proofs.Faults.{Leads, Reached, at_front, first_fault, past_words}
 use Rattle.octseq_dns_compose.proofs.Named.{no_number}
 use Rattle.octseq_dns_compose.proofs.Samples.{class_sample, one_class, one_rtype, name_sample, rtype_sample, ttl_sample}
 use Rattle.octseq_dns_compose.proofs.Samples.{data_sample}
@@ -108,13 +108,11 @@ fault_at_owner origin ahead start none =
     first_fault (IsAnyRecord origin) ahead start (record_goes origin)
     (λ word left taken goes. none word left goes.2.0.labels taken goes.2.1.0) (λ over octets is. is.1)
 
-pub fault_after_owner : (origin : Option (List (List ℕ))) (labels : List (List ℕ)) (word ahead mid : List ℕ)
-    (start next offset : ℕ) → IsNameWord origin labels word → TakesWord word ahead mid
-    → next + length mid ≡ start + length ahead → IsFault (AfterOwner origin) mid next offset
-    → IsFault (IsAnyRecord origin) ahead start offset
-fault_after_owner origin labels word ahead mid start next offset is taken place fault =
-    led_fault (IsAnyRecord origin) (AfterOwner origin) (word ∷ []) (owner_leads origin labels word is) ahead mid start
-    next offset (mid, taken, refl) place fault
+pub past_owner : {text mid : List ℕ} {start next : ℕ} (origin : Option (List (List ℕ))) (labels : List (List ℕ))
+    → ((word : List ℕ) × TakesWord word text mid × IsNameWord origin labels word)
+    → next + length mid ≡ start + length text → Reached (IsAnyRecord origin) (AfterOwner origin) text start mid next
+past_owner origin labels taken place =
+    past_words (taken.0 ∷ []) at_front (owner_leads origin labels taken.0 taken.2) (_, taken.1, refl) place
 
 -- at the TTL and the class
 no_first_on : (origin : Option (List (List ℕ))) (ahead word left : List ℕ) → NoneNext IsTtlWord ahead
@@ -177,15 +175,15 @@ fault_at_order origin ahead after start next place (IsNoOrder.no_ttl class word 
       ends = λ over octets. no_end_one origin word octets;
     }
 
-pub fault_after_order : (origin : Option (List (List ℕ))) (ttl class : ℕ) (first second ahead mid after : List ℕ)
-    (start next offset : ℕ)
-    → (IsTtlWord ttl first × IsClassWord class second) ⊎ (IsClassWord class first × IsTtlWord ttl second)
-    → TakesWord first ahead mid → TakesWord second mid after → next + length after ≡ start + length ahead
-    → IsFault (AfterClass origin class) after next offset → IsFault (AfterOwner origin) ahead start offset
-fault_after_order origin ttl class first second ahead mid after start next offset are one two place fault =
-    led_fault (AfterOwner origin) (AfterClass origin class) (first ∷ second ∷ [])
-    (order_leads origin ttl class first second are) ahead after start next offset (mid, one, (after, two, refl)) place
-    fault
+pub past_order : {text ahead after : List ℕ} {start next then : ℕ} (origin : Option (List (List ℕ))) (ttl class : ℕ)
+    → Reached (IsAnyRecord origin) (AfterOwner origin) text start ahead next
+    → ((first second mid : List ℕ) × TakesWord first ahead mid × TakesWord second mid after
+    × ((IsTtlWord ttl first × IsClassWord class second) ⊎ (IsClassWord class first × IsTtlWord ttl second)))
+    → then + length after ≡ next + length ahead
+    → Reached (IsAnyRecord origin) (AfterClass origin class) text start after then
+past_order origin ttl class so_far taken place =
+    past_words (taken.0 ∷ taken.1 ∷ []) so_far (order_leads origin ttl class taken.0 taken.1 taken.5)
+    (_, taken.3, (_, taken.4, refl)) place
 
 -- at the type
 pub fault_at_rtype : (origin : Option (List (List ℕ))) (class : ℕ) (ahead : List ℕ) (start : ℕ)
@@ -194,13 +192,13 @@ fault_at_rtype origin class ahead start none =
     first_fault (AfterClass origin class) ahead start (class_goes origin class)
     (λ word left taken goes. none word left goes.2.0 taken goes.2.1.0) (λ over octets is. is.1)
 
-pub fault_after_rtype : (origin : Option (List (List ℕ))) (class rtype : ℕ) (word ahead mid : List ℕ)
-    (start next offset : ℕ) → IsRtypeWord rtype word → TakesWord word ahead mid
-    → next + length mid ≡ start + length ahead → IsFault (IsDataText origin rtype class) mid next offset
-    → IsFault (AfterClass origin class) ahead start offset
-fault_after_rtype origin class rtype word ahead mid start next offset is taken place fault =
-    led_fault (AfterClass origin class) (IsDataText origin rtype class) (word ∷ [])
-    (rtype_leads origin class rtype word is) ahead mid start next offset (mid, taken, refl) place fault
+pub past_rtype : {text ahead mid : List ℕ} {start next then : ℕ} (origin : Option (List (List ℕ))) (class rtype : ℕ)
+    → Reached (IsAnyRecord origin) (AfterClass origin class) text start ahead next
+    → ((word : List ℕ) × TakesWord word ahead mid × IsRtypeWord rtype word)
+    → then + length mid ≡ next + length ahead
+    → Reached (IsAnyRecord origin) (IsDataText origin rtype class) text start mid then
+past_rtype origin class rtype so_far taken place =
+    past_words (taken.0 ∷ []) so_far (rtype_leads origin class rtype taken.0 taken.2) (_, taken.1, refl) place
 
 -- ---- a record that is read
 

@@ -1,6 +1,6 @@
 //! Messages, composed of their text.
-ghost use Rattle.std.specs.Prelude.{◌≡◌, ◌⊎◌, ℕ, List, None, true, codes, IfOk, OnOk, IsErrOf};
-ghost use Rattle.octseq.specs.Limit.{IsPast};
+ghost use Rattle.std.specs.Prelude.{◌≡◌, ◌⊎◌, ℕ, List, None, true, codes, length, IfOk, OnOk, IsErrOf};
+ghost use Rattle.octseq.specs.Limit.{IsPast, IsWithin};
 ghost use Rattle.octseq.specs.Refusal.{IsMemory, IsShort, append_error};
 ghost use Rattle.octseq_dns.specs.Blank.{blank_message};
 ghost use Rattle.octseq_dns.specs.Contents.{Message, Question, Record};
@@ -51,6 +51,7 @@ pub fn compose_text<B: OctetsBuilder + Truncate + AsOctetsMut, T: Compressor>(
 ) -> Result<AdditionalBuilder<B, T>, ComposeError>
     ensures ok { IfOk result (λ b. (m : Message) × IsMessageText text.now m
         × Writes T.most m b.state b.header b.counts) }
+    ensures within { IfOk result (λ b. IsWithin (message_limit B.limit) (length b.state.octets)) }
     ensures malformed { (place : Place) → IsErrOf result (ComposeError.Malformed place)
         → IsLineFault IsAnyText text.now 1 place.line place.offset }
     ensures short { IsErrOf result ComposeError.Short → IsTooLong T.most (message_limit B.limit) text.now }
@@ -89,6 +90,7 @@ fn started<B: OctetsBuilder + Truncate + AsOctetsMut, T: Compressor>(
     table: T,
 ) -> Result<MessageBuilder<B, T>, ComposeError>
     ensures written { IfOk result (λ m. Writes T.most blank_message m.state m.header m.counts) }
+    ensures within { IfOk result (λ m. IsWithin (message_limit B.limit) (length m.state.octets)) }
     ensures other { (place : Place) → ¬ IsErrOf result (ComposeError.Malformed place) }
     ensures push_limit { IfOk result (λ m. m.push_limit ≡ None) }
     ensures short { IsErrOf result ComposeError.Short → IsPast B.limit 12 }
@@ -113,6 +115,8 @@ fn push_questions<B: OctetsBuilder + Truncate + AsOctetsMut, T: Compressor>(
         × ((m : Message) → Writes T.most m message.old.state message.old.header message.old.counts
         → Writes T.most (all_more more_questions m questions) message.new.state message.new.header
         message.new.counts)) }
+    ensures within { OnOk result (IsWithin (message_limit B.limit) (length message.old.state.octets)
+        → IsWithin (message_limit B.limit) (length message.new.state.octets)) }
     ensures malformed { (place : Place) → IsErrOf result (ComposeError.Malformed place)
         → IsStop IsQuestionLine (codes "question") IsAnyQuestion lines.old.ahead.now lines.old.number place.line
         place.offset }
@@ -160,6 +164,8 @@ fn push_records<
         × IsNoneOf section.now lines.new.ahead.now
         × HasWritten T.most S.more said message.old.state message.new.state message.old.header message.new.header
         message.old.counts message.new.counts) }
+    ensures within { OnOk result (IsWithin (message_limit B.limit) (length message.old.state.octets)
+        → IsWithin (message_limit B.limit) (length message.new.state.octets)) }
     ensures malformed { (place : Place) → IsErrOf result (ComposeError.Malformed place)
         → IsStop (IsRecordLine section.now) section.now (IsAnyRecord None) lines.old.ahead.now lines.old.number
         place.line place.offset }
@@ -200,6 +206,7 @@ fn push_record<B: OctetsBuilder + Truncate + AsOctetsMut, T: Compressor, S: Reco
         × IsRecordOf (record { head = head_of head.now; octets = octets.now }) r
         × ((m : Message) → Writes T.most m message.old.state message.old.header message.old.counts
         → Writes T.most (S.more m r) message.new.state message.new.header message.new.counts)) }
+    ensures within { OnOk result (IsWithin (message_limit B.limit) (length message.new.state.octets)) }
     ensures short { IsShort append_error result → (r : Record)
         × IsRecordOf (record { head = head_of head.now; octets = octets.now }) r
         × ((m : Message) → Writes T.most m message.old.state message.old.header message.old.counts

@@ -2,12 +2,14 @@
 use Rattle.std.proofs.Common.{◌≡◌, [], length, sym, ◌∙◌, subst, arith, rules}
 use Rattle.std.proofs.lemmas.Bool.{true≢false}
 use Rattle.std.proofs.lemmas.List.{nil_from_length}
+use Rattle.octseq.specs.Limit.{IsWithin}
 use Rattle.octseq_dns.specs.Blank.{blank_message}
+use Rattle.octseq_dns_compress.specs.Composed.{message_limit}
 use Rattle.octseq_dns_compose.specs.MessageText.{IsAnyText}
 use Rattle.octseq_dns_compose.specs.TextLines.{IsFaultyHeader, IsLineFault, TakesLine}
 use Rattle.octseq_dns_compose.proofs.Composing.{additionals, answers, authorities, end_at, header_stage, list_asked}
 use Rattle.octseq_dns_compose.proofs.Composing.{long_header, long_questions, long_records, questions, questions_stage}
-use Rattle.octseq_dns_compose.proofs.Composing.{records_stage, same_stage, stop_at, whole_text}
+use Rattle.octseq_dns_compose.proofs.Composing.{records_stage, same_stage, stop_at, whole_text, within_same}
 use Rattle.octseq_dns_compose.proofs.MessageFaults.{header_fault}
 use Rattle.octseq_dns_compose.proofs.Places.{malformed_at}
 use Rattle.octseq_dns_compose.proofs.message.compose_text.Goals as goal
@@ -27,7 +29,8 @@ returns-clause-ok g c =
     begun in
     let qs = c.in_ok-push_questions.ensures.ok in
     let r = same_stage most text _ _ _ c.push_questions.new.message c.answer-answers.result c.answer-answers.ensures
-    (questions_stage q c.push_questions.new.message _ _ qs.0 qs.1 qs.2 qs.3 c.in_ok-push_questions.ensures.push_limit) in
+    (questions_stage q c.push_questions.new.message _ _ qs.0 qs.1 qs.2 qs.3
+    c.in_ok-push_questions.ensures.push_limit) in
     let rs = c.in_ok-push_records.ensures.ok in
     let u = same_stage most text _ _ _ c.push_records.new.message c.authority-authorities.result
     c.authority-authorities.ensures (records_stage answers r c.push_records.new.message _ _ rs.0 rs.1 rs.2 rs.3
@@ -42,6 +45,17 @@ returns-clause-ok g c =
     let zero : length c.push_records-3.new.lines.ahead.now ≡ 0 = search rules in
     let over = nil_from_length c.push_records-3.new.lines.ahead.now zero in
     (e.m, whole_text most text _ _ _ _ e over, e.writes)
+
+pub returns-clause-within : goal.returns-clause-within
+returns-clause-within g c =
+    let IsIn = IsWithin (message_limit g.B.AsOctets.limit) in
+    let begun : IsIn (length c.set_header.new.self.state.octets) =
+    subst IsIn (sym c.set_header.ensures.len) c.in_ok-message.ensures.within in
+    let same = within_same (message_limit g.B.AsOctets.limit) in
+    let q = c.in_ok-push_questions.ensures.within (same _ _ c.question-questions.ensures begun) in
+    let r = c.in_ok-push_records.ensures.within (same _ _ c.answer-answers.ensures q) in
+    let u = c.in_ok-push_records-2.ensures.within (same _ _ c.authority-authorities.ensures r) in
+    c.in_ok-push_records-3.ensures.within (same _ _ c.additional-additionals.ensures u)
 
 pub returns-in_err-header-clause-malformed : goal.returns-in_err-header-clause-malformed
 returns-in_err-header-clause-malformed g c = λ place is.
@@ -74,6 +88,7 @@ returns-in_err-push_questions g c =
     let stopped = c.in_err-push_questions.ensures in
     record {
       ok = search rules;
+      within = search rules;
       malformed = λ place is.
           stop_at questions q.said place.line place.offset (stopped.malformed place (search (rules, is)));
       short = λ is. long_questions q g.B.AsOctets.limit (stopped.short (search (rules, is)));
@@ -96,10 +111,12 @@ returns-in_err-push_records g c =
     begun in
     let qs = c.in_ok-push_questions.ensures.ok in
     let r = same_stage most text _ _ _ c.push_questions.new.message c.answer-answers.result c.answer-answers.ensures
-    (questions_stage q c.push_questions.new.message _ _ qs.0 qs.1 qs.2 qs.3 c.in_ok-push_questions.ensures.push_limit) in
+    (questions_stage q c.push_questions.new.message _ _ qs.0 qs.1 qs.2 qs.3
+    c.in_ok-push_questions.ensures.push_limit) in
     let stopped = c.in_err-push_records.ensures in
     record {
       ok = search rules;
+      within = search rules;
       malformed = λ place is.
           stop_at answers.sect r.said place.line place.offset (stopped.malformed place (search (rules, is)));
       short = λ is. long_records answers r g.B.AsOctets.limit (stopped.short (search (rules, is)));
@@ -123,7 +140,8 @@ returns-in_err-push_records-2 g c =
     begun in
     let qs = c.in_ok-push_questions.ensures.ok in
     let r = same_stage most text _ _ _ c.push_questions.new.message c.answer-answers.result c.answer-answers.ensures
-    (questions_stage q c.push_questions.new.message _ _ qs.0 qs.1 qs.2 qs.3 c.in_ok-push_questions.ensures.push_limit) in
+    (questions_stage q c.push_questions.new.message _ _ qs.0 qs.1 qs.2 qs.3
+    c.in_ok-push_questions.ensures.push_limit) in
     let rs = c.in_ok-push_records.ensures.ok in
     let u = same_stage most text _ _ _ c.push_records.new.message c.authority-authorities.result
     c.authority-authorities.ensures (records_stage answers r c.push_records.new.message _ _ rs.0 rs.1 rs.2 rs.3
@@ -131,6 +149,7 @@ returns-in_err-push_records-2 g c =
     let stopped = c.in_err-push_records-2.ensures in
     record {
       ok = search rules;
+      within = search rules;
       malformed = λ place is.
           stop_at authorities.sect u.said place.line place.offset (stopped.malformed place (search (rules, is)));
       short = λ is. long_records authorities u g.B.AsOctets.limit (stopped.short (search (rules, is)));
@@ -154,7 +173,8 @@ returns-in_err-push_records-3 g c =
     begun in
     let qs = c.in_ok-push_questions.ensures.ok in
     let r = same_stage most text _ _ _ c.push_questions.new.message c.answer-answers.result c.answer-answers.ensures
-    (questions_stage q c.push_questions.new.message _ _ qs.0 qs.1 qs.2 qs.3 c.in_ok-push_questions.ensures.push_limit) in
+    (questions_stage q c.push_questions.new.message _ _ qs.0 qs.1 qs.2 qs.3
+    c.in_ok-push_questions.ensures.push_limit) in
     let rs = c.in_ok-push_records.ensures.ok in
     let u = same_stage most text _ _ _ c.push_records.new.message c.authority-authorities.result
     c.authority-authorities.ensures (records_stage answers r c.push_records.new.message _ _ rs.0 rs.1 rs.2 rs.3
@@ -166,6 +186,7 @@ returns-in_err-push_records-3 g c =
     let stopped = c.in_err-push_records-3.ensures in
     record {
       ok = search rules;
+      within = search rules;
       malformed = λ place is.
           stop_at additionals.sect d.said place.line place.offset (stopped.malformed place (search (rules, is)));
       short = λ is. long_records additionals d g.B.AsOctets.limit (stopped.short (search (rules, is)));
@@ -189,7 +210,8 @@ returns-then-not-is_empty-clause-malformed g c = λ place is.
     begun in
     let qs = c.in_ok-push_questions.ensures.ok in
     let r = same_stage most text _ _ _ c.push_questions.new.message c.answer-answers.result c.answer-answers.ensures
-    (questions_stage q c.push_questions.new.message _ _ qs.0 qs.1 qs.2 qs.3 c.in_ok-push_questions.ensures.push_limit) in
+    (questions_stage q c.push_questions.new.message _ _ qs.0 qs.1 qs.2 qs.3
+    c.in_ok-push_questions.ensures.push_limit) in
     let rs = c.in_ok-push_records.ensures.ok in
     let u = same_stage most text _ _ _ c.push_records.new.message c.authority-authorities.result
     c.authority-authorities.ensures (records_stage answers r c.push_records.new.message _ _ rs.0 rs.1 rs.2 rs.3

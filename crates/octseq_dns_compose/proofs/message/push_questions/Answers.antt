@@ -3,6 +3,7 @@ use Rattle.octseq_dns_compose.specs.MessageText.{IsQuestionLine}
 use Rattle.octseq_dns_compose.specs.QuestionText.{IsQuestionText}
 use Rattle.octseq_dns_compose.specs.TextLines.{IsNoneOf}
 use Rattle.octseq_dns.specs.Pushed.{pushed_question}
+use Rattle.octseq_dns.proofs.LeastLimit.{within_second}
 use Rattle.octseq_dns.specs.Sections.{takes_questions}
 use Rattle.octseq_dns.specs.Writes.{all_more, least_limit, more_questions}
 use Rattle.octseq_dns_compress.specs.Composed.{message_limit}
@@ -13,7 +14,7 @@ use Rattle.octseq_dns_compose.proofs.Overrun.{push_exceeds}
 use Rattle.octseq_dns_compose.proofs.message.push_questions.Goals as goal
 
 pub lines-init : goal.lines-init
-lines-init g c = ([], read_none IsQuestionLine _ _ _ _ refl refl, λ m writes. writes, refl, refl)
+lines-init g c = ([], read_none IsQuestionLine _ _ _ _ refl refl, λ m writes. writes, λ within. within, refl, refl)
 
 pub returns-in_default-clause-ok : goal.returns-in_default-clause-ok
 returns-in_default-clause-ok g c =
@@ -38,8 +39,10 @@ lines-preserved g c =
       ),
       λ m writes. questions_more g.T.Compressor.most m so_far.0 q _ _ _
           (c.in-Ok-push_question.ensures.written _ (so_far.2 m writes)),
-      c.in-Ok-push_question.ensures.push_limit ∙ so_far.3,
-      c.in-Ok-push_question.ensures.borrows ∙ so_far.4,
+      λ within. within_second c.lines.message.push_limit (message_limit g.B.AsOctets.limit) _
+          c.in-Ok-push_question.ensures.within,
+      c.in-Ok-push_question.ensures.push_limit ∙ so_far.4,
+      c.in-Ok-push_question.ensures.borrows ∙ so_far.5,
     )
 
 pub returns-in-Err-clause-malformed : goal.returns-in-Err-clause-malformed
@@ -61,6 +64,7 @@ returns-in-Err-Short-clause-short g c = λ _.
     let some = if_some c.in-Ok.next _ _ c.in-Some.is c.in-Ok.ensures.some in
     let q = pushed_question c.parsed-qname.result c.in-Some.question.qtype c.in-Some.question.qclass in
     let limit = message_limit g.B.AsOctets.limit in
+    let most = g.T.Compressor.most in
     record {
       values = so_far.0 ++ q ∷ [];
       ahead = c.next_question.new.lines.ahead.now;
@@ -71,11 +75,11 @@ returns-in-Err-Short-clause-short g c = λ _.
             (sym c.parsed-qname.ensures) some.2,
       );
       is = λ m writes.
-          subst (Exceeds g.T.Compressor.most (least_limit c.args.message.now.push_limit limit) (λ counts. counts.qdcount))
+          subst (Exceeds most (least_limit c.args.message.now.push_limit limit) (λ counts. counts.qdcount))
           (sym (more_snoc more_questions m so_far.0 q))
-          (subst (λ l. Exceeds g.T.Compressor.most (least_limit l limit) (λ counts. counts.qdcount)
-          (more_questions (all_more more_questions m so_far.0) q)) so_far.3
-          (push_exceeds takes_questions g.T.Compressor.most (least_limit c.lines.message.push_limit limit) q
+          (subst (λ l. Exceeds most (least_limit l limit) (λ counts. counts.qdcount)
+          (more_questions (all_more more_questions m so_far.0) q)) so_far.4
+          (push_exceeds takes_questions most (least_limit c.lines.message.push_limit limit) q
           c.lines.message.state c.lines.message.header c.lines.message.counts c.in-Err-Short.ensures.reaches
           (c.in-Err-Short.ensures.pushed.short (search rules)) (all_more more_questions m so_far.0)
           (so_far.2 m writes)));

@@ -1,7 +1,9 @@
 -- Questions were read, and written.
 use Rattle.std.proofs.Common.{◌≡◌, List, length}
+use Rattle.octseq.specs.Limit.{IsWithin}
 use Rattle.octseq_dns.specs.Contents.{Message, Question}
 use Rattle.octseq_dns.specs.Writes.{Writes, all_more, more_questions}
+use Rattle.octseq_dns_compress.specs.Composed.{message_limit}
 use Rattle.octseq_dns_compose.specs.MessageText.{HasRead, IsQuestionLine}
 use Rattle.octseq_dns_compose.proofs.message.push_questions.Given as goal
 
@@ -11,6 +13,8 @@ invariant-lines g l = (questions : List Question)
     × ((m : Message) → Writes g.T.Compressor.most m l.fn.message.state l.fn.message.header l.fn.message.counts
     → Writes g.T.Compressor.most (all_more more_questions m questions) l.message.state l.message.header
     l.message.counts)
+    × (IsWithin (message_limit g.B.AsOctets.limit) (length l.fn.message.state.octets)
+    → IsWithin (message_limit g.B.AsOctets.limit) (length l.message.state.octets))
     × (l.message.push_limit ≡ l.fn.message.push_limit)
     × (g.B.AsOctets.borrows l.message.octets ≡ g.B.AsOctets.borrows l.fn.message.octets)
 

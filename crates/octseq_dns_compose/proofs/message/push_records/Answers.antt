@@ -12,7 +12,7 @@ use Rattle.octseq_dns_compose.proofs.message.push_records.Goals as goal
 
 pub lines-init : goal.lines-init
 lines-init g c =
-    ([], read_none (IsRecordLine c.args.section.now) _ _ _ _ refl refl, written_none _ _ _ _ _, refl, refl)
+    ([], read_none (IsRecordLine c.args.section.now) _ _ _ _ refl refl, written_none _ _ _ _ _, λ within. within, refl, refl)
 
 pub returns-in_default-clause-ok : goal.returns-in_default-clause-ok
 returns-in_default-clause-ok g c =
@@ -36,8 +36,9 @@ lines-preserved g c =
           (refl, subst (IsRecordText None (head_of c.in-Some.head) some.0) (sym c.as_ref.ensures.value) some.2),
       written_more g.T.Compressor.most g.S.RecordSection.more so_far.0 one pushed.0 _ _ _ _ _ _ _ _ _ so_far.2 pushed.1
           pushed.2,
-      c.in-Ok-push_record.ensures.push_limit ∙ so_far.3,
-      c.in-Ok-push_record.ensures.borrows ∙ so_far.4,
+      λ within. c.in-Ok-push_record.ensures.within,
+      c.in-Ok-push_record.ensures.push_limit ∙ so_far.4,
+      c.in-Ok-push_record.ensures.borrows ∙ so_far.5,
     )
 
 pub returns-in-Err-clause-malformed : goal.returns-in-Err-clause-malformed
@@ -102,7 +103,7 @@ returns-in-Err-Short-clause-short g c = λ _.
             subst (Exceeds most (least_limit c.args.message.now.push_limit limit) g.S.RecordSection.count)
             (sym (more_snoc more m written.records pushed.0))
             (subst (λ l. Exceeds most (least_limit l limit) g.S.RecordSection.count
-            (more (all_more more m written.records) pushed.0)) so_far.3
+            (more (all_more more m written.records) pushed.0)) so_far.4
             (pushed.2 (all_more more m written.records) (written.written m writes)));
       });
     }
