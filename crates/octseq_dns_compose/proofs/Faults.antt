@@ -108,7 +108,8 @@ at_front = record {
 }
 
 pub past_words : {Is Mid Rest : List (List ℕ) → List ℕ → Type 0} {text ahead after : List ℕ} {start next then : ℕ}
-    (front : List (List ℕ)) → Reached Is Mid text start ahead next → Leads Mid Rest front → BeginsWithWords front ahead after
+    (front : List (List ℕ)) → Reached Is Mid text start ahead next → Leads Mid Rest front
+    → BeginsWithWords front ahead after
     → then + length after ≡ next + length ahead → Reached Is Rest text start after then
 past_words {Is = Is} {text = text} {ahead = ahead} {after = after} front so_far leads begins place = record {
   front = so_far.front ++ front;

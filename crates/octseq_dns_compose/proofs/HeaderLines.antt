@@ -184,7 +184,8 @@ pub past_field : {Is : List (List ℕ) → List ℕ → Type 0} {name : List ℕ
     → ((mid word : List ℕ) × TakesWord name ahead mid × TakesWord word mid after × IsUpTo most n word)
     → then + length after ≡ next + length ahead → Reached Is (Of Rest) text start after then
 past_field {name = name} {most = most} {Rest = Rest} {n = n} so_far taken place =
-    past_words (name ∷ taken.1 ∷ []) so_far (field_leads name taken.1 most n Rest taken.4) (_, taken.2, (_, taken.3, refl)) place
+    past_words (name ∷ taken.1 ∷ []) so_far (field_leads name taken.1 most n Rest taken.4)
+    (_, taken.2, (_, taken.3, refl)) place
 
 pub fault_at_flags : (ahead : List ℕ) (start : ℕ) → ((rest : List ℕ) → ¬ TakesWord (codes "flags") ahead rest)
     → IsFault (Of AfterRcode) ahead start start

@@ -3,7 +3,8 @@ use Rattle.octseq_dns_scan.specs.Word.{TakesWord}
 use Rattle.octseq_dns_scan.specs.Words.{ahead_of}
 use Rattle.octseq_dns_compose.specs.Take.{IsUpTo}
 use Rattle.octseq_dns_compose.proofs.Faults.{Reached, kept_fault, reached_fault}
-use Rattle.octseq_dns_compose.proofs.HeaderLines.{AfterId, AfterOpcode, AfterRcode, HeaderTexts, Of, at_line, fault_after_flags}
+use Rattle.octseq_dns_compose.proofs.HeaderLines.{AfterId, AfterOpcode, AfterRcode, HeaderTexts, Of, at_line}
+use Rattle.octseq_dns_compose.proofs.HeaderLines.{fault_after_flags}
 use Rattle.octseq_dns_compose.proofs.HeaderLines.{fault_at_flags, field_fault, id_text, line_words, opcode_text}
 use Rattle.octseq_dns_compose.proofs.HeaderLines.{past_field, rcode_text}
 use Rattle.octseq_dns_compose.proofs.header.scan_header.Goals as goal

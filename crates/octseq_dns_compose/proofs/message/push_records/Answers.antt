@@ -12,7 +12,8 @@ use Rattle.octseq_dns_compose.proofs.message.push_records.Goals as goal
 
 pub lines-init : goal.lines-init
 lines-init g c =
-    ([], read_none (IsRecordLine c.args.section.now) _ _ _ _ refl refl, written_none _ _ _ _ _, λ within. within, refl, refl)
+    let read = read_none (IsRecordLine c.args.section.now) _ _ _ _ refl refl in
+    ([], read, written_none _ _ _ _ _, λ within. within, refl, refl)
 
 pub returns-in_default-clause-ok : goal.returns-in_default-clause-ok
 returns-in_default-clause-ok g c =
