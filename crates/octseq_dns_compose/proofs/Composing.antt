@@ -3,7 +3,7 @@ use Rattle.std.proofs.Common.{◌≡◌, ◌⊎◌, ℕ, ◌+◌, ◌≤◌, Opt
 use Rattle.std.proofs.Common.{Bool, true, append_assoc, refl, sym, ap, ◌∙◌, subst, inl, inr, arith}
 use Rattle.std.proofs.lemmas.List.{length-append}
 use Rattle.std.specs.List.{AllByRecursion, AllZip}
-use Rattle.octseq.specs.Limit.{IsPast}
+use Rattle.octseq.specs.Limit.{IsPast, IsWithin}
 use Rattle.octseq_dns.specs.Contents.{Message, Question, Record, counts_of, entries_of}
 use Rattle.octseq_dns.specs.Writes.{Building, Writes, all_more, least_limit, more_additionals, more_answers}
 use Rattle.octseq_dns.specs.Writes.{more_authorities, more_questions}
@@ -97,8 +97,8 @@ section_up_to make section (a ∷ values) of =
 
 -- ---- a text so far
 
--- A text begins with lines of entries, none of which is of a section after the next one. `to` is the section of the last
--- of them, or 0; those of its entries that are of this section on, and before the next one, are over.
+-- A text begins with lines of entries, none of which is of a section after the next one. `to` is the section of the
+-- last of them, or 0. No line of that section, or of a later one before the next, is ahead.
 pub record SaidUpTo (text ahead : List ℕ) (now next : ℕ) : Type 0 where
   pub front : BeginsWithEntries text ahead
   pub last : UpTo next front.entries
@@ -117,9 +117,14 @@ pub record Stage {B T : Type 0} (most : ℕ) (text ahead : List ℕ) (now next :
   pub writes : Writes most m b.state b.header b.counts
   pub free : b.push_limit ≡ None
 
-pub same_stage : {B T : Type 0} (most : ℕ) (text ahead : List ℕ) (now next : ℕ) (a b : Building B T) → b ≡ a
+pub same_stage : {B T : Type 0} {most : ℕ} {text ahead : List ℕ} {now next : ℕ} {a b : Building B T} → b ≡ a
     → Stage most text ahead now next a → Stage most text ahead now next b
-same_stage most text ahead now next a b same = subst (Stage most text ahead now next) (sym same)
+same_stage {most = most} {text = text} {ahead = ahead} {now = now} {next = next} same =
+    subst (Stage most text ahead now next) (sym same)
+
+pub within_same : {B T : Type 0} (limit : Option ℕ) (a b : Building B T) → b ≡ a
+    → IsWithin limit (length a.state.octets) → IsWithin limit (length b.state.octets)
+within_same limit a b same = subst (λ (x : Building _ _). IsWithin limit (length x.state.octets)) (sym same)
 
 abbrev header_front : (text ahead : List ℕ) (header : Header) (first : Line) → TakesLine first text ahead
     → IsHeaderLine header first → BeginsWithEntries text ahead
@@ -131,19 +136,24 @@ header_front text ahead header first taken is = record {
   say = record { first = first; others = []; lines_are = refl; header_is = is; entries_are = refl };
 }
 
-pub header_stage : {B T : Type 0} (most : ℕ) (text ahead : List ℕ) (now : ℕ) (header : Header) (first : Line)
-    (b : Building B T) → TakesLine first text ahead → IsHeaderLine header first → now ≡ 2
+-- The line of a header was read, and the next one has this number.
+abbrev ReadsHeader : (text ahead : List ℕ) (number now : ℕ) → Header → Type 0
+ReadsHeader text ahead number now header =
+    (first : Line) × TakesLine first text ahead × IsHeaderLine header first × (now ≡ number + 1)
+
+pub header_stage : {B T : Type 0} {most : ℕ} {text whole ahead : List ℕ} {number now : ℕ} (header : Header)
+    (b : Building B T) → whole ≡ text → number ≡ 1 → ReadsHeader whole ahead number now header
     → Writes most (headed_message header) b.state b.header b.counts → b.push_limit ≡ None
     → Stage most text ahead now 0 b
-header_stage most text ahead now header first b taken is two writes free = record {
+header_stage {text = text} {ahead = ahead} header b same one read writes free = record {
   said = record {
-    front = header_front text ahead header first taken is;
+    front = header_front text ahead header read.0 (subst (λ t. TakesLine read.0 t ahead) same read.1) read.2;
     last = tt;
-    place = two;
+    place = let two = read.3 in omega (arith, one, two);
     to = 0;
     less = omega arith;
     few = omega arith;
-    leads = after_header header first is;
+    leads = after_header header read.0 read.2;
     none = λ entry after before. absurd (omega (arith, before));
   };
   m = headed_message header;
@@ -151,6 +161,17 @@ header_stage most text ahead now header first b taken is two writes free = recor
   writes = writes;
   free = free;
 }
+
+pub long_header : {text whole ahead : List ℕ} {now : ℕ} (number most : ℕ) (limit : Option ℕ) (header : Header)
+    → whole ≡ text → ReadsHeader whole ahead number now header → IsPast limit 12
+    → IsTooLong most (message_limit limit) text
+long_header {text = text} {ahead = ahead} number most limit header same read past = inl (record {
+  ahead = ahead;
+  front = header_front text ahead header read.0 (subst (λ t. TakesLine read.0 t ahead) same read.1) read.2;
+  m = headed_message header;
+  message_is = refl;
+  past = header_past most limit (headed_message header) past;
+})
 
 says_more : (lines more : List Line) (header : Header) (entries others : List Entry) (section : ℕ)
     → SayEntries lines header entries → UpTo section entries → AreEntries section others more
@@ -204,7 +225,8 @@ module _ {A : Type 0} {make : A → Entry} {IsText : A → Line → Type 0} {sec
       → SaidUpTo text b j (section + 1)
   section_said b j values read none =
       let front = now.front in
-      let past = past_section make IsText section now.to values read.lines a b sect.says now.less read.begins read.are in
+      let past =
+      past_section make IsText section now.to values read.lines a b sect.says now.less read.begins read.are in
       let most = reached_most past.to now.to section a b now.less past.reached in
       let small = sect.few in
       record {
@@ -222,16 +244,16 @@ module _ {A : Type 0} {make : A → Entry} {IsText : A → Line → Type 0} {sec
         none = none_step now.to past.to section word a b sect.of.word_is now.none none past.reached;
       }
 
-  pub stop_at : (number offset : ℕ) → IsStop IsText word Texts a i number offset
+  pub stop_at : {number offset : ℕ} → IsStop IsText word Texts a i number offset
       → IsLineFault IsAnyText text 1 number offset
-  stop_at number offset stop =
+  stop_at {number = number} {offset = offset} stop =
       led_line_fault IsAnyText (AnyEntries now.to) now.front.lines now.leads text a 1 i number offset now.front.begins
       now.place
       (stop_fault make IsText section now.to word Texts a i number offset sect.says sect.of now.less stop)
 
-pub end_at : (text ahead : List ℕ) (now : ℕ) → SaidUpTo text ahead now 4 → ¬ (ahead ≡ [])
+pub end_at : {text ahead : List ℕ} {now : ℕ} → SaidUpTo text ahead now 4 → ¬ (ahead ≡ [])
     → IsLineFault IsAnyText text 1 now 0
-end_at text ahead now said some =
+end_at {text = text} {ahead = ahead} {now = now} said some =
     led_line_fault IsAnyText (AnyEntries said.to) said.front.lines said.leads text ahead 1 now now 0 said.front.begins
     said.place (other_fault said.to ahead now said.few some said.none)
 
@@ -257,7 +279,11 @@ pub record Records (make : Said → Entry) (section : ℕ) (word : List ℕ) (mo
 
 pub answers : Records Entry.answer 1 (codes "answer") more_answers (λ counts. counts.ancount)
 answers = record {
-  sect = record { says = record { of = λ said. refl; is = λ said words is. is }; of = of_answers; few = omega arith };
+  sect = record {
+    says = record { of = λ said. refl; is = λ said words is. is };
+    of = of_answers;
+    few = omega arith;
+  };
   adds = λ m said r is. (r, is, refl);
   octets = λ said. refl;
   counted = counted_answers;
@@ -266,7 +292,11 @@ answers = record {
 
 pub authorities : Records Entry.authority 2 (codes "authority") more_authorities (λ counts. counts.nscount)
 authorities = record {
-  sect = record { says = record { of = λ said. refl; is = λ said words is. is }; of = of_authorities; few = omega arith };
+  sect = record {
+    says = record { of = λ said. refl; is = λ said words is. is };
+    of = of_authorities;
+    few = omega arith;
+  };
   adds = λ m said r is. (r, is, refl);
   octets = λ said. refl;
   counted = counted_authorities;
@@ -275,7 +305,11 @@ authorities = record {
 
 pub additionals : Records Entry.additional 3 (codes "additional") more_additionals (λ counts. counts.arcount)
 additionals = record {
-  sect = record { says = record { of = λ said. refl; is = λ said words is. is }; of = of_additionals; few = omega arith };
+  sect = record {
+    says = record { of = λ said. refl; is = λ said words is. is };
+    of = of_additionals;
+    few = omega arith;
+  };
   adds = λ m said r is. (r, is, refl);
   octets = λ said. refl;
   counted = counted_additionals;
@@ -294,9 +328,9 @@ module _ {make : Said → Entry} {section : ℕ} {word : List ℕ} {more : Messa
 
 -- ---- texts that are read, and texts that are too long
 
-pub whole_text : {B T : Type 0} (most : ℕ) (text ahead : List ℕ) (i next : ℕ) (b : Building B T)
+pub whole_text : {B T : Type 0} {most : ℕ} {text ahead : List ℕ} {i next : ℕ} {b : Building B T}
     (now : Stage most text ahead i next b) → ahead ≡ [] → IsMessageText text now.m
-whole_text most text ahead i next b now over =
+whole_text {text = text} {ahead = ahead} now over =
     let front = now.said.front in
     record {
       lines = front.lines;
@@ -307,17 +341,6 @@ whole_text most text ahead i next b now over =
       message_is = now.message_is;
     }
 
-pub long_header : (most : ℕ) (limit : Option ℕ) (text ahead : List ℕ) (header : Header) (first : Line)
-    → TakesLine first text ahead → IsHeaderLine header first → IsPast limit 12
-    → IsTooLong most (message_limit limit) text
-long_header most limit text ahead header first taken is past = inl (record {
-  ahead = ahead;
-  front = header_front text ahead header first taken is;
-  m = headed_message header;
-  message_is = refl;
-  past = header_past most limit (headed_message header) past;
-})
-
 module _ {A : Type 0} {make : A → Entry} {IsText : A → Line → Type 0} {section : ℕ} {word : List ℕ}
     {Texts : Line → List ℕ → Type 0} (sect : Section make IsText section word Texts) {B T : Type 0} {most : ℕ}
     {text a : List ℕ} {i : ℕ} {before : Building B T} (now : Stage most text a i section before) where
@@ -325,8 +348,8 @@ module _ {A : Type 0} {make : A → Entry} {IsText : A → Line → Type 0} {sec
   section_message : (values : List A) (then : Message) → IsWithAll now.m (map make values) then
       → IsWithAll (headed_message now.said.front.header) (now.said.front.entries ++ map make values) then
   section_message values then more =
-      with_more (headed_message now.said.front.header) now.m then now.said.front.entries (map make values) now.message_is
-      more
+      let front = now.said.front in
+      with_more (headed_message front.header) now.m then front.entries (map make values) now.message_is more
 
   -- and make it too long
   long_message : (limit : Option ℕ) (count : HeaderCounts → ℕ) (b : List ℕ) (j : ℕ) (values : List A) (then : Message)
@@ -345,12 +368,12 @@ module _ {A : Type 0} {make : A → Entry} {IsText : A → Line → Type 0} {sec
 
 module _ {B T : Type 0} {most : ℕ} {text a : List ℕ} {i : ℕ} {before : Building B T}
     (now : Stage most text a i 0 before) where
-  pub questions_stage : (after : Building B T) (b : List ℕ) (j : ℕ) (all : List Question)
-      → HasRead IsQuestionLine a b i j all → IsNoneOf (codes "question") b
-      → ((m : Message) → Writes most m before.state before.header before.counts
+  pub questions_stage : {b : List ℕ} {j : ℕ} (after : Building B T) → (all : List Question)
+      × HasRead IsQuestionLine a b i j all × IsNoneOf (codes "question") b
+      × ((m : Message) → Writes most m before.state before.header before.counts
       → Writes most (all_more more_questions m all) after.state after.header after.counts)
       → after.push_limit ≡ before.push_limit → Stage most text b j 1 after
-  questions_stage after b j all read none written limit = record {
+  questions_stage {b = b} {j = j} after (all, read, none, written) limit = record {
     said = section_said questions now.said b j all read none;
     m = all_more more_questions now.m all;
     message_is = section_message questions now all (all_more more_questions now.m all) (with_questions now.m all);
@@ -372,11 +395,11 @@ module _ {B T : Type 0} {most : ℕ} {text a : List ℕ} {i : ℕ} {before : Bui
 module _ {make : Said → Entry} {section : ℕ} {word : List ℕ} {more : Message → Record → Message}
     {count : HeaderCounts → ℕ} (records : Records make section word more count) {B T : Type 0} {most : ℕ}
     {text a : List ℕ} {i : ℕ} {before : Building B T} (now : Stage most text a i section before) where
-  pub records_stage : (after : Building B T) (b : List ℕ) (j : ℕ) (said : List Said)
-      → HasRead (IsRecordLine word) a b i j said → IsNoneOf word b
-      → HasWritten most more said before.state after.state before.header after.header before.counts after.counts
+  pub records_stage : {b : List ℕ} {j : ℕ} (after : Building B T) → (said : List Said)
+      × HasRead (IsRecordLine word) a b i j said × IsNoneOf word b
+      × HasWritten most more said before.state after.state before.header after.header before.counts after.counts
       → after.push_limit ≡ before.push_limit → Stage most text b j (section + 1) after
-  records_stage after b j said read none written limit =
+  records_stage {b = b} {j = j} after (said, read, none, written) limit =
       let then = all_more more now.m written.records in
       record {
         said = section_said records.sect now.said b j said read none;

@@ -91,6 +91,54 @@ led_word Is Mid Rest front word leads into out = record {
       out words mid.0 mid.1;
 }
 
+-- Words at the front of a text of one kind were read, after which it is of another.
+pub record Reached (Is Rest : List (List ℕ) → List ℕ → Type 0) (text : List ℕ) (start : ℕ) (ahead : List ℕ)
+    (next : ℕ) : Type 0 where
+  pub front : List (List ℕ)
+  pub leads : Leads Is Rest front
+  pub begins : BeginsWithWords front text ahead
+  pub place : next + length ahead ≡ start + length text
+
+pub at_front : {Is : List (List ℕ) → List ℕ → Type 0} {text : List ℕ} {start : ℕ} → Reached Is Is text start text start
+at_front = record {
+  front = [];
+  leads = record { into = λ words octets is. (octets, is); out = λ words octets is. (octets, is) };
+  begins = refl;
+  place = refl;
+}
+
+pub past_words : {Is Mid Rest : List (List ℕ) → List ℕ → Type 0} {text ahead after : List ℕ} {start next then : ℕ}
+    (front : List (List ℕ)) → Reached Is Mid text start ahead next → Leads Mid Rest front
+    → BeginsWithWords front ahead after
+    → then + length after ≡ next + length ahead → Reached Is Rest text start after then
+past_words {Is = Is} {text = text} {ahead = ahead} {after = after} front so_far leads begins place = record {
+  front = so_far.front ++ front;
+  leads = record {
+    into = λ words octets rest.
+        let mid = leads.into words octets rest in
+        let all = so_far.leads.into (front ++ words) mid.0 mid.1 in
+        (all.0, subst (λ ws. Is ws all.0) (sym (append_assoc so_far.front front words)) all.1);
+    out = λ words octets is.
+        let mid = so_far.leads.out (front ++ words) octets
+        (subst (λ ws. Is ws octets) (append_assoc so_far.front front words) is) in
+        leads.out words mid.0 mid.1;
+  };
+  begins = begins_more so_far.front front text ahead after so_far.begins begins;
+  place = place ∙ so_far.place;
+}
+
+pub reached_fault : {Is Rest : List (List ℕ) → List ℕ → Type 0} {text ahead : List ℕ} {start next offset : ℕ}
+    → Reached Is Rest text start ahead next → IsFault Rest ahead next offset → IsFault Is text start offset
+reached_fault so_far fault = led_fault _ _ so_far.front so_far.leads _ _ _ _ _ so_far.begins so_far.place fault
+
+-- a reader that stays where it is stays at its place
+pub kept_fault : (Is : List (List ℕ) → List ℕ → Type 0) (ahead after : List ℕ) (start next : ℕ) → after ≡ ahead
+    → next + length after ≡ start + length ahead → IsFault Is ahead start start → IsFault Is ahead start next
+kept_fault Is ahead after start next same place fault =
+    let size = ap length same in
+    let at : start ≡ next = omega (arith, place, size) in
+    subst (IsFault Is ahead start) at fault
+
 -- the first word is a fault
 pub first_fault : (Is : List (List ℕ) → List ℕ → Type 0) (ahead : List ℕ) (start : ℕ) → Goes Is []
     → ((word left : List ℕ) → TakesWord word ahead left → ¬ Goes Is (word ∷ []))

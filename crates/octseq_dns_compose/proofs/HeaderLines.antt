@@ -6,7 +6,7 @@ use Rattle.octseq_dns_scan.specs.Word.{TakesWord, AreWords}
 use Rattle.octseq_dns_text.specs.Scans.{BeginsWithWords, IsFault}
 use Rattle.octseq_dns_compose.specs.Take.{IsGiven, IsUpTo, Then}
 use Rattle.octseq_dns_compose.specs.HeaderLine.{Field, IsNoField, AreFlags, IsHeaderLine, Picks, flag_names}
-use Rattle.octseq_dns_compose.proofs.Faults.{Leads, are_more, led_fault, first_fault}
+use Rattle.octseq_dns_compose.proofs.Faults.{Leads, Reached, are_more, at_front, first_fault, led_fault, past_words}
 use Rattle.octseq_dns_compose.proofs.Flags.{flags_fault}
 use Rattle.octseq_dns_message.specs.declared.header.Flags.{Flags}
 use Rattle.octseq_dns_message.specs.declared.header.Header.{Header}
@@ -24,9 +24,13 @@ AnyField name most Rest words = (number : ℕ) × Field name most number Rest wo
 zero_up_to : (most : ℕ) → IsUpTo most 0 (codes "0")
 zero_up_to most = ((omega arith, (omega arith, tt)), refl, omega arith)
 
-pub field_text : (name : List ℕ) (most : ℕ) (Rest : List (List ℕ) → Type 0) (words : List (List ℕ)) → Rest words
-    → AnyField name most Rest (name ∷ codes "0" ∷ words)
-field_text name most Rest words rest = (0, (refl, (zero_up_to most, rest)))
+-- words that are a text
+abbrev Sample : (List (List ℕ) → Type 0) → Type 0
+Sample Is = (words : List (List ℕ)) × Is words
+
+field_text : (name : List ℕ) (most : ℕ) (Rest : List (List ℕ) → Type 0) → Sample Rest
+    → Sample (AnyField name most Rest)
+field_text name most Rest rest = (name ∷ codes "0" ∷ rest.0, (0, (refl, (zero_up_to most, rest.1))))
 
 first_of_field : (name : List ℕ) (most : ℕ) (Rest : List (List ℕ) → Type 0) (word : List ℕ) (words : List (List ℕ))
     → AnyField name most Rest (word ∷ words) → word ≡ name
@@ -40,25 +44,25 @@ no_second : (name : List ℕ) (most : ℕ) (Rest : List (List ℕ) → Type 0) (
     → ¬ AnyField name most Rest (word ∷ [])
 no_second name most Rest word is = is.1.1
 
-pub field_fault : (name : List ℕ) (most : ℕ) (Rest : List (List ℕ) → Type 0) (words : List (List ℕ))
-    (ahead after : List ℕ) (start next : ℕ) → Rest words → next + length after ≡ start + length ahead
+pub field_fault : (name : List ℕ) (most : ℕ) (Rest : List (List ℕ) → Type 0) (ahead after : List ℕ)
+    (start next : ℕ) → Sample Rest → next + length after ≡ start + length ahead
     → IsNoField name most ahead after → IsFault (Of (AnyField name most Rest)) ahead start next
-field_fault name most Rest words ahead after start next rest place (IsNoField.no_name same none) =
+field_fault name most Rest ahead after start next rest place (IsNoField.no_name same none) =
     let size = ap length same in
     let at : start ≡ next = omega (arith, place, size) in
     subst (IsFault (Of (AnyField name most Rest)) ahead start) at
     (first_fault (Of (AnyField name most Rest)) ahead start
-    (name ∷ codes "0" ∷ words, [], field_text name most Rest words rest)
+    (let sample = field_text name most Rest rest in (sample.0, [], sample.1))
     (λ word left taken goes.
     let is = first_of_field name most Rest word goes.0 goes.2 in
     none left (subst (λ w. TakesWord w ahead left) is taken))
     (λ over octets is. is.1))
-field_fault name most Rest words ahead after start next rest place (IsNoField.no_number taken none) = record {
+field_fault name most Rest ahead after start next rest place (IsNoField.no_number taken none) = record {
   front = name ∷ [];
   rest = after;
   begins = (after, taken, refl);
   place = place;
-  goes = (codes "0" ∷ words, [], field_text name most Rest words rest);
+  goes = (codes "0" ∷ rest.0, [], (0, (refl, (zero_up_to most, rest.1))));
   stops = λ word left also goes.
       let is = second_of_field name most Rest name word goes.0 goes.2 in
       none word left is.0 also is.1;
@@ -96,14 +100,14 @@ no_flags =
 flags_text : AnyFlags []
 flags_text = (no_flags, (refl, refl))
 
-rcode_text : AfterRcode (codes "flags" ∷ [])
-rcode_text = (refl, flags_text)
+pub rcode_text : Sample AfterRcode
+rcode_text = (codes "flags" ∷ [], (refl, flags_text))
 
-opcode_text : AfterOpcode (codes "rcode" ∷ codes "0" ∷ codes "flags" ∷ [])
-opcode_text = field_text (codes "rcode") 15 AfterRcode (codes "flags" ∷ []) rcode_text
+pub opcode_text : Sample AfterOpcode
+opcode_text = field_text (codes "rcode") 15 AfterRcode rcode_text
 
-id_text : AfterId (codes "opcode" ∷ codes "0" ∷ codes "rcode" ∷ codes "0" ∷ codes "flags" ∷ [])
-id_text = field_text (codes "opcode") 15 AfterOpcode (codes "rcode" ∷ codes "0" ∷ codes "flags" ∷ []) opcode_text
+pub id_text : Sample AfterId
+id_text = field_text (codes "opcode") 15 AfterOpcode opcode_text
 
 -- any header is the header of a line, and the other way round
 any_header : (words : List (List ℕ)) → AnyHeader words → (h : Header) × IsHeaderLine h words
@@ -171,58 +175,22 @@ header_leads = record {
 
 -- ---- its faults
 
-pub fault_at_id : (ahead after : List ℕ) (start next : ℕ) → next + length after ≡ start + length ahead
-    → IsNoField (codes "id") 65535 ahead after → IsFault HeaderTexts ahead start next
-fault_at_id ahead after start next place none =
-    led_fault HeaderTexts (Of AnyHeader) [] header_leads ahead ahead start start next refl refl
-    (field_fault (codes "id") 65535 AfterId
-    (codes "opcode" ∷ codes "0" ∷ codes "rcode" ∷ codes "0" ∷ codes "flags" ∷ []) ahead after start next id_text
-    place none)
+pub at_line : {text : List ℕ} {start : ℕ} → Reached HeaderTexts (Of AnyHeader) text start text start
+at_line = past_words [] at_front header_leads refl refl
 
--- after the identifier
-pub fault_after_id : (ahead mid after word : List ℕ) (start next offset n : ℕ) → TakesWord (codes "id") ahead mid
-    → TakesWord word mid after → IsUpTo 65535 n word → next + length after ≡ start + length ahead
-    → IsFault (Of AfterId) after next offset → IsFault HeaderTexts ahead start offset
-fault_after_id ahead mid after word start next offset n first second is place fault =
-    led_fault HeaderTexts (Of AnyHeader) [] header_leads ahead ahead start start offset refl refl
-    (led_fault (Of AnyHeader) (Of AfterId) (codes "id" ∷ word ∷ []) (field_leads (codes "id") word 65535 n AfterId is)
-    ahead after start next offset (mid, first, (after, second, refl)) place fault)
-
-pub fault_at_opcode : (ahead after : List ℕ) (start next : ℕ) → next + length after ≡ start + length ahead
-    → IsNoField (codes "opcode") 15 ahead after → IsFault (Of AfterId) ahead start next
-fault_at_opcode ahead after start next place none =
-    field_fault (codes "opcode") 15 AfterOpcode (codes "rcode" ∷ codes "0" ∷ codes "flags" ∷ []) ahead after start next
-    opcode_text place none
-
--- after the opcode
-pub fault_after_opcode : (ahead mid after word : List ℕ) (start next offset n : ℕ)
-    → TakesWord (codes "opcode") ahead mid → TakesWord word mid after → IsUpTo 15 n word
-    → next + length after ≡ start + length ahead → IsFault (Of AfterOpcode) after next offset
-    → IsFault (Of AfterId) ahead start offset
-fault_after_opcode ahead mid after word start next offset n first second is place fault =
-    led_fault (Of AfterId) (Of AfterOpcode) (codes "opcode" ∷ word ∷ [])
-    (field_leads (codes "opcode") word 15 n AfterOpcode is) ahead after start next offset
-    (mid, first, (after, second, refl)) place fault
-
-pub fault_at_rcode : (ahead after : List ℕ) (start next : ℕ) → next + length after ≡ start + length ahead
-    → IsNoField (codes "rcode") 15 ahead after → IsFault (Of AfterOpcode) ahead start next
-fault_at_rcode ahead after start next place none =
-    field_fault (codes "rcode") 15 AfterRcode (codes "flags" ∷ []) ahead after start next rcode_text place none
-
--- after the response code
-pub fault_after_rcode : (ahead mid after word : List ℕ) (start next offset n : ℕ)
-    → TakesWord (codes "rcode") ahead mid → TakesWord word mid after → IsUpTo 15 n word
-    → next + length after ≡ start + length ahead → IsFault (Of AfterRcode) after next offset
-    → IsFault (Of AfterOpcode) ahead start offset
-fault_after_rcode ahead mid after word start next offset n first second is place fault =
-    led_fault (Of AfterOpcode) (Of AfterRcode) (codes "rcode" ∷ word ∷ [])
-    (field_leads (codes "rcode") word 15 n AfterRcode is) ahead after start next offset
-    (mid, first, (after, second, refl)) place fault
+pub past_field : {Is : List (List ℕ) → List ℕ → Type 0} {name : List ℕ} {most : ℕ} {Rest : List (List ℕ) → Type 0}
+    {text ahead after : List ℕ} {start next then n : ℕ}
+    → Reached Is (Of (AnyField name most Rest)) text start ahead next
+    → ((mid word : List ℕ) × TakesWord name ahead mid × TakesWord word mid after × IsUpTo most n word)
+    → then + length after ≡ next + length ahead → Reached Is (Of Rest) text start after then
+past_field {name = name} {most = most} {Rest = Rest} {n = n} so_far taken place =
+    past_words (name ∷ taken.1 ∷ []) so_far (field_leads name taken.1 most n Rest taken.4)
+    (_, taken.2, (_, taken.3, refl)) place
 
 pub fault_at_flags : (ahead : List ℕ) (start : ℕ) → ((rest : List ℕ) → ¬ TakesWord (codes "flags") ahead rest)
     → IsFault (Of AfterRcode) ahead start start
 fault_at_flags ahead start none =
-    first_fault (Of AfterRcode) ahead start (codes "flags" ∷ [], [], rcode_text)
+    first_fault (Of AfterRcode) ahead start (rcode_text.0, [], rcode_text.1)
     (λ word left taken goes. none left (subst (λ w. TakesWord w ahead left) goes.2.0 taken)) (λ over octets is. is)
 
 pub fault_after_flags : (ahead mid rest : List ℕ) (words : List (List ℕ)) (start next offset : ℕ)

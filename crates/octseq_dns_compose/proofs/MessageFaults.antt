@@ -457,8 +457,8 @@ pub stop_fault : {A : Type 0} (make : A → Entry) (IsText : A → Line → Type
     → IsLineFault (AnyEntries from) text first number offset
 stop_fault make IsText section from word Texts text first number offset says of less stop =
     let read = stop.read in
-    let past = past_section make IsText section from stop.values read.lines text stop.ahead says less read.begins read.are
-    in
+    let past =
+    past_section make IsText section from stop.values read.lines text stop.ahead says less read.begins read.are in
     led_line_fault (AnyEntries from) (AnyEntries past.to) read.lines past.leads text stop.ahead first stop.now number
     offset read.begins read.place
     (subst (λ n. IsLineFault (AnyEntries past.to) stop.ahead stop.now n offset) (sym stop.at)

@@ -1,9 +1,9 @@
 -- A text, section by section, that isn't too long.
 use Rattle.std.proofs.Common.{◌≡◌, ℕ, zero, suc, ◌+◌, ◌<◌, Option, Some, None, List, ◌∷◌, length, codes}
-use Rattle.std.proofs.Common.{refl, sym, ap, ◌∙◌, subst, arith}
+use Rattle.std.proofs.Common.{refl, sym, ap, subst, arith}
 use Rattle.octseq.specs.Limit.{IsWithin}
 use Rattle.octseq_dns.specs.Contents.{Message, Record, octets_of}
-use Rattle.octseq_dns.specs.Writes.{Building, Writes, least_limit, more_questions}
+use Rattle.octseq_dns.specs.Writes.{Building, Writes, more_questions}
 use Rattle.octseq_dns_compress.specs.State.{State}
 use Rattle.octseq_dns_message.specs.declared.header.Header.{Header}
 use Rattle.octseq_dns_message.specs.declared.header.HeaderCounts.{HeaderCounts}
@@ -169,52 +169,46 @@ pub record Onstage {B T : Type 0} (most : ℕ) (limit : Option ℕ) (text ahead 
     (b : Building B T) : Type 0 where
   pub m : Message
   pub writes : Writes most m b.state b.header b.counts
-  pub free : b.push_limit ≡ None
   pub within : IsWithin limit (length (octets_of most m))
   pub long : IsTooLong most limit text → GoesLong most limit section m ahead
 
-pub same_onstage : {B T : Type 0} (most : ℕ) (limit : Option ℕ) (text ahead : List ℕ) (section : ℕ)
-    (a b : Building B T) → b ≡ a → Onstage most limit text ahead section a → Onstage most limit text ahead section b
-same_onstage most limit text ahead section a b same = subst (Onstage most limit text ahead section) (sym same)
+pub same_onstage : {B T : Type 0} {most : ℕ} {limit : Option ℕ} {text ahead : List ℕ} {section : ℕ}
+    {a b : Building B T} → b ≡ a → Onstage most limit text ahead section a → Onstage most limit text ahead section b
+same_onstage {most = most} {limit = limit} {text = text} {ahead = ahead} {section = section} same =
+    subst (Onstage most limit text ahead section) (sym same)
 
-pub header_onstage : {B T : Type 0} (most : ℕ) (limit : Option ℕ) (text ahead : List ℕ) (header : Header) (first : Line)
-    (b : Building B T) → TakesLine first text ahead → IsHeaderLine header first
-    → Writes most (headed_message header) b.state b.header b.counts → b.push_limit ≡ None
-    → IsWithin limit (length b.state.octets) → Onstage most limit text ahead 0 b
-header_onstage most limit text ahead header first b taken is writes free within = record {
-  m = headed_message header;
-  writes = writes;
-  free = free;
-  within = written_within most limit (headed_message header) b.state b.header b.counts writes within;
-  long = past_header most limit header first text ahead taken is;
-}
+pub header_onstage : {B T : Type 0} {most : ℕ} (limit : Option ℕ) {text start ahead : List ℕ} {P : Type 0}
+    (header : Header) (b : Building B T) → start ≡ text
+    → ((first : Line) × TakesLine first start ahead × IsHeaderLine header first × P)
+    → Writes most (headed_message header) b.state b.header b.counts → IsWithin limit (length b.state.octets)
+    → Onstage most limit text ahead 0 b
+header_onstage {most = most} limit {text = text} {ahead = ahead} header b same (first, taken, is, place) writes within =
+    record {
+      m = headed_message header;
+      writes = writes;
+      within = written_within most limit (headed_message header) b.state b.header b.counts writes within;
+      long = past_header most limit header first text ahead (subst (λ t. TakesLine first t ahead) same taken) is;
+    }
 
 module _ {B T : Type 0} {most : ℕ} {limit : Option ℕ} {text a : List ℕ} {section : ℕ} {before : Building B T}
-    (now : Onstage most limit text a section before) (One : Option ℕ → Adds)
+    (now : Onstage most limit text a section before) (One : Adds)
     (keeps : (m : Message) (text : List ℕ) (after : Message) (ahead : List ℕ)
-    → IsWithin limit (length (octets_of most m)) → One limit m text after ahead
+    → IsWithin limit (length (octets_of most m)) → One m text after ahead
     → KeepsLong most limit section m text after ahead) where
-  free_one : {P : Message → List ℕ → Type 0} → AddsUpTo (One (least_limit before.push_limit limit)) now.m a P
-      → AddsUpTo (One limit) now.m a P
-  free_one {P} adds = subst (λ l. AddsUpTo (One (least_limit l limit)) now.m a P) now.free adds
-
   -- past a section
   section_onstage : (after : Building B T) (b : List ℕ)
-      → AddsUpTo (One (least_limit before.push_limit limit)) now.m a
-      (IsNow most after.state after.header after.counts b) → after.push_limit ≡ before.push_limit
-      → (word : List ℕ) → word ≡ word_in section → IsNoneOf word b → Onstage most limit text b (section + 1) after
-  section_onstage after b adds limit_is word is none =
-      let free = free_one adds in
+      → AddsUpTo One now.m a (IsNow most after.state after.header after.counts b) → (word : List ℕ)
+      → word ≡ word_in section → IsNoneOf word b → Onstage most limit text b (section + 1) after
+  section_onstage after b adds word is none =
       let all =
-      all_keep most limit section (One limit) keeps free.count now.m a free.after free.ahead now.within free.adds in
+      all_keep most limit section One keeps adds.count now.m a adds.after adds.ahead now.within adds.adds in
       record {
-        m = free.after;
-        writes = free.holds.0;
-        free = limit_is ∙ now.free;
+        m = adds.after;
+        writes = adds.holds.0;
         within = all.within;
         long = λ long.
-            next_section section b (here_none section word b is none) most limit free.after
-            (subst (GoesLong most limit section free.after) free.holds.1 (all.long (now.long long)));
+            next_section section b (here_none section word b is none) most limit adds.after
+            (subst (GoesLong most limit section adds.after) adds.holds.1 (all.long (now.long long)));
       }
 
   -- where it is refused, the text isn't too long
@@ -222,57 +216,55 @@ module _ {B T : Type 0} {most : ℕ} {limit : Option ℕ} {text a : List ℕ} {s
       (Short : List ℕ → Type 0) → ((ahead : List ℕ) (fault : IsFaultyLine word Texts ahead offset) → Short ahead
       → (entry : Entry) (words : Line) → section_of entry ≡ section → IsEntryLine entry (word ∷ words)
       → AreWords words fault.rest → ¬ (65535 < length (data_octets entry)))
-      → AddsUpTo (One (least_limit before.push_limit limit)) now.m a
-      (λ after ahead. IsFaultyLine word Texts ahead offset × Short ahead) → ¬ IsTooLong most limit text
+      → AddsUpTo One now.m a (λ after ahead. IsFaultyLine word Texts ahead offset × Short ahead)
+      → ¬ IsTooLong most limit text
   section_stopped word Texts of offset Short small adds long =
-      let free = free_one adds in
       let all =
-      all_keep most limit section (One limit) keeps free.count now.m a free.after free.ahead now.within free.adds in
-      no_long_line section word Texts of free.ahead offset free.holds.0 most limit free.after all.within
-      (small free.ahead free.holds.0 free.holds.1) (all.long (now.long long))
+      all_keep most limit section One keeps adds.count now.m a adds.after adds.ahead now.within adds.adds in
+      no_long_line section word Texts of adds.ahead offset adds.holds.0 most limit adds.after all.within
+      (small adds.ahead adds.holds.0 adds.holds.1) (all.long (now.long long))
 
-pub questions_onstage : {B T : Type 0} {most : ℕ} {limit : Option ℕ} {text a : List ℕ} {before : Building B T}
-    (now : Onstage most limit text a 0 before) (after : Building B T) (b : List ℕ)
-    → AddsUpTo (AddsQuestion most (least_limit before.push_limit limit)) now.m a
-    (IsNow most after.state after.header after.counts b) → after.push_limit ≡ before.push_limit
-    → IsNoneOf (codes "question") b → Onstage most limit text b 1 after
-questions_onstage {most = most} {limit = limit} now after b adds limit_is =
-    section_onstage now (AddsQuestion most) (question_keeps most limit) after b adds limit_is (codes "question") refl
+module _ {B T : Type 0} {most : ℕ} {limit : Option ℕ} {text a : List ℕ} {before : Building B T}
+    (now : Onstage most limit text a 0 before) where
+  pub questions_onstage : {b : List ℕ} (after : Building B T)
+      → AddsUpTo (AddsQuestion most limit) now.m a (IsNow most after.state after.header after.counts b)
+      → IsNoneOf (codes "question") b → Onstage most limit text b 1 after
+  questions_onstage {b} after adds =
+      section_onstage now (AddsQuestion most limit) (question_keeps most limit) after b adds (codes "question") refl
 
-no_question_data : (entry : Entry) → section_of entry ≡ 0 → ¬ (65535 < length (data_octets entry))
-no_question_data (Entry.question q) here late = omega (arith, late)
-no_question_data (Entry.answer said) here late = absurd (omega (arith, here))
-no_question_data (Entry.authority said) here late = absurd (omega (arith, here))
-no_question_data (Entry.additional said) here late = absurd (omega (arith, here))
+  no_question_data : (entry : Entry) → section_of entry ≡ 0 → ¬ (65535 < length (data_octets entry))
+  no_question_data (Entry.question q) here late = omega (arith, late)
+  no_question_data (Entry.answer said) here late = absurd (omega (arith, here))
+  no_question_data (Entry.authority said) here late = absurd (omega (arith, here))
+  no_question_data (Entry.additional said) here late = absurd (omega (arith, here))
 
-pub questions_stopped : {B T : Type 0} {most : ℕ} {limit : Option ℕ} {text a : List ℕ} {before : Building B T}
-    (now : Onstage most limit text a 0 before) (offset : ℕ)
-    → AddsUpTo (AddsQuestion most (least_limit before.push_limit limit)) now.m a
-    (λ after ahead. IsFaultyLine (codes "question") IsAnyQuestion ahead offset) → ¬ IsTooLong most limit text
-questions_stopped {most = most} {limit = limit} {a = a} now offset adds =
-    section_stopped now (AddsQuestion most) (question_keeps most limit) (codes "question") IsAnyQuestion of_questions
-    offset (λ ahead. Unit {0}) (λ ahead fault short entry words here is are. no_question_data entry here)
-    (added_so now.m a adds (λ after ahead fault. (fault, tt)))
+  pub questions_stopped : (offset : ℕ)
+      → AddsUpTo (AddsQuestion most limit) now.m a
+      (λ after ahead. IsFaultyLine (codes "question") IsAnyQuestion ahead offset) → ¬ IsTooLong most limit text
+  questions_stopped offset adds =
+      section_stopped now (AddsQuestion most limit) (question_keeps most limit) (codes "question") IsAnyQuestion
+      of_questions offset (λ ahead. Unit {0}) (λ ahead fault short entry words here is are. no_question_data entry here)
+      (added_so now.m a adds (λ after ahead fault. (fault, tt)))
 
 module _ {make : Said → Entry} {section : ℕ} {word : List ℕ} {more : Message → Record → Message}
     {count : HeaderCounts → ℕ} (of : Records make section word more count) {B T : Type 0} {most : ℕ}
     {limit : Option ℕ} {text a : List ℕ} {before : Building B T} (now : Onstage most limit text a section before) where
-  pub records_onstage : (after : Building B T) (b : List ℕ)
-      → AddsUpTo (AddsRecord most (least_limit before.push_limit limit) (Some 65535) word more) now.m a
-      (IsNow most after.state after.header after.counts b) → after.push_limit ≡ before.push_limit
-      → IsNoneOf word b → Onstage most limit text b (section + 1) after
-  records_onstage after b adds limit_is =
-      section_onstage now (λ l. AddsRecord most l (Some 65535) word more) (record_keeps of most limit) after b adds
-      limit_is word of.sect.of.word_is
+  pub records_onstage : {b : List ℕ} (after : Building B T)
+      → AddsUpTo (AddsRecord most limit (Some 65535) word more) now.m a
+      (IsNow most after.state after.header after.counts b) → IsNoneOf word b
+      → Onstage most limit text b (section + 1) after
+  records_onstage {b} after adds =
+      section_onstage now (AddsRecord most limit (Some 65535) word more) (record_keeps of most limit) after b adds word
+      of.sect.of.word_is
 
   pub records_stopped : (offset : ℕ)
       → ((entry : Entry) (words : Line) → section_of entry ≡ section → IsEntryLine entry (word ∷ words)
       → IsAnyRecord None words (data_octets entry))
-      → AddsUpTo (AddsRecord most (least_limit before.push_limit limit) (Some 65535) word more) now.m a
+      → AddsUpTo (AddsRecord most limit (Some 65535) word more) now.m a
       (λ after ahead. IsFaultyLine word (IsAnyRecord None) ahead offset
       × ¬ IsLongLine word (IsAnyRecord None) (Some 65535) ahead) → ¬ IsTooLong most limit text
   records_stopped offset says =
-      section_stopped now (λ l. AddsRecord most l (Some 65535) word more) (record_keeps of most limit) word
+      section_stopped now (AddsRecord most limit (Some 65535) word more) (record_keeps of most limit) word
       (IsAnyRecord None) of.sect.of offset (λ ahead. ¬ IsLongLine word (IsAnyRecord None) (Some 65535) ahead)
       (λ ahead fault short entry words here line are late. short (record {
         line = fault.line;
@@ -310,6 +302,7 @@ additional_data (Entry.authority said) words here is = absurd (omega (arith, her
 additional_data (Entry.additional said) words here is = (said.head, is.1)
 
 -- after the last section
-pub over_onstage : {B T : Type 0} (most : ℕ) (limit : Option ℕ) (text ahead : List ℕ) (b : Building B T)
+pub over_onstage : {B T : Type 0} {most : ℕ} {limit : Option ℕ} {text ahead : List ℕ} {b : Building B T}
     → Onstage most limit text ahead 4 b → ¬ IsTooLong most limit text
-over_onstage most limit text ahead b now long = no_section most limit now.m ahead now.within (now.long long)
+over_onstage {most = most} {limit = limit} {ahead = ahead} now long =
+    no_section most limit now.m ahead now.within (now.long long)

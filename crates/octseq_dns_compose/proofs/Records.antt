@@ -1,15 +1,15 @@
 -- The text of a record, and where it is none.
-use Rattle.std.proofs.Common.{◌≡◌, ◌⊎◌, ℕ, ◌+◌, Option, List, [], ◌∷◌, length, codes}
+use Rattle.std.proofs.Common.{◌≡◌, ◌⊎◌, ℕ, ◌+◌, Option, List, [], ◌∷◌, ◌++◌, length, codes}
 use Rattle.std.proofs.Common.{Bool, true, false, ◌||◌, refl, ap, subst, inl, inr, arith}
 use Rattle.octseq_dns_scan.specs.Word.{TakesWord, AreWords}
 use Rattle.octseq_dns_text.specs.DataText.{IsDataText, ends_in_list}
 use Rattle.octseq_dns_text.specs.Layouts.{layout_of}
-use Rattle.octseq_dns_text.specs.Scans.{Goes, IsFault}
+use Rattle.octseq_dns_text.specs.Scans.{BeginsWithWords, Goes, IsFault}
 use Rattle.octseq_dns_compose.specs.RecordText.{Head, IsNameWord, IsTtlWord, IsClassWord, IsRtypeWord}
 use Rattle.octseq_dns_compose.specs.RecordText.{BeginsWithList, TtlAndClass, IsRecordText, IsAnyRecord}
 use Rattle.octseq_dns_compose.specs.Take.{Then}
 use Rattle.octseq_dns_compose.specs.TakeOrder.{NoneNext, IsNoOrder}
-use Rattle.octseq_dns_compose.proofs.Faults.{Leads, led_fault, first_fault}
+use Rattle.octseq_dns_compose.proofs.Faults.{Leads, Reached, are_more, at_front, first_fault, past_words}
 use Rattle.octseq_dns_compose.proofs.Named.{no_number}
 use Rattle.octseq_dns_compose.proofs.Samples.{class_sample, one_class, one_rtype, name_sample, rtype_sample, ttl_sample}
 use Rattle.octseq_dns_compose.proofs.Samples.{data_sample}
@@ -108,13 +108,11 @@ fault_at_owner origin ahead start none =
     first_fault (IsAnyRecord origin) ahead start (record_goes origin)
     (λ word left taken goes. none word left goes.2.0.labels taken goes.2.1.0) (λ over octets is. is.1)
 
-pub fault_after_owner : (origin : Option (List (List ℕ))) (labels : List (List ℕ)) (word ahead mid : List ℕ)
-    (start next offset : ℕ) → IsNameWord origin labels word → TakesWord word ahead mid
-    → next + length mid ≡ start + length ahead → IsFault (AfterOwner origin) mid next offset
-    → IsFault (IsAnyRecord origin) ahead start offset
-fault_after_owner origin labels word ahead mid start next offset is taken place fault =
-    led_fault (IsAnyRecord origin) (AfterOwner origin) (word ∷ []) (owner_leads origin labels word is) ahead mid start
-    next offset (mid, taken, refl) place fault
+pub past_owner : {text mid : List ℕ} {start next : ℕ} (origin : Option (List (List ℕ))) (labels : List (List ℕ))
+    → ((word : List ℕ) × TakesWord word text mid × IsNameWord origin labels word)
+    → next + length mid ≡ start + length text → Reached (IsAnyRecord origin) (AfterOwner origin) text start mid next
+past_owner origin labels taken place =
+    past_words (taken.0 ∷ []) at_front (owner_leads origin labels taken.0 taken.2) (_, taken.1, refl) place
 
 -- at the TTL and the class
 no_first_on : (origin : Option (List (List ℕ))) (ahead word left : List ℕ) → NoneNext IsTtlWord ahead
@@ -177,15 +175,15 @@ fault_at_order origin ahead after start next place (IsNoOrder.no_ttl class word 
       ends = λ over octets. no_end_one origin word octets;
     }
 
-pub fault_after_order : (origin : Option (List (List ℕ))) (ttl class : ℕ) (first second ahead mid after : List ℕ)
-    (start next offset : ℕ)
-    → (IsTtlWord ttl first × IsClassWord class second) ⊎ (IsClassWord class first × IsTtlWord ttl second)
-    → TakesWord first ahead mid → TakesWord second mid after → next + length after ≡ start + length ahead
-    → IsFault (AfterClass origin class) after next offset → IsFault (AfterOwner origin) ahead start offset
-fault_after_order origin ttl class first second ahead mid after start next offset are one two place fault =
-    led_fault (AfterOwner origin) (AfterClass origin class) (first ∷ second ∷ [])
-    (order_leads origin ttl class first second are) ahead after start next offset (mid, one, (after, two, refl)) place
-    fault
+pub past_order : {text ahead after : List ℕ} {start next then : ℕ} (origin : Option (List (List ℕ))) (ttl class : ℕ)
+    → Reached (IsAnyRecord origin) (AfterOwner origin) text start ahead next
+    → ((first second mid : List ℕ) × TakesWord first ahead mid × TakesWord second mid after
+    × ((IsTtlWord ttl first × IsClassWord class second) ⊎ (IsClassWord class first × IsTtlWord ttl second)))
+    → then + length after ≡ next + length ahead
+    → Reached (IsAnyRecord origin) (AfterClass origin class) text start after then
+past_order origin ttl class so_far taken place =
+    past_words (taken.0 ∷ taken.1 ∷ []) so_far (order_leads origin ttl class taken.0 taken.1 taken.5)
+    (_, taken.3, (_, taken.4, refl)) place
 
 -- at the type
 pub fault_at_rtype : (origin : Option (List (List ℕ))) (class : ℕ) (ahead : List ℕ) (start : ℕ)
@@ -194,13 +192,13 @@ fault_at_rtype origin class ahead start none =
     first_fault (AfterClass origin class) ahead start (class_goes origin class)
     (λ word left taken goes. none word left goes.2.0 taken goes.2.1.0) (λ over octets is. is.1)
 
-pub fault_after_rtype : (origin : Option (List (List ℕ))) (class rtype : ℕ) (word ahead mid : List ℕ)
-    (start next offset : ℕ) → IsRtypeWord rtype word → TakesWord word ahead mid
-    → next + length mid ≡ start + length ahead → IsFault (IsDataText origin rtype class) mid next offset
-    → IsFault (AfterClass origin class) ahead start offset
-fault_after_rtype origin class rtype word ahead mid start next offset is taken place fault =
-    led_fault (AfterClass origin class) (IsDataText origin rtype class) (word ∷ [])
-    (rtype_leads origin class rtype word is) ahead mid start next offset (mid, taken, refl) place fault
+pub past_rtype : {text ahead mid : List ℕ} {start next then : ℕ} (origin : Option (List (List ℕ))) (class rtype : ℕ)
+    → Reached (IsAnyRecord origin) (AfterClass origin class) text start ahead next
+    → ((word : List ℕ) × TakesWord word ahead mid × IsRtypeWord rtype word)
+    → then + length mid ≡ next + length ahead
+    → Reached (IsAnyRecord origin) (IsDataText origin rtype class) text start mid then
+past_rtype origin class rtype so_far taken place =
+    past_words (taken.0 ∷ []) so_far (rtype_leads origin class rtype taken.0 taken.2) (_, taken.1, refl) place
 
 -- ---- a record that is read
 
@@ -210,25 +208,49 @@ order_text : (ttl class : ℕ) (Rest : List (List ℕ) → Type 0) (first second
 order_text ttl class Rest first second words (inl is) rest = inl (is.0, (is.1, rest))
 order_text ttl class Rest first second words (inr is) rest = inr (is.0, (is.1, rest))
 
-pub record_words : (origin : Option (List (List ℕ))) (head : Head) (owner first second kind : List ℕ)
-    (ahead a b c d : List ℕ) (words : List (List ℕ)) (octets : List ℕ) → TakesWord owner ahead a
-    → IsNameWord origin head.labels owner → TakesWord first a b → TakesWord second b c
-    → (IsTtlWord head.ttl first × IsClassWord head.class second)
-    ⊎ (IsClassWord head.class first × IsTtlWord head.ttl second)
-    → TakesWord kind c d → IsRtypeWord head.rtype kind → AreWords words d
+-- The words before the data were read.
+pub record HeadRead (origin : Option (List (List ℕ))) (ahead after : List ℕ) (head : Head) : Type 0 where
+  pub owner : List ℕ
+  pub first : List ℕ
+  pub second : List ℕ
+  pub kind : List ℕ
+  pub begins : BeginsWithWords (owner ∷ first ∷ second ∷ kind ∷ []) ahead after
+  pub is_name : IsNameWord origin head.labels owner
+  pub is_order : (IsTtlWord head.ttl first × IsClassWord head.class second)
+      ⊎ (IsClassWord head.class first × IsTtlWord head.ttl second)
+  pub is_rtype : IsRtypeWord head.rtype kind
+
+pub head_read : {ahead a b after : List ℕ} (origin : Option (List (List ℕ))) (head : Head)
+    → ((word : List ℕ) × TakesWord word ahead a × IsNameWord origin head.labels word)
+    → ((first second mid : List ℕ) × TakesWord first a mid × TakesWord second mid b
+    × ((IsTtlWord head.ttl first × IsClassWord head.class second)
+    ⊎ (IsClassWord head.class first × IsTtlWord head.ttl second)))
+    → ((word : List ℕ) × TakesWord word b after × IsRtypeWord head.rtype word) → HeadRead origin ahead after head
+head_read origin head owner order kind = record {
+  owner = owner.0;
+  first = order.0;
+  second = order.1;
+  kind = kind.0;
+  begins = (_, owner.1, (_, order.3, (_, order.4, (_, kind.1, refl))));
+  is_name = owner.2;
+  is_order = order.5;
+  is_rtype = kind.2;
+}
+
+pub record_words : {ahead after : List ℕ} (origin : Option (List (List ℕ))) (head : Head)
+    → HeadRead origin ahead after head → (words : List (List ℕ)) (octets : List ℕ) → AreWords words after
     → IsDataText origin head.rtype head.class words octets
     → (all : List (List ℕ)) × AreWords all ahead × IsRecordText origin head all octets
-record_words origin head owner first second kind ahead a b c d words octets w1 is_name w2 w3 order w4 is_rtype are
-    is = (
-      owner ∷ first ∷ second ∷ kind ∷ words,
-      (a, w1, (b, w2, (c, w3, (d, w4, are)))),
-      (
-        is_name,
-        order_text head.ttl head.class
-            (Then (IsRtypeWord head.rtype) (λ more. IsDataText origin head.rtype head.class more octets)) first second
-            (kind ∷ words) order (is_rtype, is),
-      ),
-    )
+record_words origin head read words octets are is = (
+  (read.owner ∷ read.first ∷ read.second ∷ read.kind ∷ []) ++ words,
+  are_more (read.owner ∷ read.first ∷ read.second ∷ read.kind ∷ []) words _ _ read.begins are,
+  (
+    read.is_name,
+    order_text head.ttl head.class
+        (Then (IsRtypeWord head.rtype) (λ more. IsDataText origin head.rtype head.class more octets)) read.first
+        read.second (read.kind ∷ words) read.is_order (read.is_rtype, is),
+  ),
+)
 
 -- ---- data that ends in a list
 
@@ -236,14 +258,10 @@ either_true : (a b : Bool) → a || b ≡ true → (a ≡ true) ⊎ (b ≡ true)
 either_true true b is = inl refl
 either_true false b is = inr is
 
-pub head_asks : (origin : Option (List (List ℕ))) (head : Head) (owner first second kind : List ℕ)
-    (ahead a b c d : List ℕ) (asks : Bool) → TakesWord owner ahead a → IsNameWord origin head.labels owner
-    → TakesWord first a b → TakesWord second b c
-    → (IsTtlWord head.ttl first × IsClassWord head.class second)
-    ⊎ (IsClassWord head.class first × IsTtlWord head.ttl second)
-    → TakesWord kind c d → IsRtypeWord head.rtype kind
-    → asks || ends_in_list (layout_of head.rtype head.class) ≡ true → (asks ≡ true) ⊎ BeginsWithList origin ahead
-head_asks origin head owner first second kind ahead a b c d asks w1 is_name w2 w3 order w4 is_rtype memory =
+pub head_asks : {ahead after : List ℕ} (origin : Option (List (List ℕ))) (head : Head) (asks : Bool)
+    → HeadRead origin ahead after head → asks || ends_in_list (layout_of head.rtype head.class) ≡ true
+    → (asks ≡ true) ⊎ BeginsWithList origin ahead
+head_asks {ahead = ahead} {after = after} origin head asks read memory =
     by_cases (either_true asks (ends_in_list (layout_of head.rtype head.class)) memory)
   where
     by_cases : (asks ≡ true) ⊎ (ends_in_list (layout_of head.rtype head.class) ≡ true)
@@ -251,13 +269,13 @@ head_asks origin head owner first second kind ahead a b c d asks w1 is_name w2 w
     by_cases (inl is) = inl is
     by_cases (inr list) = inr (record {
       head = head;
-      words = owner ∷ first ∷ second ∷ kind ∷ [];
-      rest = d;
-      begins = (a, w1, (b, w2, (c, w3, (d, w4, refl))));
+      words = read.owner ∷ read.first ∷ read.second ∷ read.kind ∷ [];
+      rest = after;
+      begins = read.begins;
       is = (
-        is_name,
-        order_text head.ttl head.class (Then (IsRtypeWord head.rtype) (λ more. more ≡ [])) first second (kind ∷ [])
-            order (is_rtype, refl),
+        read.is_name,
+        order_text head.ttl head.class (Then (IsRtypeWord head.rtype) (λ more. more ≡ [])) read.first read.second
+            (read.kind ∷ []) read.is_order (read.is_rtype, refl),
       );
       list = list;
     })

@@ -8,7 +8,8 @@ use Rattle.octseq_dns_compress.specs.State.{State}
 use Rattle.octseq_dns_message.specs.declared.header.Header.{Header}
 use Rattle.octseq_dns_message.specs.declared.header.HeaderCounts.{HeaderCounts}
 use Rattle.octseq_dns_scan.specs.Word.{AreWords, TakesWord}
-use Rattle.octseq_dns_compose.specs.MessageText.{Entry, HasRead, IsRecordOf, IsWithAll, Said, SayEntries, headed_message}
+use Rattle.octseq_dns_compose.specs.MessageText.{Entry, HasRead, IsRecordOf, IsWithAll, Said, SayEntries}
+use Rattle.octseq_dns_compose.specs.MessageText.{headed_message}
 use Rattle.octseq_dns_compose.specs.RecordText.{BeginsWithList}
 use Rattle.octseq_dns_compose.specs.TextLines.{BeginsWithLines, Splits}
 

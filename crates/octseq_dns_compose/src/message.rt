@@ -52,12 +52,12 @@ pub fn compose_text<B: OctetsBuilder + Truncate + AsOctetsMut, T: Compressor>(
 ) -> Result<AdditionalBuilder<B, T>, ComposeError>
     ensures ok { IfOk result (λ b. (m : Message) × IsMessageText text.now m
         × Writes T.most m b.state b.header b.counts) }
+    ensures within { IfOk result (λ b. IsWithin (message_limit B.limit) (length b.state.octets)) }
     ensures malformed { (place : Place) → IsErrOf result (ComposeError.Malformed place)
         → IsLineFault IsAnyText text.now 1 place.line place.offset }
     ensures first { (place : Place) → IsErrOf result (ComposeError.Malformed place)
         → ¬ IsTooLong T.most (message_limit B.limit) text.now }
-    ensures within { IfOk result (λ b. ¬ IsTooLong T.most (message_limit B.limit) text.now
-        × IsWithin (message_limit B.limit) (length b.state.octets)) }
+    ensures not_long { OnOk result (¬ IsTooLong T.most (message_limit B.limit) text.now) }
     ensures short { IsErrOf result ComposeError.Short → IsTooLong T.most (message_limit B.limit) text.now }
     ensures memory { IsErrOf result ComposeError.Memory
         → (B.asks ≡ true) ⊎ (T.asks ≡ true) ⊎ HasListLine text.now }
@@ -94,8 +94,8 @@ fn started<B: OctetsBuilder + Truncate + AsOctetsMut, T: Compressor>(
     table: T,
 ) -> Result<MessageBuilder<B, T>, ComposeError>
     ensures written { IfOk result (λ m. Writes T.most blank_message m.state m.header m.counts) }
-    ensures other { (place : Place) → ¬ IsErrOf result (ComposeError.Malformed place) }
     ensures within { IfOk result (λ m. IsWithin (message_limit B.limit) (length m.state.octets)) }
+    ensures other { (place : Place) → ¬ IsErrOf result (ComposeError.Malformed place) }
     ensures push_limit { IfOk result (λ m. m.push_limit ≡ None) }
     ensures short { IsErrOf result ComposeError.Short → IsPast B.limit 12 }
     ensures memory { IsErrOf result ComposeError.Memory → B.asks ≡ true }
@@ -119,17 +119,19 @@ fn push_questions<B: OctetsBuilder + Truncate + AsOctetsMut, T: Compressor>(
         × ((m : Message) → Writes T.most m message.old.state message.old.header message.old.counts
         → Writes T.most (all_more more_questions m questions) message.new.state message.new.header
         message.new.counts)) }
+    ensures within { OnOk result (IsWithin (message_limit B.limit) (length message.old.state.octets)
+        → IsWithin (message_limit B.limit) (length message.new.state.octets)) }
     ensures malformed { (place : Place) → IsErrOf result (ComposeError.Malformed place)
         → IsStop IsQuestionLine (codes "question") IsAnyQuestion lines.old.ahead.now lines.old.number place.line
         place.offset }
     ensures added { OnOk result ((m : Message)
         → Writes T.most m message.old.state message.old.header message.old.counts
-        → AddsUpTo (AddsQuestion T.most (least_limit message.old.push_limit (message_limit B.limit))) m
+        → AddsUpTo (AddsQuestion T.most (message_limit B.limit)) m
         lines.old.ahead.now (λ after ahead. Writes T.most after message.new.state message.new.header
         message.new.counts × (ahead ≡ lines.new.ahead.now))) }
     ensures stopped { (place : Place) → IsErrOf result (ComposeError.Malformed place) → (m : Message)
         → Writes T.most m message.old.state message.old.header message.old.counts
-        → AddsUpTo (AddsQuestion T.most (least_limit message.old.push_limit (message_limit B.limit))) m
+        → AddsUpTo (AddsQuestion T.most (message_limit B.limit)) m
         lines.old.ahead.now (λ after ahead. IsFaultyLine (codes "question") IsAnyQuestion ahead place.offset) }
     ensures short { IsErrOf result ComposeError.Short → ReadUpTo IsQuestionLine lines.old.ahead.now lines.old.number
         (λ questions ahead. (m : Message) → Writes T.most m message.old.state message.old.header message.old.counts
@@ -175,18 +177,20 @@ fn push_records<
         × IsNoneOf section.now lines.new.ahead.now
         × HasWritten T.most S.more said message.old.state message.new.state message.old.header message.new.header
         message.old.counts message.new.counts) }
+    ensures within { OnOk result (IsWithin (message_limit B.limit) (length message.old.state.octets)
+        → IsWithin (message_limit B.limit) (length message.new.state.octets)) }
     ensures malformed { (place : Place) → IsErrOf result (ComposeError.Malformed place)
         → IsStop (IsRecordLine section.now) section.now (IsAnyRecord None) lines.old.ahead.now lines.old.number
         place.line place.offset }
     ensures added { OnOk result ((m : Message)
         → Writes T.most m message.old.state message.old.header message.old.counts
-        → AddsUpTo (AddsRecord T.most (least_limit message.old.push_limit (message_limit B.limit)) D.limit section.now
-        S.more) m lines.old.ahead.now (λ after ahead. Writes T.most after message.new.state message.new.header
+        → AddsUpTo (AddsRecord T.most (message_limit B.limit) D.limit section.now S.more) m
+        lines.old.ahead.now (λ after ahead. Writes T.most after message.new.state message.new.header
         message.new.counts × (ahead ≡ lines.new.ahead.now))) }
     ensures stopped { (place : Place) → IsErrOf result (ComposeError.Malformed place) → (m : Message)
         → Writes T.most m message.old.state message.old.header message.old.counts
-        → AddsUpTo (AddsRecord T.most (least_limit message.old.push_limit (message_limit B.limit)) D.limit section.now
-        S.more) m lines.old.ahead.now (λ after ahead. IsFaultyLine section.now (IsAnyRecord None) ahead place.offset
+        → AddsUpTo (AddsRecord T.most (message_limit B.limit) D.limit section.now S.more) m
+        lines.old.ahead.now (λ after ahead. IsFaultyLine section.now (IsAnyRecord None) ahead place.offset
         × ¬ IsLongLine section.now (IsAnyRecord None) D.limit ahead) }
     ensures short { IsErrOf result ComposeError.Short
         → ReadUpTo (IsRecordLine section.now) lines.old.ahead.now lines.old.number (λ said ahead.
@@ -225,12 +229,11 @@ fn push_record<B: OctetsBuilder + Truncate + AsOctetsMut, T: Compressor, S: Reco
         × IsRecordOf (record { head = head_of head.now; octets = octets.now }) r
         × ((m : Message) → Writes T.most m message.old.state message.old.header message.old.counts
         → Writes T.most (S.more m r) message.new.state message.new.header message.new.counts)) }
+    ensures within { OnOk result (IsWithin (message_limit B.limit) (length message.new.state.octets)) }
     ensures short { IsShort append_error result → (r : Record)
         × IsRecordOf (record { head = head_of head.now; octets = octets.now }) r
         × ((m : Message) → Writes T.most m message.old.state message.old.header message.old.counts
         → Exceeds T.most (least_limit message.old.push_limit (message_limit B.limit)) S.count (S.more m r)) }
-    ensures within { OnOk result (IsWithin (least_limit message.old.push_limit (message_limit B.limit))
-        (length message.new.state.octets)) }
     ensures memory { IsMemory append_error result → (B.asks ≡ true) ⊎ (T.asks ≡ true) }
     ensures push_limit { message.new.push_limit ≡ message.old.push_limit }
     ensures borrows { B.borrows message.new.octets ≡ B.borrows message.old.octets }

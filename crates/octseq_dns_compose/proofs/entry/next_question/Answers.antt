@@ -18,6 +18,6 @@ returns-in_default-after_feed-clause-malformed c = λ place is.
     let over : c.split_line-line.result.1.now ≡ [] = c.in_default-after_feed.ensures.none (search rules) in (
       both.0,
       subst (IsFaultyLine (codes "question") IsAnyQuestion c.args.lines.now.ahead.now) (sym at)
-          (no_feed (codes "question") IsAnyQuestion c.args.lines.now.ahead.now _ _ _ _ all.0 [] c.split_line-line.ensures
-          taken.0 taken.1 all.1 (_, _, _, all.2) over),
+          (no_feed (codes "question") IsAnyQuestion c.args.lines.now.ahead.now _ _ _ _ all.0 []
+          c.split_line-line.ensures taken.0 taken.1 all.1 (_, _, _, all.2) over),
     )

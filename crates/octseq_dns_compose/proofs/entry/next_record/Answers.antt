@@ -23,8 +23,8 @@ returns-in-Err-Malformed-clause-malformed g c = λ place is.
     let fault = c.in-Err-Malformed.ensures.fault c.in-Err-Malformed.offset (search rules) in (
       both.0,
       subst (IsFaultyLine c.args.first.now (IsAnyRecord None) c.args.lines.now.ahead.now) (sym at)
-          (faulty_words c.args.first.now (IsAnyRecord None) c.args.lines.now.ahead.now _ _ _ _ _ c.split_line-line.ensures
-          taken.0 taken.1 fault),
+          (faulty_words c.args.first.now (IsAnyRecord None) c.args.lines.now.ahead.now _ _ _ _ _
+          c.split_line-line.ensures taken.0 taken.1 fault),
     )
 
 pub returns-in-Err-Malformed-clause-first : goal.returns-in-Err-Malformed-clause-first

@@ -1,100 +1,79 @@
-use Rattle.std.proofs.Common.{◌≡◌, [], length, codes, sym, ap, subst, arith, rules}
+use Rattle.std.proofs.Common.{◌≡◌, [], codes, sym, subst, rules}
 use Rattle.octseq_dns_scan.specs.Word.{TakesWord}
-use Rattle.octseq_dns_scan.specs.Words.{ahead_of, offset_of}
-use Rattle.octseq_dns_text.specs.Scans.{IsFault}
+use Rattle.octseq_dns_scan.specs.Words.{ahead_of}
 use Rattle.octseq_dns_compose.specs.Take.{IsUpTo}
-use Rattle.octseq_dns_compose.proofs.HeaderLines.{fault_at_id, fault_after_id, fault_at_opcode, fault_after_opcode}
-use Rattle.octseq_dns_compose.proofs.HeaderLines.{fault_at_rcode, fault_after_rcode, fault_at_flags}
-use Rattle.octseq_dns_compose.proofs.HeaderLines.{fault_after_flags, line_words, AfterRcode, Of}
+use Rattle.octseq_dns_compose.proofs.Faults.{Reached, kept_fault, reached_fault}
+use Rattle.octseq_dns_compose.proofs.HeaderLines.{AfterId, AfterOpcode, AfterRcode, HeaderTexts, Of, at_line}
+use Rattle.octseq_dns_compose.proofs.HeaderLines.{fault_after_flags}
+use Rattle.octseq_dns_compose.proofs.HeaderLines.{fault_at_flags, field_fault, id_text, line_words, opcode_text}
+use Rattle.octseq_dns_compose.proofs.HeaderLines.{past_field, rcode_text}
 use Rattle.octseq_dns_compose.proofs.header.scan_header.Goals as goal
 
 pub returns-in_default : goal.returns-in_default
-returns-in_default c = record {
-  some = tt;
-  none = λ _. fault_at_id (ahead_of c.args.words.now) (ahead_of c.take_field.new.words) (offset_of c.args.words.now)
-      (offset_of c.take_field.new.words) c.in_default.ensures.end (c.in_default.ensures.taken.none (search rules));
-}
+returns-in_default c =
+    record {
+      some = tt;
+      none = λ _. reached_fault at_line
+          (field_fault (codes "id") 65535 AfterId _ _ _ _ id_text c.in_default.ensures.end
+          (c.in_default.ensures.taken.none (search rules)));
+    }
 
 pub returns-in_default-take_field : goal.returns-in_default-take_field
 returns-in_default-take_field c =
-    let id = c.in-Some.ensures.taken.some in
+    let one : Reached HeaderTexts (Of AfterId) _ _ _ _ =
+    past_field at_line c.in-Some.ensures.taken.some c.in-Some.ensures.end in
     record {
       some = tt;
-      none = λ _. fault_after_id (ahead_of c.args.words.now) id.0 (ahead_of c.take_field.new.words) id.1
-          (offset_of c.args.words.now) (offset_of c.take_field.new.words) (offset_of c.take_field-2.new.words)
-          c.in-Some.id id.2 id.3 id.4 c.in-Some.ensures.end
-          (fault_at_opcode (ahead_of c.take_field.new.words) (ahead_of c.take_field-2.new.words)
-          (offset_of c.take_field.new.words) (offset_of c.take_field-2.new.words) c.in_default-take_field.ensures.end
+      none = λ _. reached_fault one
+          (field_fault (codes "opcode") 15 AfterOpcode _ _ _ _ opcode_text c.in_default-take_field.ensures.end
           (c.in_default-take_field.ensures.taken.none (search rules)));
     }
 
 pub returns-in_default-take_field-2 : goal.returns-in_default-take_field-2
 returns-in_default-take_field-2 c =
-    let id = c.in-Some.ensures.taken.some in
-    let opcode = c.in-Some-take_field.ensures.taken.some in
+    let one : Reached HeaderTexts (Of AfterId) _ _ _ _ =
+    past_field at_line c.in-Some.ensures.taken.some c.in-Some.ensures.end in
+    let two : Reached HeaderTexts (Of AfterOpcode) _ _ _ _ =
+    past_field one c.in-Some-take_field.ensures.taken.some c.in-Some-take_field.ensures.end in
     record {
       some = tt;
-      none = λ _. fault_after_id (ahead_of c.args.words.now) id.0 (ahead_of c.take_field.new.words) id.1
-          (offset_of c.args.words.now) (offset_of c.take_field.new.words) (offset_of c.take_field-3.new.words)
-          c.in-Some.id id.2 id.3 id.4 c.in-Some.ensures.end
-          (fault_after_opcode (ahead_of c.take_field.new.words) opcode.0 (ahead_of c.take_field-2.new.words) opcode.1
-          (offset_of c.take_field.new.words) (offset_of c.take_field-2.new.words) (offset_of c.take_field-3.new.words)
-          c.in-Some-take_field.opcode opcode.2 opcode.3 opcode.4 c.in-Some-take_field.ensures.end
-          (fault_at_rcode (ahead_of c.take_field-2.new.words) (ahead_of c.take_field-3.new.words)
-          (offset_of c.take_field-2.new.words) (offset_of c.take_field-3.new.words)
-          c.in_default-take_field-2.ensures.end (c.in_default-take_field-2.ensures.taken.none (search rules))));
+      none = λ _. reached_fault two
+          (field_fault (codes "rcode") 15 AfterRcode _ _ _ _ rcode_text c.in_default-take_field-2.ensures.end
+          (c.in_default-take_field-2.ensures.taken.none (search rules)));
     }
 
 pub returns-then-not-take_word : goal.returns-then-not-take_word
 returns-then-not-take_word c =
-    let id = c.in-Some.ensures.taken.some in
-    let opcode = c.in-Some-take_field.ensures.taken.some in
-    let rcode = c.in-Some-take_field-2.ensures.taken.some in
+    let one : Reached HeaderTexts (Of AfterId) _ _ _ _ =
+    past_field at_line c.in-Some.ensures.taken.some c.in-Some.ensures.end in
+    let two : Reached HeaderTexts (Of AfterOpcode) _ _ _ _ =
+    past_field one c.in-Some-take_field.ensures.taken.some c.in-Some-take_field.ensures.end in
+    let three : Reached HeaderTexts (Of AfterRcode) _ _ _ _ =
+    past_field two c.in-Some-take_field-2.ensures.taken.some c.in-Some-take_field-2.ensures.end in
     let none = c.if-not-take_word.ensures.taken in
-    let size = ap length none.0 in
-    let end = c.if-not-take_word.ensures.end in
-    let at : offset_of c.take_field-3.new.words ≡ offset_of c.take_word.new.words = omega (arith, size, end) in
     record {
       some = tt;
-      none = λ _. fault_after_id (ahead_of c.args.words.now) id.0 (ahead_of c.take_field.new.words) id.1
-          (offset_of c.args.words.now) (offset_of c.take_field.new.words) (offset_of c.take_word.new.words)
-          c.in-Some.id id.2 id.3 id.4 c.in-Some.ensures.end
-          (fault_after_opcode (ahead_of c.take_field.new.words) opcode.0 (ahead_of c.take_field-2.new.words) opcode.1
-          (offset_of c.take_field.new.words) (offset_of c.take_field-2.new.words) (offset_of c.take_word.new.words)
-          c.in-Some-take_field.opcode opcode.2 opcode.3 opcode.4 c.in-Some-take_field.ensures.end
-          (fault_after_rcode (ahead_of c.take_field-2.new.words) rcode.0 (ahead_of c.take_field-3.new.words) rcode.1
-          (offset_of c.take_field-2.new.words) (offset_of c.take_field-3.new.words) (offset_of c.take_word.new.words)
-          c.in-Some-take_field-2.rcode rcode.2 rcode.3 rcode.4 c.in-Some-take_field-2.ensures.end
-          (subst (IsFault (Of AfterRcode) (ahead_of c.take_field-3.new.words) (offset_of c.take_field-3.new.words)) at
-          (fault_at_flags (ahead_of c.take_field-3.new.words) (offset_of c.take_field-3.new.words) none.1))));
+      none = λ _. reached_fault three
+          (kept_fault (Of AfterRcode) _ _ _ _ none.0 c.if-not-take_word.ensures.end (fault_at_flags _ _ none.1));
     }
 
 pub returns-then-not-is_at_end : goal.returns-then-not-is_at_end
 returns-then-not-is_at_end c =
-    let id = c.in-Some.ensures.taken.some in
-    let opcode = c.in-Some-take_field.ensures.taken.some in
-    let rcode = c.in-Some-take_field-2.ensures.taken.some in
+    let one : Reached HeaderTexts (Of AfterId) _ _ _ _ =
+    past_field at_line c.in-Some.ensures.taken.some c.in-Some.ensures.end in
+    let two : Reached HeaderTexts (Of AfterOpcode) _ _ _ _ =
+    past_field one c.in-Some-take_field.ensures.taken.some c.in-Some-take_field.ensures.end in
+    let three : Reached HeaderTexts (Of AfterRcode) _ _ _ _ =
+    past_field two c.in-Some-take_field-2.ensures.taken.some c.in-Some-take_field-2.ensures.end in
     let word : TakesWord (codes "flags") (ahead_of c.take_field-3.new.words) (ahead_of c.take_word.new.words) =
     c.if-not-take_word.ensures.taken in
     let flags = c.take_flags-flags.ensures.taken in
     let some : ¬ (ahead_of c.take_flags-flags.new.words ≡ []) = search rules in
     record {
       some = tt;
-      none = λ _. fault_after_id (ahead_of c.args.words.now) id.0 (ahead_of c.take_field.new.words) id.1
-          (offset_of c.args.words.now) (offset_of c.take_field.new.words) (offset_of c.take_flags-flags.new.words)
-          c.in-Some.id id.2 id.3 id.4 c.in-Some.ensures.end
-          (fault_after_opcode (ahead_of c.take_field.new.words) opcode.0 (ahead_of c.take_field-2.new.words) opcode.1
-          (offset_of c.take_field.new.words) (offset_of c.take_field-2.new.words)
-          (offset_of c.take_flags-flags.new.words)
-          c.in-Some-take_field.opcode opcode.2 opcode.3 opcode.4 c.in-Some-take_field.ensures.end
-          (fault_after_rcode (ahead_of c.take_field-2.new.words) rcode.0 (ahead_of c.take_field-3.new.words) rcode.1
-          (offset_of c.take_field-2.new.words) (offset_of c.take_field-3.new.words)
-          (offset_of c.take_flags-flags.new.words)
-          c.in-Some-take_field-2.rcode rcode.2 rcode.3 rcode.4 c.in-Some-take_field-2.ensures.end
-          (fault_after_flags (ahead_of c.take_field-3.new.words) (ahead_of c.take_word.new.words)
-          (ahead_of c.take_flags-flags.new.words) flags.0 (offset_of c.take_field-3.new.words)
-          (offset_of c.take_word.new.words) (offset_of c.take_flags-flags.new.words) word
-          c.if-not-take_word.ensures.end flags.1 c.take_flags-flags.ensures.end some)));
+      none = λ _. reached_fault three
+          (fault_after_flags _ _ _ flags.0 _ _ _ word c.if-not-take_word.ensures.end flags.1
+          c.take_flags-flags.ensures.end some);
     }
 
 pub returns : goal.returns

@@ -1,10 +1,10 @@
-use Rattle.std.proofs.Common.{[], ◌∷◌, ◌++◌, ◌∙◌, codes, length, refl, sym, subst, rules}
+use Rattle.std.proofs.Common.{[], ◌∷◌, ◌++◌, ◌∙◌, codes, refl, sym, subst, rules}
 use Rattle.octseq_dns_compose.specs.MessageText.{IsQuestionLine}
-use Rattle.octseq.specs.Limit.{IsWithin}
 use Rattle.octseq_dns_compose.specs.QuestionText.{IsAnyQuestion, IsQuestionText}
 use Rattle.octseq_dns_compose.specs.TextLines.{IsFaultyLine, IsNoneOf}
 use Rattle.octseq_dns_compose.proofs.Onstage.{added_more, added_none, added_so, question_added}
 use Rattle.octseq_dns.specs.Pushed.{pushed_question}
+use Rattle.octseq_dns.proofs.LeastLimit.{within_second}
 use Rattle.octseq_dns.specs.Sections.{takes_questions}
 use Rattle.octseq_dns.specs.Writes.{all_more, least_limit, more_questions}
 use Rattle.octseq_dns_compress.specs.Composed.{message_limit}
@@ -19,6 +19,7 @@ lines-init g c = (
   [],
   read_none IsQuestionLine _ _ _ _ refl refl,
   λ m writes. writes,
+  λ within. within,
   refl,
   refl,
   λ m writes. added_none m c.args.lines.now.ahead.now (writes, refl),
@@ -47,32 +48,33 @@ lines-preserved g c =
       ),
       λ m writes. questions_more g.T.Compressor.most m so_far.0 q _ _ _
           (c.in-Ok-push_question.ensures.written _ (so_far.2 m writes)),
-      c.in-Ok-push_question.ensures.push_limit ∙ so_far.3,
-      c.in-Ok-push_question.ensures.borrows ∙ so_far.4,
-      λ m writes. added_more m c.args.lines.now.ahead.now (so_far.5 m writes) (λ after ahead here.
-          question_added g.T.Compressor.most
-          (least_limit c.args.message.now.push_limit (message_limit g.B.AsOctets.limit)) after c.lines.lines.ahead.now
-          ahead c.next_question.new.lines.ahead.now q (codes "question" ∷ some.0) c.push_question.new.self.state
+      λ within. within_second c.lines.message.push_limit (message_limit g.B.AsOctets.limit) _
+          c.in-Ok-push_question.ensures.within,
+      c.in-Ok-push_question.ensures.push_limit ∙ so_far.4,
+      c.in-Ok-push_question.ensures.borrows ∙ so_far.5,
+      λ m writes. added_more m c.args.lines.now.ahead.now (so_far.6 m writes) (λ after ahead here.
+          question_added g.T.Compressor.most (message_limit g.B.AsOctets.limit) after c.lines.lines.ahead.now ahead
+          c.next_question.new.lines.ahead.now q (codes "question" ∷ some.0) c.push_question.new.self.state
           c.push_question.new.self.header c.push_question.new.self.counts here.1 some.1 (
             refl,
             subst (λ labels. IsQuestionText labels c.in-Some.question.qclass c.in-Some.question.qtype some.0)
                 (sym c.parsed-qname.ensures) some.2,
           ) (c.in-Ok-push_question.ensures.written after here.0)
-          (subst (λ l. IsWithin (least_limit l (message_limit g.B.AsOctets.limit))
-          (length c.push_question.new.self.state.octets)) so_far.3 c.in-Ok-push_question.ensures.within)),
+          (within_second c.lines.message.push_limit (message_limit g.B.AsOctets.limit) _
+          c.in-Ok-push_question.ensures.within)),
     )
 
 pub returns-in_default-clause-added : goal.returns-in_default-clause-added
 returns-in_default-clause-added g c = λ m writes.
     let so_far = c.lines.invariant in
     let none = if_none c.in-Ok.next _ (search rules) c.in-Ok.ensures.none in
-    added_so m c.args.lines.now.ahead.now (so_far.5 m writes) (λ after ahead now. (now.0, now.1 ∙ sym none.1))
+    added_so m c.args.lines.now.ahead.now (so_far.6 m writes) (λ after ahead now. (now.0, now.1 ∙ sym none.1))
 
 pub returns-in-Err-clause-stopped : goal.returns-in-Err-clause-stopped
 returns-in-Err-clause-stopped g c = λ place is m writes.
     let so_far = c.lines.invariant in
     let found = c.in-Err.ensures.malformed place (search (rules, is)) in
-    added_so m c.args.lines.now.ahead.now (so_far.5 m writes) (λ after ahead now.
+    added_so m c.args.lines.now.ahead.now (so_far.6 m writes) (λ after ahead now.
     subst (λ t. IsFaultyLine (codes "question") IsAnyQuestion t place.offset) (sym now.1) found.1)
 
 pub returns-in-Err-clause-malformed : goal.returns-in-Err-clause-malformed
@@ -94,6 +96,7 @@ returns-in-Err-Short-clause-short g c = λ _.
     let some = if_some c.in-Ok.next _ _ c.in-Some.is c.in-Ok.ensures.some in
     let q = pushed_question c.parsed-qname.result c.in-Some.question.qtype c.in-Some.question.qclass in
     let limit = message_limit g.B.AsOctets.limit in
+    let most = g.T.Compressor.most in
     record {
       values = so_far.0 ++ q ∷ [];
       ahead = c.next_question.new.lines.ahead.now;
@@ -104,11 +107,11 @@ returns-in-Err-Short-clause-short g c = λ _.
             (sym c.parsed-qname.ensures) some.2,
       );
       is = λ m writes.
-          subst (Exceeds g.T.Compressor.most (least_limit c.args.message.now.push_limit limit) (λ counts. counts.qdcount))
+          subst (Exceeds most (least_limit c.args.message.now.push_limit limit) (λ counts. counts.qdcount))
           (sym (more_snoc more_questions m so_far.0 q))
-          (subst (λ l. Exceeds g.T.Compressor.most (least_limit l limit) (λ counts. counts.qdcount)
-          (more_questions (all_more more_questions m so_far.0) q)) so_far.3
-          (push_exceeds takes_questions g.T.Compressor.most (least_limit c.lines.message.push_limit limit) q
+          (subst (λ l. Exceeds most (least_limit l limit) (λ counts. counts.qdcount)
+          (more_questions (all_more more_questions m so_far.0) q)) so_far.4
+          (push_exceeds takes_questions most (least_limit c.lines.message.push_limit limit) q
           c.lines.message.state c.lines.message.header c.lines.message.counts c.in-Err-Short.ensures.reaches
           (c.in-Err-Short.ensures.pushed.short (search rules)) (all_more more_questions m so_far.0)
           (so_far.2 m writes)));

@@ -1,4 +1,5 @@
 -- The record that is pushed, or refused.
+use Rattle.octseq_dns.proofs.LeastLimit.{within_second}
 use Rattle.octseq_dns.specs.Pushed.{pushed_record}
 use Rattle.octseq_dns.specs.Rdata.{bare_rdata, rdata_fields, rtype_of}
 use Rattle.octseq_dns.specs.Writes.{least_limit}
@@ -41,3 +42,8 @@ returns-clause-short g c = λ is.
       push_exceeds g.met.S.RecordSection.takes_records g.T.Compressor.most limit r message.state message.header
           message.counts pushed.reaches (pushed.pushed.short is),
     )
+
+pub returns-clause-within : goal.returns-clause-within
+returns-clause-within g c =
+    on_ok c.push_record.result _ _
+    (within_second c.args.message.now.push_limit (message_limit g.B.AsOctets.limit) _) c.push_record.ensures.within

@@ -1,8 +1,7 @@
 use Rattle.std.proofs.Common.{None, [], ◌∷◌, ◌++◌, ◌∙◌, length, refl, sym, subst, inl, inr, rules}
 use Rattle.octseq_dns_compose.specs.MessageText.{IsRecordLine, IsRecordOf, Said}
 use Rattle.octseq_dns_compose.specs.Read.{head_of}
-use Rattle.octseq_dns_compose.specs.RecordText.{IsRecordText}
-use Rattle.octseq_dns_compose.specs.RecordText.{IsAnyRecord}
+use Rattle.octseq_dns_compose.specs.RecordText.{IsAnyRecord, IsRecordText}
 use Rattle.octseq_dns_compose.specs.TextLines.{IsFaultyLine, IsLongLine, IsNoneOf}
 use Rattle.octseq.specs.Limit.{IsWithin}
 use Rattle.octseq_dns_compose.proofs.Onstage.{added_more, added_none, added_so, record_added}
@@ -14,14 +13,16 @@ use Rattle.octseq_dns_compose.proofs.MessageTexts.{read_more, read_none, read_sa
 use Rattle.octseq_dns_compose.proofs.message.push_records.Goals as goal
 
 pub lines-init : goal.lines-init
-lines-init g c = (
-  [],
-  read_none (IsRecordLine c.args.section.now) _ _ _ _ refl refl,
-  written_none _ _ _ _ _,
-  refl,
-  refl,
-  λ m writes. added_none m c.args.lines.now.ahead.now (writes, refl),
-)
+lines-init g c =
+    let read = read_none (IsRecordLine c.args.section.now) _ _ _ _ refl refl in (
+      [],
+      read,
+      written_none _ _ _ _ _,
+      λ within. within,
+      refl,
+      refl,
+      λ m writes. added_none m c.args.lines.now.ahead.now (writes, refl),
+    )
 
 pub returns-in_default-clause-ok : goal.returns-in_default-clause-ok
 returns-in_default-clause-ok g c =
@@ -45,32 +46,31 @@ lines-preserved g c =
           (refl, subst (IsRecordText None (head_of c.in-Some.head) some.0) (sym c.as_ref.ensures.value) some.2),
       written_more g.T.Compressor.most g.S.RecordSection.more so_far.0 one pushed.0 _ _ _ _ _ _ _ _ _ so_far.2 pushed.1
           pushed.2,
-      c.in-Ok-push_record.ensures.push_limit ∙ so_far.3,
-      c.in-Ok-push_record.ensures.borrows ∙ so_far.4,
-      λ m writes. added_more m c.args.lines.now.ahead.now (so_far.5 m writes) (λ after ahead here.
-          record_added g.T.Compressor.most
-          (least_limit c.args.message.now.push_limit (message_limit g.B.AsOctets.limit)) g.D.AsOctets.limit c.args.section.now g.S.RecordSection.more after c.lines.lines.ahead.now ahead
-          c.next_record.new.lines.ahead.now one (c.args.section.now ∷ some.0) pushed.0 c.push_record.new.message.state
-          c.push_record.new.message.header c.push_record.new.message.counts here.1 some.1
+      λ within. c.in-Ok-push_record.ensures.within,
+      c.in-Ok-push_record.ensures.push_limit ∙ so_far.4,
+      c.in-Ok-push_record.ensures.borrows ∙ so_far.5,
+      λ m writes. added_more m c.args.lines.now.ahead.now (so_far.6 m writes) (λ after ahead here.
+          record_added g.T.Compressor.most (message_limit g.B.AsOctets.limit) g.D.AsOctets.limit c.args.section.now
+          g.S.RecordSection.more after c.lines.lines.ahead.now ahead c.next_record.new.lines.ahead.now one
+          (c.args.section.now ∷ some.0) pushed.0 c.push_record.new.message.state c.push_record.new.message.header
+          c.push_record.new.message.counts here.1 some.1
           (refl, subst (IsRecordText None (head_of c.in-Some.head) some.0) (sym c.as_ref.ensures.value) some.2)
           (subst (λ l. IsWithin g.D.AsOctets.limit (length l)) (sym c.as_ref.ensures.value) c.as_ref.ensures.within)
-          pushed.1 (pushed.2 after here.0)
-          (subst (λ l. IsWithin (least_limit l (message_limit g.B.AsOctets.limit))
-          (length c.push_record.new.message.state.octets)) so_far.3 c.in-Ok-push_record.ensures.within)),
+          pushed.1 (pushed.2 after here.0) c.in-Ok-push_record.ensures.within),
     )
 
 pub returns-in_default-clause-added : goal.returns-in_default-clause-added
 returns-in_default-clause-added g c = λ m writes.
     let so_far = c.lines.invariant in
     let none = if_none c.in-Ok.next _ (search rules) c.in-Ok.ensures.none in
-    added_so m c.args.lines.now.ahead.now (so_far.5 m writes) (λ after ahead now. (now.0, now.1 ∙ sym none.1))
+    added_so m c.args.lines.now.ahead.now (so_far.6 m writes) (λ after ahead now. (now.0, now.1 ∙ sym none.1))
 
 pub returns-in-Err-clause-stopped : goal.returns-in-Err-clause-stopped
 returns-in-Err-clause-stopped g c = λ place is m writes.
     let so_far = c.lines.invariant in
     let found = c.in-Err.ensures.malformed place (search (rules, is)) in
     let short = c.in-Err.ensures.first place (search (rules, is)) in
-    added_so m c.args.lines.now.ahead.now (so_far.5 m writes) (λ after ahead now. (
+    added_so m c.args.lines.now.ahead.now (so_far.6 m writes) (λ after ahead now. (
       subst (λ t. IsFaultyLine c.args.section.now (IsAnyRecord None) t place.offset) (sym now.1) found.1,
       subst (λ t. ¬ IsLongLine c.args.section.now (IsAnyRecord None) g.D.AsOctets.limit t) (sym now.1) short,
     ))
@@ -137,7 +137,7 @@ returns-in-Err-Short-clause-short g c = λ _.
             subst (Exceeds most (least_limit c.args.message.now.push_limit limit) g.S.RecordSection.count)
             (sym (more_snoc more m written.records pushed.0))
             (subst (λ l. Exceeds most (least_limit l limit) g.S.RecordSection.count
-            (more (all_more more m written.records) pushed.0)) so_far.3
+            (more (all_more more m written.records) pushed.0)) so_far.4
             (pushed.2 (all_more more m written.records) (written.written m writes)));
       });
     }

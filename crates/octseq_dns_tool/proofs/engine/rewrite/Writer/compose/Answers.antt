@@ -5,13 +5,13 @@ pub returns-in-Ok : goal.returns-in-Ok
 returns-in-Ok c =
     let is = c.in-Ok.ensures.ok in
     let same = ap length c.keep.ensures in
-    let few : length c.in-Ok.composed.state.octets ≤ 65535 = c.in-Ok.ensures.within.1 in
+    let few : length c.in-Ok.composed.state.octets ≤ 65535 = c.in-Ok.ensures.within in
     record {
       message = is.0;
       is_text = is.1;
       octets_are = c.keep.ensures ∙ ap (λ state. state.octets) is.2.state_is;
       size = omega (arith, same, few);
-      is_short = c.in-Ok.ensures.within.0;
+      is_short = c.in-Ok.ensures.not_long;
     }
 
 pub returns-in-Err-Malformed : goal.returns-in-Err-Malformed
