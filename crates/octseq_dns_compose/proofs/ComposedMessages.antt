@@ -1,7 +1,7 @@
 -- The messages of a text are those that its lines say.
 use Rattle.std.proofs.Common.{◌≡◌, ◌↔◌, ℕ, List, [], ◌∷◌, ◌++◌, map, refl, sym, ap, ◌∙◌, subst}
 use Rattle.std.proofs.Common.{append_assoc, append-nil}
-use Rattle.std.specs.List.{AllByRecursion, AllZip, each_same}
+use Rattle.std.specs.List.{AllZip, each_same}
 use Rattle.octseq.specs.Window.{Window}
 use Rattle.octseq_dns.specs.Rdata.{rdata_fields}
 use Rattle.octseq_dns.specs.ReadBack.{bare}
@@ -16,7 +16,7 @@ use Rattle.octseq_dns_message.specs.MessageText as shown
 use Rattle.octseq_dns_message.specs.RecordData.{IsDataOf}
 use Rattle.octseq_format.specs.Canonical.{IsSound, sound_on}
 use Rattle.octseq_format.specs.Row.{Row}
-use Rattle.octseq_dns_compose.specs.MessageShown.{IsSaidOf, StaysUnknown, header_said, said_of}
+use Rattle.octseq_dns_compose.specs.MessageShown.{IsSaidOf, header_said, said_of}
 use Rattle.octseq_dns_compose.proofs.PlainData.{says_alone}
 use Rattle.octseq_dns_compose.proofs.ShownMessages.{AreRows, message_shown}
 use Rattle.octseq_dns_compose.proofs.ShownRecords.{record_fit}
@@ -192,10 +192,10 @@ messages_of text header questions answers authorities additionals m says = (ther
 -- ---- a message that was read
 
 record_again : (w : Window) (r : read.Record) (v : Window) (rdata : ParsedRdata) → IsSound w → IsRecord w r v
-    → StaysUnknown r → IsDataOf r rdata → IsRecordOf (said_of r rdata) (record_of_parsed r rdata)
-record_again w r v rdata sound is own says =
+    → IsDataOf r rdata → IsRecordOf (said_of r rdata) (record_of_parsed r rdata)
+record_again w r v rdata sound is says =
     let (u, fit) = record_fit w r v sound is in
-    let (parsed, same, alone) = says_alone r rdata fit.place fit.inside fit.rtype own says in
+    let (parsed, same, alone) = says_alone r rdata fit.data fit.place fit.inside says in
     record {
       parsed = parsed;
       says = alone;
@@ -209,31 +209,30 @@ record_again w r v rdata sound is own says =
     }
 
 records_again : (w v : Window) (records : List read.Record) (said : List Said) (written : List Record) → IsSound w
-    → Row IsRecord w records v → AllByRecursion StaysUnknown records → AllZip IsSaidOf records said
+    → Row IsRecord w records v → AllZip IsSaidOf records said
     → AllZip rewritten.IsRecordOf records written → AllZip IsRecordOf said written
-records_again w v [] [] [] sound row own are others = tt
-records_again w v [] (s ∷ said) written sound row own are others = absurd are
-records_again w v [] [] (x ∷ written) sound row own are others = absurd others
-records_again w v (r ∷ records) [] written sound row own are others = absurd are
-records_again w v (r ∷ records) (s ∷ said) [] sound row own are others = absurd others
-records_again w v (r ∷ records) (s ∷ said) (x ∷ written) sound (u, is, row) own are others =
+records_again w v [] [] [] sound row are others = tt
+records_again w v [] (s ∷ said) written sound row are others = absurd are
+records_again w v [] [] (x ∷ written) sound row are others = absurd others
+records_again w v (r ∷ records) [] written sound row are others = absurd are
+records_again w v (r ∷ records) (s ∷ said) [] sound row are others = absurd others
+records_again w v (r ∷ records) (s ∷ said) (x ∷ written) sound (u, is, row) are others =
     let (rdata, says, same) = are.0 in
     let other = others.0 in
     let one = other.is ∙ ap (record_of_parsed r) (one_said r other.parsed rdata other.data_is says) in
-    let it = record_again w r u rdata sound is own.0 says in
+    let it = record_again w r u rdata sound is says in
     let on = sound_on onward_record w r u sound is in (
       subst (λ t. IsRecordOf t x) (sym same) (subst (IsRecordOf (said_of r rdata)) (sym one) it),
-      records_again u v records said written on row own.1 are.1 others.1,
+      records_again u v records said written on row are.1 others.1,
     )
 
 -- is the message of its text
 pub message_again : (text : List ℕ) (header : Header) (questions : List read.Question)
     (answers authorities additionals : List read.Record) (m : Message)
     → AreRows header questions answers authorities additionals
-    → shown.IsMessageText header questions answers authorities additionals text → AllByRecursion StaysUnknown answers
-    → AllByRecursion StaysUnknown authorities → AllByRecursion StaysUnknown additionals
+    → shown.IsMessageText header questions answers authorities additionals text
     → rewritten.IsMessageOf (header_said header) questions answers authorities additionals m → IsMessageText text m
-message_again text header questions answers authorities additionals m rows is r_own u_own d_own of =
+message_again text header questions answers authorities additionals m rows is of =
     let said = message_shown text header questions answers authorities additionals rows is in
     let answered = rows.answered in
     let authorized = rows.authorized in
@@ -244,11 +243,11 @@ message_again text header questions answers authorities additionals m rows is r_
       questions_are = of.questions_are;
       answers_are =
           records_again answered.start answered.end answers said.answers_said m.answers answered.sound answered.are
-          r_own said.answers_are of.answers_are;
+          said.answers_are of.answers_are;
       authorities_are =
           records_again authorized.start authorized.end authorities said.authorities_said m.authorities
-          authorized.sound authorized.are u_own said.authorities_are of.authorities_are;
+          authorized.sound authorized.are said.authorities_are of.authorities_are;
       additionals_are =
           records_again added.start added.end additionals said.additionals_said m.additionals added.sound added.are
-          d_own said.additionals_are of.additionals_are;
+          said.additionals_are of.additionals_are;
     })

@@ -15,6 +15,7 @@ pub mod Overrun
 pub mod Places
 pub mod PlainData
 pub mod PlainNames
+pub mod PlainReadings
 pub mod Questions
 pub mod Records
 pub mod Samples

@@ -1,5 +1,5 @@
--- Data is read by itself from its octets with names in plain form.
-use Rattle.std.proofs.Common.{◌≡◌, ℕ, ◌≤◌, ◌<◌, Bool, true, false, List, [], ◌∷◌, ◌++◌, length, inl, inr, refl, sym, ap}
+-- Data is read by itself from its octets with names in plain form, as in the message.
+use Rattle.std.proofs.Common.{◌≡◌, ℕ, ◌≤◌, List, [], ◌∷◌, ◌++◌, length, inl, inr, refl, sym, ap}
 use Rattle.std.proofs.Common.{◌∙◌, subst}
 use Rattle.std.proofs.Common.{append_assoc, append-nil, arith}
 use Rattle.std.specs.List.{AllByRecursion}
@@ -14,8 +14,7 @@ use Rattle.octseq_dns.specs.ReadBack.{HasFields}
 use Rattle.octseq_dns_compress.specs.Fields.{AreFields}
 use Rattle.octseq_dns_compress.specs.Fits.{FitsField}
 use Rattle.octseq_dns_compress.specs.State.{Field}
-use Rattle.octseq_dns_data.proofs.Rdata.{IsEither, either, none_in_message}
-use Rattle.octseq_dns_data.specs.Data.{IsTypedData, ParsedRdata, SaysData, is_in_message}
+use Rattle.octseq_dns_data.specs.Data.{IsTypedData, ParsedRdata}
 use Rattle.octseq_dns_data.specs.Local.{form}
 use Rattle.octseq_dns_data.specs.Strings.{HasString}
 use Rattle.octseq_dns_data.specs.Typed.{mx_parts, naptr_parts, soa_parts, srv_parts}
@@ -25,10 +24,12 @@ use Rattle.octseq_dns_name.specs.NameFormat.{wire_has_labels}
 use Rattle.octseq_dns_name.specs.Wire.{wire}
 use Rattle.octseq_dns_text.proofs.ShownData.{mx_shown, naptr_shown, soa_shown, srv_shown, string_at}
 use Rattle.octseq_dns_text.proofs.ShownForms.{each_rest, name_fits}
-use Rattle.octseq_dns_text.proofs.ShownTypes.{local_fits, local_same}
+use Rattle.octseq_dns_text.proofs.ShownTypes.{local_fits}
 use Rattle.octseq_dns_text.specs.DataShown.{rdata_octets}
-use Rattle.octseq_dns_compose.specs.MessageShown.{HasNoForm, StaysUnknown}
-use Rattle.octseq_format.specs.Canonical.{IsSound, many_next, many_rest}
+use Rattle.octseq_dns_compose.proofs.PlainReadings.{plain_octets_are, plain_of}
+use Rattle.octseq_dns_compose.proofs.ShownRecords.{HasItsData}
+use Rattle.octseq_dns_compose.specs.Alone.{IsTypedAlone, SaysAlone}
+use Rattle.octseq_format.specs.Canonical.{IsSound, many_next}
 use Rattle.octseq_format.specs.Pair.{both_octets, both_say, past_both}
 use Rattle.octseq_format.specs.Row.{Row}
 
@@ -65,6 +66,18 @@ fields_there w (Field.octets x ∷ fields) more fits is =
     let u = past (length x) w in
     (come.0, come.1, subst (AreFields u fields) (past_both w x y) (fields_there u fields more fits.1 come.2))
 
+-- the fields of a record's data, if their octets are those of the data
+has_fields : (r : read.Record) (fields : List Field) → HasItsData r → AllByRecursion FitsField fields
+    → plain_octets fields ≡ rest r.rdata → HasFields r fields
+has_fields r fields its fits same =
+    let place = at r.rdata.position r.owner.place in
+    let octets = plain_octets fields in record {
+      in_message = its.in_message;
+      end = past (length octets) place;
+      fields_are = fields_there place fields its.more fits (its.there ∙ ap (λ t. t ++ its.more) (sym same));
+      ends = let many = ap length same in let long = its.long in omega (arith, many, long);
+    }
+
 -- a record of data alone
 abbrev own_record : ℕ → ℕ → List ℕ → read.Record
 own_record rtype class octets = record {
@@ -75,14 +88,12 @@ own_record rtype class octets = record {
   rdata = whole octets;
 }
 
-has_fields : (rtype class : ℕ) (octets : List ℕ) (fields : List Field) → AllByRecursion FitsField fields
-    → plain_octets fields ≡ octets → HasFields (own_record rtype class octets) fields
-has_fields rtype class octets fields fits same = record {
+own_data : (rtype class : ℕ) (octets : List ℕ) → HasItsData (own_record rtype class octets)
+own_data rtype class octets = record {
   in_message = refl;
-  end = past (length (plain_octets fields)) (whole octets);
-  fields_are = fields_there (whole octets) fields [] fits
-      (rest_whole octets ∙ sym same ∙ sym (append-nil (plain_octets fields)));
-  ends = let many = ap length same in omega (arith, many);
+  more = [];
+  there = sym (append-nil (rest (whole octets)));
+  long = let many = ap length (rest_whole octets) in omega (arith, many);
 }
 
 -- ---- the fields of data
@@ -173,74 +184,102 @@ typed_fits rtype class w inside (ParsedRdata.local k found) sound in_it is =
 typed_fits rtype class w inside (ParsedRdata.unknown other octets) sound in_it is = absurd is.rdata_is
 
 -- and has its record's type
-typed_of : (rtype class : ℕ) (w inside : Window) (rdata : ParsedRdata) (octets : List ℕ)
-    → IsTypedData rtype class w inside rdata → IsOfType (own_record rtype class octets) (bare_rdata rdata)
-typed_of rtype class w inside (ParsedRdata.a x) octets is = (is.rdata_is.0, is.rdata_is.1)
-typed_of rtype class w inside (ParsedRdata.aaaa x) octets is = (is.rdata_is.0, is.rdata_is.1)
-typed_of rtype class w inside (ParsedRdata.ns x) octets is = (is.rdata_is.0, tt)
-typed_of rtype class w inside (ParsedRdata.cname x) octets is = (is.rdata_is.0, tt)
-typed_of rtype class w inside (ParsedRdata.ptr x) octets is = (is.rdata_is.0, tt)
-typed_of rtype class w inside (ParsedRdata.mx x) octets is = (is.rdata_is.0, tt)
-typed_of rtype class w inside (ParsedRdata.soa x) octets is = (is.rdata_is.0, tt)
-typed_of rtype class w inside (ParsedRdata.txt x) octets is = (is.rdata_is.0, tt)
-typed_of rtype class w inside (ParsedRdata.srv x) octets is = (is.rdata_is.0, is.rdata_is.1)
-typed_of rtype class w inside (ParsedRdata.naptr x) octets is = (is.rdata_is.0, is.rdata_is.1)
-typed_of rtype class w inside (ParsedRdata.local k found) octets is = (is.rtype_is, is.class_is)
-typed_of rtype class w inside (ParsedRdata.unknown other x) octets is = absurd is.rdata_is
+typed_of : (r : read.Record) (w inside : Window) (rdata : ParsedRdata) → IsTypedData r.rtype r.class w inside rdata
+    → IsOfType r (bare_rdata rdata)
+typed_of r w inside (ParsedRdata.a x) is = (is.rdata_is.0, is.rdata_is.1)
+typed_of r w inside (ParsedRdata.aaaa x) is = (is.rdata_is.0, is.rdata_is.1)
+typed_of r w inside (ParsedRdata.ns x) is = (is.rdata_is.0, tt)
+typed_of r w inside (ParsedRdata.cname x) is = (is.rdata_is.0, tt)
+typed_of r w inside (ParsedRdata.ptr x) is = (is.rdata_is.0, tt)
+typed_of r w inside (ParsedRdata.mx x) is = (is.rdata_is.0, tt)
+typed_of r w inside (ParsedRdata.soa x) is = (is.rdata_is.0, tt)
+typed_of r w inside (ParsedRdata.txt x) is = (is.rdata_is.0, tt)
+typed_of r w inside (ParsedRdata.srv x) is = (is.rdata_is.0, is.rdata_is.1)
+typed_of r w inside (ParsedRdata.naptr x) is = (is.rdata_is.0, is.rdata_is.1)
+typed_of r w inside (ParsedRdata.local k found) is = (is.rtype_is, is.class_is)
+typed_of r w inside (ParsedRdata.unknown other x) is = absurd is.rdata_is
+
+-- data of a known type
+abbrev IsKnown : Rdata → Type 0
+IsKnown (Rdata.unknown rtype octets) = ⊥
+IsKnown _ = Unit {0}
+
+typed_known : (rtype class : ℕ) (w inside : Window) (rdata : ParsedRdata) → IsTypedData rtype class w inside rdata
+    → IsKnown (bare_rdata rdata)
+typed_known rtype class w inside (ParsedRdata.a x) is = tt
+typed_known rtype class w inside (ParsedRdata.aaaa x) is = tt
+typed_known rtype class w inside (ParsedRdata.ns x) is = tt
+typed_known rtype class w inside (ParsedRdata.cname x) is = tt
+typed_known rtype class w inside (ParsedRdata.ptr x) is = tt
+typed_known rtype class w inside (ParsedRdata.mx x) is = tt
+typed_known rtype class w inside (ParsedRdata.soa x) is = tt
+typed_known rtype class w inside (ParsedRdata.txt x) is = tt
+typed_known rtype class w inside (ParsedRdata.srv x) is = tt
+typed_known rtype class w inside (ParsedRdata.naptr x) is = tt
+typed_known rtype class w inside (ParsedRdata.local k found) is = tt
+typed_known rtype class w inside (ParsedRdata.unknown other x) is = absurd is.rdata_is
+
+-- ---- data wherever it is
+
+-- the data of a record has a form, with these values
+abbrev IsTypedAs : read.Record → Rdata → Type 0
+IsTypedAs r said = (parsed : ParsedRdata) × (bare_rdata parsed ≡ said) × IsTyped r parsed
+
+is_typed : (r : read.Record) (parsed : ParsedRdata) → IsKnown (bare_rdata parsed) → IsDataOf r parsed → IsTyped r parsed
+is_typed r parsed known (inl is) = is
+is_typed r parsed known (inr (same, none)) = absurd (subst (λ p. IsKnown (bare_rdata p)) same known)
+
+-- octets of data in plain form have its form wherever they are
+form_there : (r : read.Record) (w inside : Window) (rdata : ParsedRdata) → HasItsData r → IsSound w → IsSound inside
+    → IsTypedData r.rtype r.class w inside rdata → rdata_octets rdata ≡ rest r.rdata → IsTypedAs r (bare_rdata rdata)
+form_there r w inside rdata its sound in_it is all =
+    let said = bare_rdata rdata in
+    let fits = typed_fits r.rtype r.class w inside rdata sound in_it is in
+    let has = has_fields r (rdata_fields said) its (fields_fit said fits) (fields_plain rdata ∙ all) in
+    let (parsed, same, says) = data_is_read r said has fits (typed_of r w inside rdata is) in
+    let known = subst IsKnown (sym same) (typed_known r.rtype r.class w inside rdata is) in
+    (parsed, same, is_typed r parsed known says)
 
 -- ---- data alone
 
 -- the octets of data say the same by themselves
-abbrev pub SaysAlone : ℕ → ℕ → ParsedRdata → Type 0
-SaysAlone rtype class rdata = (parsed : ParsedRdata) × (bare_rdata parsed ≡ bare_rdata rdata)
-    × SaysData rtype class (whole (rdata_octets rdata)) (whole (rdata_octets rdata)) parsed
+abbrev IsReadAlone : ℕ → ℕ → ParsedRdata → Type 0
+IsReadAlone rtype class rdata = (parsed : ParsedRdata) × (bare_rdata parsed ≡ bare_rdata rdata)
+    × SaysAlone rtype class (rdata_octets rdata) parsed
 
-alone : (rtype class : ℕ) (rdata : ParsedRdata) → FitsRdata (bare_rdata rdata)
-    → IsOfType (own_record rtype class (rdata_octets rdata)) (bare_rdata rdata) → SaysAlone rtype class rdata
-alone rtype class rdata fits of =
+typed_alone : (rtype class : ℕ) (w inside : Window) (rdata : ParsedRdata) → IsSound w → IsSound inside
+    → IsTypedData rtype class w inside rdata → IsReadAlone rtype class rdata
+typed_alone rtype class w inside rdata sound in_it is =
     let octets = rdata_octets rdata in
-    let fields = rdata_fields (bare_rdata rdata) in
-    let has = has_fields rtype class octets fields (fields_fit (bare_rdata rdata) fits) (fields_plain rdata) in
-    data_is_read (own_record rtype class octets) (bare_rdata rdata) has fits of
+    let own = own_record rtype class octets in
+    let fits = typed_fits rtype class w inside rdata sound in_it is in
+    let (parsed, same, form) =
+    form_there own w inside rdata (own_data rtype class octets) sound in_it is (sym (rest_whole octets)) in
+    let said : octets ≡ rdata_octets parsed = sym (fields_plain rdata)
+    ∙ ap (λ said. plain_octets (rdata_fields said)) (sym same) ∙ fields_plain parsed in
+    let plain = plain_of rtype class (whole octets) (whole octets) parsed (subst FitsRdata (sym same) fits) form
+    (rest_whole octets ∙ said) in
+    (parsed, same, inl (form, plain))
 
--- data that is read by itself has its form wherever it is
-local_stays : (rtype class : ℕ) (w inside : Window) → IsSound inside → is_in_message rtype ≡ false
-    → ((other : ParsedRdata) → ¬ IsTypedData rtype class w inside other) → HasNoForm rtype class (rest inside)
-local_stays rtype class w inside sound apart none other is =
-    by_case (either rtype class (whole (rest inside)) (whole (rest inside)) other is)
-  where
-    by_case : IsEither rtype class (whole (rest inside)) (whole (rest inside)) other → ⊥
-    by_case (inl here) = none_in_message rtype class (whole (rest inside)) (whole (rest inside)) apart other here
-    by_case (inr (k, found, same, local)) =
-        let alone = whole (rest inside) in
-        let sound_alone : IsSound alone =
-        record { each = each_rest inside sound; ordered = omega arith; within = omega arith } in
-        let said = (form k).says found in
-        let octets = (form k).octets said in
-        let all = local_same k alone found sound_alone local.whole ∙ rest_whole (rest inside) in
-        let many = ap length all in
-        let long = many_rest inside sound in
-        let fits = local_fits k alone found _ sound_alone local.whole in
-        let taken = (form k).back.back inside said fits (sym all) (omega (arith, many, long)) in
-        none (ParsedRdata.local k taken.it) (record {
-          rtype_is = local.rtype_is;
-          class_is = local.class_is;
-          whole = subst (λ n. (form k).Is inside taken.it (past n inside)) (omega (arith, many, long)) taken.is;
-        })
+-- if the octets of a record's data have a form by themselves, the data has it in the message too
+none_alone : (r : read.Record) → HasItsData r → IsSound r.rdata → ((other : ParsedRdata) → ¬ IsTyped r other)
+    → (other : ParsedRdata) → ¬ IsTypedAlone r.rtype r.class (rest r.rdata) other
+none_alone r its in_it none other (form, plain) =
+    let octets = rest r.rdata in
+    let w = whole octets in
+    let sound : IsSound w = record { each = each_rest r.rdata in_it; ordered = omega arith; within = omega arith } in
+    let all = plain_octets_are r.rtype r.class w other sound form plain ∙ rest_whole octets in
+    let (parsed, same, there) = form_there r w w other its sound sound form all in
+    none parsed there
 
-stays : (r : read.Record) → IsSound r.rdata → StaysUnknown r → (in_it : Bool) → is_in_message r.rtype ≡ in_it
-    → ((other : ParsedRdata) → ¬ IsTyped r other) → HasNoForm r.rtype r.class (rest r.rdata)
-stays r sound own true same = own same
-stays r sound own false same =
-    local_stays r.rtype r.class (at r.rdata.position r.owner.place) r.rdata sound same
-
-pub says_alone : (r : read.Record) (rdata : ParsedRdata) → IsSound (at r.rdata.position r.owner.place)
-    → IsSound r.rdata → r.rtype < 65536 → StaysUnknown r → IsDataOf r rdata → SaysAlone r.rtype r.class rdata
-says_alone r rdata sound in_it few own (inl is) =
-    alone r.rtype r.class rdata
-    (typed_fits r.rtype r.class (at r.rdata.position r.owner.place) r.rdata rdata sound in_it is)
-    (typed_of r.rtype r.class (at r.rdata.position r.owner.place) r.rdata rdata (rdata_octets rdata) is)
-says_alone r rdata sound in_it few own (inr (same, none)) =
-    subst (SaysAlone r.rtype r.class) (sym same)
-    (alone r.rtype r.class (ParsedRdata.unknown r.rtype r.rdata) few
-    (refl, stays r in_it own (is_in_message r.rtype) refl none))
+pub says_alone : (r : read.Record) (rdata : ParsedRdata) → HasItsData r → IsSound (at r.rdata.position r.owner.place)
+    → IsSound r.rdata → IsDataOf r rdata → IsReadAlone r.rtype r.class rdata
+says_alone r rdata its sound in_it (inl is) =
+    typed_alone r.rtype r.class (at r.rdata.position r.owner.place) r.rdata rdata sound in_it is
+says_alone r rdata its sound in_it (inr (same, none)) =
+    let octets = rest r.rdata in
+    subst (IsReadAlone r.rtype r.class) (sym same) (
+      ParsedRdata.unknown r.rtype (whole octets),
+      ap (Rdata.unknown r.rtype) (rest_whole octets),
+      inr (refl, none_alone r its in_it none),
+    )

@@ -50,7 +50,8 @@ says_lines text a b c d e header first questions answers authorities additionals
     d_lines [] [] (omega arith) d_are refl in
     let two : AreEntries 1 e2 l2 = section_first sections.authorities.sect 1 authorities
     u_lines e3 l3 (omega arith) u_are three in
-    let one : AreEntries 0 e1 l1 = section_first sections.answers.sect 0 answers r_lines e2 l2 (omega arith) r_are two in
+    let one : AreEntries 0 e1 l1 = section_first sections.answers.sect 0 answers r_lines e2 l2 (omega arith)
+    r_are two in
     let all : AreEntries 0 (map Entry.question questions ++ e1) (q_lines ++ l1) =
     section_first sections.questions 0 questions q_lines e1 l1 (omega arith)
     q_are one in

@@ -1,8 +1,10 @@
 -- The text of a record and that of a question are read back.
-use Rattle.std.proofs.Common.{◌≡◌, ℕ, ◌≤◌, ◌<◌, ◌^◌, None, List, [], ◌∷◌, ◌++◌, inl, refl, sym, ap, ◌∙◌}
+use Rattle.std.proofs.Common.{◌≡◌, ℕ, ◌+◌, ◌≤◌, ◌<◌, ◌^◌, None, List, [], ◌∷◌, ◌++◌, length, inl, refl, sym, ap, ◌∙◌}
 use Rattle.std.proofs.Common.{subst, append_assoc, arith, decimal}
+use Rattle.std.specs.Prelude.{slice_range}
+use Rattle.octseq.proofs.Windows.{next_and_rest}
 use Rattle.octseq.specs.Integer.{be}
-use Rattle.octseq.specs.Window.{Window, at, left, next, past}
+use Rattle.octseq.specs.Window.{Window, at, left, next, past, rest}
 use Rattle.octseq_dns_data.proofs.Mnemonics.{reads_shown}
 use Rattle.octseq_dns_data.specs.Data.{ParsedRdata}
 use Rattle.octseq_dns_data.specs.Format.{IsNumber}
@@ -25,7 +27,7 @@ use Rattle.octseq_dns_text.proofs.NameWords.{name_first}
 use Rattle.octseq_dns_text.proofs.OrdinaryTexts.{class_first, decimal_first, rtype_first}
 use Rattle.octseq_dns_text.proofs.ShownData.{says_shown}
 use Rattle.octseq_dns_text.proofs.SpacedWords.{IsFeedless, feedless_both, words_before}
-use Rattle.octseq_format.specs.Canonical.{IsSound, sound_nested, sound_on, sound_past}
+use Rattle.octseq_format.specs.Canonical.{IsSound, many_rest, sound_nested, sound_on, sound_past}
 use Rattle.octseq_format.specs.Fixed.{canonical_fixed}
 use Rattle.octseq_format.specs.Integers.{are_be}
 use Rattle.octseq_dns_compose.specs.MessageShown.{IsTextOf, ShowsWords, said_of}
@@ -68,6 +70,9 @@ fixed_fits k n w v sound is = ((canonical_fixed (are_be k)).written w n v sound 
 fixed_on : (k n : ℕ) (w v : Window) → IsSound w → IsNumber k w n v → IsSound v
 fixed_on k n w v sound is = (canonical_fixed (are_be k)).on w n v sound is
 
+fixed_octets : (k n : ℕ) (w v : Window) → IsNumber k w n v → v.octets ≡ w.octets
+fixed_octets k n w v is = ap (λ (x : Window). x.octets) is.2
+
 fixed_end : (k n : ℕ) (w v : Window) → IsNumber k w n v → v.end ≡ w.end
 fixed_end k n w v is = ap (λ (x : Window). x.end) is.2
 
@@ -99,6 +104,30 @@ question_shown w q v sound (u, named, (a, rtype, class)) =
 
 -- ---- records
 
+-- The data of a record is in the window of its owner: its octets come next at its place.
+pub record HasItsData (r : Record) : Type 0 where
+  pub in_message : r.rdata.octets ≡ r.owner.place.octets
+  pub more : List ℕ
+  pub there : rest (at r.rdata.position r.owner.place) ≡ rest r.rdata ++ more
+  pub long : r.rdata.position + length (rest r.rdata) ≡ r.rdata.end
+
+has_its_data : (r : Record) → IsSound r.rdata → r.rdata.octets ≡ r.owner.place.octets → r.rdata.end ≤ r.owner.place.end
+    → HasItsData r
+has_its_data r sound same within =
+    let n = left r.rdata in
+    let ordered = sound.ordered in
+    let place = at r.rdata.position r.owner.place in
+    let position = r.rdata.position in
+    let next_is : next n place ≡ rest r.rdata = ap (λ octets. slice_range octets position (position + n)) (sym same)
+    ∙ ap (λ end. slice_range r.rdata.octets position end) (omega (arith, ordered)) in
+    let many = many_rest r.rdata sound in
+    record {
+      in_message = same;
+      more = rest (past n place);
+      there = sym (next_and_rest place n (omega (arith, within))) ∙ ap (λ t. t ++ rest (past n place)) next_is;
+      long = omega (arith, many, ordered);
+    }
+
 -- The values of a record fit, and its data is in its windows.
 pub record IsFit (w u : Window) (r : Record) : Type 0 where
   pub named : HasName w r.owner u
@@ -108,6 +137,7 @@ pub record IsFit (w u : Window) (r : Record) : Type 0 where
   pub place : IsSound (at r.rdata.position r.owner.place)
   pub inside : IsSound r.rdata
   pub few : left r.rdata ≤ 65535
+  pub data : HasItsData r
 
 pub record_fit : (w : Window) (r : Record) (v : Window) → IsSound w → IsRecord w r v → (u : Window) × IsFit w u r
 record_fit w r v sound (u, named, (a, rtype, (b, class, (c, ttl, (has, is, moved))))) =
@@ -121,7 +151,8 @@ record_fit w r v sound (u, named, (a, rtype, (b, class, (c, ttl, (has, is, moved
     let few = fixed_fits 2 n c (past 2 c) s3 (has.0, refl, refl) in
     let many = ap left is in
     let place = ap (λ (x : Window). x.position) is in
-    let end = (onward_name.on w r.owner u sound.ordered named).1 in
+    let on = onward_name.on w r.owner u sound.ordered named in
+    let end = on.1 in
     let end_a = fixed_end 2 r.rtype u a rtype in
     let end_b = fixed_end 2 r.class a b class in
     let end_c = fixed_end 4 r.ttl b c ttl in
@@ -129,7 +160,13 @@ record_fit w r v sound (u, named, (a, rtype, (b, class, (c, ttl, (has, is, moved
       each = sound.each;
       ordered = omega (arith, place, s4.ordered, end, end_a, end_b, end_c);
       within = sound.within;
-    } in (
+    } in
+    let fit : IsSound r.rdata = subst IsSound (sym is) inside in
+    let same : r.rdata.octets ≡ r.owner.place.octets = ap (λ (x : Window). x.octets) is ∙ fixed_octets 4 r.ttl b c ttl
+    ∙ fixed_octets 2 r.class a b class ∙ fixed_octets 2 r.rtype u a rtype ∙ on.0
+    ∙ ap (λ (x : Window). x.octets) (sym named.0) in
+    let whole = ap (λ (x : Window). x.end) is in
+    let owner = ap (λ (x : Window). x.end) named.0 in (
       u,
       record {
         named = named;
@@ -137,8 +174,9 @@ record_fit w r v sound (u, named, (a, rtype, (b, class, (c, ttl, (has, is, moved
         class = fixed_fits 2 r.class a b s1 class;
         ttl = fixed_fits 4 r.ttl b c s2 ttl;
         place = subst (λ p. IsSound (at r.rdata.position p)) (sym named.0) here;
-        inside = subst IsSound (sym is) inside;
+        inside = fit;
         few = omega (arith, many, few);
+        data = has_its_data r fit same (omega (arith, whole, owner, end, end_a, end_b, end_c, has.0, has.1));
       },
     )
 

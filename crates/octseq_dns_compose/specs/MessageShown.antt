@@ -1,12 +1,11 @@
 -- What the text says that is shown of a record, a question and a message.
-use Rattle.std.specs.Prelude.{◌≡◌, ℕ, true, false, None, List, [], ◌++◌, map}
+use Rattle.std.specs.Prelude.{◌≡◌, ℕ, false, None, List, [], ◌++◌, map}
 use Rattle.std.specs.List.{AllByRecursion, AllZip}
-use Rattle.octseq.specs.Window.{rest, whole}
 use Rattle.octseq_dns.specs.Contents.{Message, Question}
 use Rattle.octseq_dns.specs.ReadBack.{bare}
-use Rattle.octseq_dns_data.specs.Data.{IsTypedData, ParsedRdata, is_in_message}
+use Rattle.octseq_dns_data.specs.Data.{ParsedRdata}
 use Rattle.octseq_dns_message.specs.Entry as read
-use Rattle.octseq_dns_message.specs.RecordData.{IsDataOf, IsTyped}
+use Rattle.octseq_dns_message.specs.RecordData.{IsDataOf}
 use Rattle.octseq_dns_message.specs.declared.header.Header.{Header}
 use Rattle.octseq_dns_scan.specs.Word.{AreWords}
 use Rattle.octseq_dns_text.specs.DataShown.{rdata_octets}
@@ -76,15 +75,3 @@ pub record IsMessageOf (header : Header) (questions : List Question) (answers au
   pub answers_are : AllZip IsRecordOf answers m.answers
   pub authorities_are : AllZip IsRecordOf authorities m.authorities
   pub additionals_are : AllZip IsRecordOf additionals m.additionals
-
--- ---- data without a form
-
--- Octets have no form of a type and a class by themselves.
-abbrev pub HasNoForm : ℕ → ℕ → List ℕ → Type 0
-HasNoForm rtype class octets = (other : ParsedRdata) → ¬ IsTypedData rtype class (whole octets) (whole octets) other
-
--- If the data of a record has no form in the message, it has none by itself either. This is asked only of the types
--- that are read in the message.
-abbrev pub StaysUnknown : read.Record → Type 0
-StaysUnknown r = is_in_message r.rtype ≡ true → ((other : ParsedRdata) → ¬ IsTyped r other)
-    → HasNoForm r.rtype r.class (rest r.rdata)

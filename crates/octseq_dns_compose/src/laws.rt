@@ -1,6 +1,5 @@
 //! What the text of a message says.
 ghost use Rattle.std.specs.Prelude.{◌≡◌, ◌↔◌, ℕ, List};
-ghost use Rattle.std.specs.List.{AllByRecursion};
 ghost use Rattle.octseq.proofs.WrittenBack.{AreOctets};
 ghost use Rattle.octseq.specs.Window.{Window};
 ghost use Rattle.octseq_dns.specs.Contents.{Message, Question as Asked};
@@ -15,7 +14,7 @@ ghost use Rattle.octseq_dns_message.specs.RecordData.{IsDataOf};
 ghost use Rattle.octseq_dns_message.specs.declared.header.Header.{Header};
 ghost use Rattle.octseq_format.specs.Canonical.{IsSound};
 ghost use Rattle.octseq_dns_compose.specs.MessageShown.{IsMessageOf, IsTextOf, SaysLines, ShowsMessage, ShowsWords};
-ghost use Rattle.octseq_dns_compose.specs.MessageShown.{StaysUnknown, entries_said, header_said, said_of};
+ghost use Rattle.octseq_dns_compose.specs.MessageShown.{entries_said, header_said, said_of};
 ghost use Rattle.octseq_dns_compose.specs.MessageText.{IsMessageText, Said};
 ghost use Rattle.octseq_dns_compose.specs.QuestionText.{IsQuestionText};
 
@@ -60,8 +59,7 @@ pub fn a_message_is_what_its_lines_say()
         → IsMessageText text m ↔ IsMessageOf header questions answers authorities additionals m }
 {}
 
-/// The text that is shown of a message is the text of that message without the reserved bit. Of the types that are read
-/// in the message it is asked that data with no form there has none by itself, as by a pointer into the data.
+/// The text that is shown of a message is the text of that message without the reserved bit.
 ///
 /// It does nothing. Calling it brings the law into the caller's proof.
 pub fn a_shown_message_is_composed_again()
@@ -69,8 +67,6 @@ pub fn a_shown_message_is_composed_again()
         (answers authorities additionals : List Record) (m : Message) → AreOctets octets
         → IsMessage octets header questions answers authorities additionals
         → shown.IsMessageText header questions answers authorities additionals text
-        → AllByRecursion StaysUnknown answers → AllByRecursion StaysUnknown authorities
-        → AllByRecursion StaysUnknown additionals
         → rewritten.IsMessageOf (header_said header) questions answers authorities additionals m
         → IsMessageText text m }
 {}
