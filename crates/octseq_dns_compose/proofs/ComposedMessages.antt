@@ -195,7 +195,7 @@ record_again : (w : Window) (r : read.Record) (v : Window) (rdata : ParsedRdata)
     → IsDataOf r rdata → IsRecordOf (said_of r rdata) (record_of_parsed r rdata)
 record_again w r v rdata sound is says =
     let (u, fit) = record_fit w r v sound is in
-    let (parsed, same, alone) = says_alone r rdata fit.data fit.place fit.inside says in
+    let (parsed, same, alone) = says_alone r rdata fit.own fit.place fit.inside says in
     record {
       parsed = parsed;
       says = alone;

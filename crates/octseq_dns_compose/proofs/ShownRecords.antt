@@ -137,7 +137,7 @@ pub record IsFit (w u : Window) (r : Record) : Type 0 where
   pub place : IsSound (at r.rdata.position r.owner.place)
   pub inside : IsSound r.rdata
   pub few : left r.rdata ≤ 65535
-  pub data : HasItsData r
+  pub own : HasItsData r
 
 pub record_fit : (w : Window) (r : Record) (v : Window) → IsSound w → IsRecord w r v → (u : Window) × IsFit w u r
 record_fit w r v sound (u, named, (a, rtype, (b, class, (c, ttl, (has, is, moved))))) =
@@ -176,7 +176,7 @@ record_fit w r v sound (u, named, (a, rtype, (b, class, (c, ttl, (has, is, moved
         place = subst (λ p. IsSound (at r.rdata.position p)) (sym named.0) here;
         inside = fit;
         few = omega (arith, many, few);
-        data = has_its_data r fit same (omega (arith, whole, owner, end, end_a, end_b, end_c, has.0, has.1));
+        own = has_its_data r fit same (omega (arith, whole, owner, end, end_a, end_b, end_c, has.0, has.1));
       },
     )
 
