@@ -41,7 +41,7 @@ pub(crate) fn append<B: OctetsBuilder>(octets: &mut B, slice: &[u8]) -> Result<(
     if slice.len() > MESSAGE_MAX - octets.len() {
         return Err(AppendError::Short(ShortBuf));
     }
-    octets.append_slice(slice)
+    octets.append_few(slice)
 }
 
 /// Whether a message stays within its limit with `len` more octets.
