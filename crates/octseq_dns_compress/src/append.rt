@@ -30,6 +30,7 @@ const MESSAGE_MAX: usize = 65535;
 const LABELS_FEW: usize = 16;
 
 /// Appends a slice to a message, within its limit.
+#[inline(always)]
 pub(crate) fn append<B: OctetsBuilder>(octets: &mut B, slice: &[u8]) -> Result<(), AppendError>
     requires { length (B.content octets.old) ≤ 65535 }
     ensures appended { Appends (message_limit B.limit) B.asks result slice.now
