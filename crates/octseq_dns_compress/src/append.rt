@@ -27,7 +27,7 @@ use std::alloc::AllocError;
 const MESSAGE_MAX: usize = 65535;
 
 /// Most names have no more labels: room for their offsets takes no time to make.
-const LABELS_FEW: usize = 16;
+const LABELS_FEW: usize = 8;
 
 /// Appends a slice to a message, within its limit.
 #[inline(always)]
