@@ -63,7 +63,8 @@ still_in targets position target index within inside = by (dec_le position index
 
 module _ (octets : List ℕ) (targets : List Target) (target : Target) (position : ℕ)
     (are : AreTargets octets targets) (whole : IsWhole octets target.at) (near : target.at ≤ 16383)
-    (digested : target.digest ≡ digest_of (label_at octets target.at)) (few : target.pointers ≤ 126) (is : IsPosition octets targets (key_of octets target) position)
+    (digested : target.digest ≡ digest_of (label_at octets target.at)) (few : target.pointers ≤ 126)
+    (is : IsPosition octets targets (key_of octets target) position)
     (none : HasNoKey octets targets (key_of octets target)) where
   comes_after : (k : ℕ) (d : Target) (reported : Ordering) → position ≤ k → k < length targets
       → key_cmp octets (slice_index_or targets k d) (key_of octets target) ≡ reported

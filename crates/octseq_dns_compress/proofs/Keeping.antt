@@ -128,7 +128,8 @@ module _ (most : ℕ) {octets : List ℕ} {held : List Target} {names : Names} {
         ∙ ap (λ n. with_labels most ending.pointers names n (label ∷ rest)) (sym same)
 
     -- one more is kept
-    pub kept_at : (new : List Target) (digest : ℕ) → digest ≡ digest_of (prefixed label) → end ≡ place_after start labels left
+    pub kept_at : (new : List Target) (digest : ℕ) → digest ≡ digest_of (prefixed label)
+        → end ≡ place_after start labels left
         → new ≡ insert after position (record { at = at; next = next; pointers = ending.pointers; digest = digest })
         → at ≤ 16383
         → ending.pointers ≤ 126 → ¬ (most ≤ length after)
@@ -140,12 +141,13 @@ module _ (most : ℕ) {octets : List ℕ} {held : List Target} {names : Names} {
         (sym (is ∙ ap (λ n. insert after position
         (record { at = at; next = next; pointers = ending.pointers; digest = n })) digested))
         (subst (λ names. KeptSoFar octets (insert after position
-        (record { at = at; next = next; pointers = ending.pointers; digest = digest_of (prefixed label) })) names labels start at older
-        (left - 1) at (older + 1))
+        (record { at = at; next = next; pointers = ending.pointers; digest = digest_of (prefixed label) })) names labels
+        start at older (left - 1) at (older + 1))
         (sym (now_is
         ∙ with_one most ending.pointers names at label rest (now left) true up new_before
         (kept_from most (now left) rest place near few (omega (arith, count, room)) so_far.there)))
-        (so_far_kept at ending.pointers so_far some (omega (arith, few_left, within)) (ap (get (now left)) here ∙ still_new)
+        (so_far_kept at ending.pointers so_far some (omega (arith, few_left, within))
+        (ap (get (now left)) here ∙ still_new)
         (label_here written (left - 1) less within at same) (whole_here written (left - 1) less within at same)
         (omega (arith, end_is, longer)) written.after_header (omega (arith, same)) near few))
 

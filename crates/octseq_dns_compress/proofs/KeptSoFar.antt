@@ -16,7 +16,7 @@ use Rattle.std.specs.Ordering.{nat_cmp, ordering_then, is_lt}
 use Rattle.std.specs.declared.cmp.Ordering.{Ordering}
 use Rattle.octseq_dns_compress.specs.Agrees.{Agrees, place_of}
 use Rattle.octseq_dns_compress.specs.FoundNames.{get_new, get_other, same_or_other, one_place}
-use Rattle.octseq_dns_compress.specs.Key.{label_at, digest_of, key, key_of, IsWhole, IsPosition}
+use Rattle.octseq_dns_compress.specs.Key.{label_at, digest_of, with_digest, key, key_of, IsWhole, IsPosition}
 use Rattle.octseq_dns_compress.specs.Names.{Names, Place, at_or_zero, is_there, label_no, prefixed, unrooted}
 use Rattle.octseq_dns_compress.specs.Written.{IsWritten}
 use Rattle.octseq_dns_compress.specs.declared.table.Target.{Target}
@@ -98,14 +98,13 @@ by_next octets held next position label within low high = record {
       (subst (λ t. next < t.next) (get_or-drop position held (k - position) d ∙ ap (λ i. slice_index_or held i d) same)
       high))));
 } where
-  with_digest : List ℕ → List ℕ
-  with_digest octets = digest_of octets ∷ octets
-
   reported : (k : ℕ) (d : Target) (order : Ordering) → order ≡ nat_cmp (slice_index_or held k d).next next
       → slice_cmp nat_cmp (key_of octets (slice_index_or held k d)) (key next label)
-      ≡ ordering_then order (slice_cmp nat_cmp (with_digest (label_at octets (slice_index_or held k d).at)) (with_digest label))
+      ≡ ordering_then order (slice_cmp nat_cmp (with_digest (label_at octets (slice_index_or held k d).at))
+      (with_digest label))
   reported k d order is =
-      ap (λ order. ordering_then order (slice_cmp nat_cmp (with_digest (label_at octets (slice_index_or held k d).at)) (with_digest label))) (sym is)
+      ap (λ order. ordering_then order (slice_cmp nat_cmp (with_digest (label_at octets (slice_index_or held k d).at))
+      (with_digest label))) (sym is)
 
 -- ---- the names so far
 

@@ -22,9 +22,13 @@ digest_of label =
     else 240 * slice_index_or label (last - 3) 0 + 16 * slice_index_or label (last - 2) 0
     + slice_index_or label (last - 1) 0
 
+-- a label after its digest
+abbrev pub with_digest : List ℕ → List ℕ
+with_digest label = digest_of label ∷ label
+
 -- the key of a label, given with its length octet, that is followed by what is at an offset
 abbrev pub key : ℕ → List ℕ → List ℕ
-key next label = next ∷ digest_of label ∷ label
+key next label = next ∷ with_digest label
 
 -- the key of a target
 abbrev pub key_of : List ℕ → Target → List ℕ

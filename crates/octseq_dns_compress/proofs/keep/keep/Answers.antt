@@ -41,7 +41,9 @@ labels-init g c =
       least = omega arith;
       on = omega arith;
       before = refl;
-      kept = λ octets names agrees ends written. kept_yet g.T.Compressor.most agrees ends c.requires.written written _ (length c.as_slice-older.result.now) all c.requires.position;
+      kept = λ octets names agrees ends written.
+          kept_yet g.T.Compressor.most agrees ends c.requires.written written _ (length c.as_slice-older.result.now) all
+          c.requires.position;
     }
 
 pub returns-then-at-gt-PLACE_MAX-clause-kept : goal.returns-then-at-gt-PLACE_MAX-clause-kept
@@ -56,10 +58,12 @@ returns-then-at-gt-PLACE_MAX-clause-kept g c octets names agrees ends written =
     let at = c.labels.end - length c.label-label.result.now in
     elim c.then-at-gt-PLACE_MAX.branch [
       | then-at-gt-PLACE_MAX-via-then-at-gt-PLACE_MAX w ↦
-          kept_far g.T.Compressor.most agrees ends c.requires.written written kept some so_far.within at (omega (arith, begin, end))
+          kept_far g.T.Compressor.most agrees ends c.requires.written written kept some so_far.within at
+          (omega (arith, begin, end))
           (omega (arith, begin, end, size)) w.if-at-gt-PLACE_MAX.true
       | then-at-gt-PLACE_MAX-via-else-at-gt-PLACE_MAX+then-is_full w ↦
-          kept_full g.T.Compressor.most agrees ends c.requires.written written kept some so_far.within at (omega (arith, begin, end))
+          kept_full g.T.Compressor.most agrees ends c.requires.written written kept some so_far.within at
+          (omega (arith, begin, end))
           (omega (arith, begin, end, size)) (w.if-is_full.ensures.0 refl)
     ]
 
@@ -76,7 +80,8 @@ labels-preserved g c =
     let tick = c.tick.ensures in
     let room : ¬ (g.T.Compressor.most ≤ length held) = λ full. true≢false (sym (c.if-is_full.ensures.1 full)) in
     let begin = last_label (plain_labels c.args.name.now) c.labels.left c.label-label.result.now
-    (omega (arith, c.labels-test.true)) (let all = c.requires.written in omega (arith, within, all)) c.label-label.ensures in
+    (omega (arith, c.labels-test.true)) (let all = c.requires.written in omega (arith, within, all))
+    c.label-label.ensures in
     let end = so_far.end in
     let size = ap length c.label-label.ensures in
     let few_pointers = c.if-ending-gt-POINTERS_MAX.false in
@@ -92,7 +97,9 @@ labels-preserved g c =
       on = (let on = so_far.on in omega (arith, on, tick));
       before = ap (filter (λ t. nat_lt t.at c.args.start)) inserted
           ∙ none_before c.args.start held c.labels.position _ (omega (arith, begin, end)) ∙ so_far.before;
-      kept = λ octets names agrees ends written. kept_at g.T.Compressor.most agrees ends c.requires.written written (so_far.kept octets names agrees ends written)
+      kept = λ octets names agrees ends written.
+          kept_at g.T.Compressor.most agrees ends c.requires.written written
+          (so_far.kept octets names agrees ends written)
           (omega (arith, c.labels-test.true)) within (c.labels.end - length c.label-label.result.now)
           (omega (arith, begin, end)) (omega (arith, begin, end, size)) (g.T.Compressor.held c.insert.new.self) _
           (c.digest.ensures ∙ ap digest_of c.label-label.ensures) end
@@ -103,4 +110,5 @@ pub returns-clause-kept : goal.returns-clause-kept
 returns-clause-kept g c octets names agrees ends written =
     let so_far = c.labels.invariant in
     let none = c.labels-test.false in
-    kept_all g.T.Compressor.most agrees ends c.requires.written written (so_far.kept octets names agrees ends written) (omega (arith, none))
+    kept_all g.T.Compressor.most agrees ends c.requires.written written (so_far.kept octets names agrees ends written)
+    (omega (arith, none))
