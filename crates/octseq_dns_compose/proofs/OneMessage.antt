@@ -205,7 +205,8 @@ record_once said other (owner ∷ words) one two =
 apart : {A : Type 0} (a b word : List ℕ) → not (bytes_eq a b) ≡ true → word ≡ a → word ≡ b → A
 apart a b word other one two = absurd (not_same a b other (sym one ∙ two))
 
-pub entry_once : (entry other : Entry) (words : Line) → IsEntryLine entry words → IsEntryLine other words → entry ≡ other
+pub entry_once : (entry other : Entry) (words : Line) → IsEntryLine entry words → IsEntryLine other words
+    → entry ≡ other
 entry_once (Entry.question q) other [] one two = absurd one
 entry_once (Entry.answer said) other [] one two = absurd one
 entry_once (Entry.authority said) other [] one two = absurd one
