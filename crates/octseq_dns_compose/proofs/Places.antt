@@ -1,4 +1,4 @@
--- The places of faults, and the faults of the line of a header.
+-- The places of faults.
 use Rattle.std.proofs.Common.{◌≡◌, ℕ, Result, Err, sym, ap, ◌∙◌}
 use Rattle.octseq_dns_compose.specs.declared.error.ComposeError.{ComposeError}
 use Rattle.octseq_dns_compose.specs.declared.error.Place.{Place}

@@ -20,7 +20,9 @@ returns-in_default-take_field c =
     c.in-Some.ensures.end in
     record {
       some = tt;
-      none = λ _. reached_fault one (opcode_fault c.in_default-take_field.ensures.end (c.in_default-take_field.ensures.taken.none (search rules)));
+      none = λ _. reached_fault one
+          (opcode_fault c.in_default-take_field.ensures.end
+          (c.in_default-take_field.ensures.taken.none (search rules)));
     }
 
 pub returns-in_default-take_field-2 : goal.returns-in_default-take_field-2
@@ -31,7 +33,9 @@ returns-in_default-take_field-2 c =
     c.in-Some-take_field.ensures.end in
     record {
       some = tt;
-      none = λ _. reached_fault two (rcode_fault c.in_default-take_field-2.ensures.end (c.in_default-take_field-2.ensures.taken.none (search rules)));
+      none = λ _. reached_fault two
+          (rcode_fault c.in_default-take_field-2.ensures.end
+          (c.in_default-take_field-2.ensures.taken.none (search rules)));
     }
 
 pub returns-then-not-take_word : goal.returns-then-not-take_word
