@@ -26,7 +26,7 @@ line_fault : (Is : List Line → Type 0) (Texts : Line → List ℕ → Type 0) 
     (number offset : ℕ) → Leads (IsNextLine Is []) Texts [] → Splits text line after
     → IsFault Texts line 0 offset ⊎ IsUnended Texts line after 0 offset → (line ++ after ≡ [] → ¬ Is [])
     → IsLineFault Is text number number offset
-line_fault Is Texts text line after number offset leads split (inl fault) ends = record {
+line_fault Is Texts text line after number offset leads split either ends = record {
   front = [];
   line = line;
   after = after;
@@ -34,29 +34,23 @@ line_fault Is Texts text line after number offset leads split (inl fault) ends =
   is_line = split.is_line;
   ended = split.ends;
   place = omega arith;
-  fault = inl (led_fault (IsNextLine Is []) Texts [] leads line line 0 0 offset refl refl fault);
+  fault = next either;
   ends = ends;
 }
-line_fault Is Texts text line after number offset leads split (inr fault) ends =
-    let next = leads.into fault.words fault.octets fault.is in
-    record {
-      front = [];
-      line = line;
-      after = after;
-      begins = split.whole;
-      is_line = split.is_line;
-      ended = split.ends;
-      place = omega arith;
-      fault = inr (record {
-        words = fault.words;
-        octets = next.0;
-        are = fault.are;
-        is = next.1;
-        ends = fault.ends;
-        place = fault.place;
-      });
-      ends = ends;
-    }
+  where
+    next : IsFault Texts line 0 offset ⊎ IsUnended Texts line after 0 offset
+        → IsFault (IsNextLine Is []) line 0 offset ⊎ IsUnended (IsNextLine Is []) line after 0 offset
+    next (inl fault) = inl (led_fault (IsNextLine Is []) Texts [] leads line line 0 0 offset refl refl fault)
+    next (inr fault) =
+        let one = leads.into fault.words fault.octets fault.is in
+        inr (record {
+          words = fault.words;
+          octets = one.0;
+          are = fault.are;
+          is = one.1;
+          ends = fault.ends;
+          place = fault.place;
+        })
 
 -- ---- the header
 
@@ -391,9 +385,7 @@ none_step from to section word text ahead is none none_here (inr same) entry aft
 question_taken : (entry : Entry) (words : Line) → section_of entry ≡ 0 → IsEntryLine entry (codes "question" ∷ words)
     → (octets : List ℕ) × IsAnyQuestion words octets
 question_taken (Entry.question q) words here is = ([], (q.labels, q.qclass, q.qtype, is.1))
-question_taken (Entry.answer said) words here is = absurd (omega (arith, here))
-question_taken (Entry.authority said) words here is = absurd (omega (arith, here))
-question_taken (Entry.additional said) words here is = absurd (omega (arith, here))
+question_taken entry words here is = absurd (omega (arith, here))
 
 pub of_questions : IsSection 0 (codes "question") IsAnyQuestion
 of_questions = record {
@@ -406,10 +398,8 @@ of_questions = record {
 
 answer_taken : (entry : Entry) (words : Line) → section_of entry ≡ 1 → IsEntryLine entry (codes "answer" ∷ words)
     → (octets : List ℕ) × IsAnyRecord None words octets
-answer_taken (Entry.question q) words here is = absurd (omega (arith, here))
 answer_taken (Entry.answer said) words here is = (said.octets, (said.head, is.1))
-answer_taken (Entry.authority said) words here is = absurd (omega (arith, here))
-answer_taken (Entry.additional said) words here is = absurd (omega (arith, here))
+answer_taken entry words here is = absurd (omega (arith, here))
 
 pub of_answers : IsSection 1 (codes "answer") (IsAnyRecord None)
 of_answers = record {
@@ -421,10 +411,8 @@ of_answers = record {
 
 authority_taken : (entry : Entry) (words : Line) → section_of entry ≡ 2
     → IsEntryLine entry (codes "authority" ∷ words) → (octets : List ℕ) × IsAnyRecord None words octets
-authority_taken (Entry.question q) words here is = absurd (omega (arith, here))
-authority_taken (Entry.answer said) words here is = absurd (omega (arith, here))
 authority_taken (Entry.authority said) words here is = (said.octets, (said.head, is.1))
-authority_taken (Entry.additional said) words here is = absurd (omega (arith, here))
+authority_taken entry words here is = absurd (omega (arith, here))
 
 pub of_authorities : IsSection 2 (codes "authority") (IsAnyRecord None)
 of_authorities = record {
@@ -436,10 +424,8 @@ of_authorities = record {
 
 additional_taken : (entry : Entry) (words : Line) → section_of entry ≡ 3
     → IsEntryLine entry (codes "additional" ∷ words) → (octets : List ℕ) × IsAnyRecord None words octets
-additional_taken (Entry.question q) words here is = absurd (omega (arith, here))
-additional_taken (Entry.answer said) words here is = absurd (omega (arith, here))
-additional_taken (Entry.authority said) words here is = absurd (omega (arith, here))
 additional_taken (Entry.additional said) words here is = (said.octets, (said.head, is.1))
+additional_taken entry words here is = absurd (omega (arith, here))
 
 pub of_additionals : IsSection 3 (codes "additional") (IsAnyRecord None)
 of_additionals = record {

@@ -10,7 +10,8 @@ use Rattle.std.proofs.lemmas.List.Kept.{AllPairs-cons}
 use Rattle.std.specs.List.{All, AllPairs, insert}
 use Rattle.std.specs.Ordering.{ordering_reverse}
 use Rattle.std.specs.declared.cmp.Ordering.{Ordering}
-use Rattle.octseq_dns_compress.specs.Key.{key_of, key_cmp, IsWhole, AreTargets, IsPosition, HasNoKey}
+use Rattle.octseq_dns_compress.specs.Key.{label_at, digest_of, key_of, key_cmp, IsWhole, AreTargets, IsPosition}
+use Rattle.octseq_dns_compress.specs.Key.{HasNoKey}
 use Rattle.octseq_dns_compress.proofs.Keys.{key_there}
 use Rattle.octseq_dns_compress.specs.declared.table.Target.{Target}
 
@@ -62,7 +63,8 @@ still_in targets position target index within inside = by (dec_le position index
 
 module _ (octets : List ℕ) (targets : List Target) (target : Target) (position : ℕ)
     (are : AreTargets octets targets) (whole : IsWhole octets target.at) (near : target.at ≤ 16383)
-    (few : target.pointers ≤ 126) (is : IsPosition octets targets (key_of octets target) position)
+    (digested : target.digest ≡ digest_of (label_at octets target.at)) (few : target.pointers ≤ 126)
+    (is : IsPosition octets targets (key_of octets target) position)
     (none : HasNoKey octets targets (key_of octets target)) where
   comes_after : (k : ℕ) (d : Target) (reported : Ordering) → position ≤ k → k < length targets
       → key_cmp octets (slice_index_or targets k d) (key_of octets target) ≡ reported
@@ -78,6 +80,8 @@ module _ (octets : List ℕ) (targets : List Target) (target : Target) (position
   targets_added = record {
     whole = all_insert (λ t. IsWhole octets t.at) position targets target are.whole whole;
     near = all_insert (λ t. t.at ≤ 16383) position targets target are.near near;
+    digested = all_insert (λ t. t.digest ≡ digest_of (label_at octets t.at)) position targets target are.digested
+        digested;
     few = all_insert (λ t. t.pointers ≤ 126) position targets target are.few few;
     less = pairs_insert (λ s t. key_cmp octets s (key_of octets t) ≡ Ordering.Less) position targets target is.within
         are.less is.before (λ k d from inside. comes_after k d _ from inside refl);

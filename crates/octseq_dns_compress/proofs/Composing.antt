@@ -16,7 +16,7 @@ use Rattle.octseq.specs.declared.AppendError.{AppendError}
 use Rattle.octseq_dns_compress.specs.Agrees.{Agrees}
 use Rattle.octseq_dns_compress.specs.Composed.{before}
 use Rattle.octseq_dns_compress.specs.Ending.{IsEnding}
-use Rattle.octseq_dns_compress.specs.Key.{IsWhole, key_cmp, AreTargets, IsPosition}
+use Rattle.octseq_dns_compress.specs.Key.{key, IsWhole, key_cmp, AreTargets, IsPosition}
 use Rattle.octseq_dns_compress.specs.Named.{AppendsName}
 use Rattle.octseq_dns_compress.specs.Names.{Names, Place, at_or_zero, ended, unrooted, name_octets, first_labels, label_no}
 use Rattle.octseq_dns_compress.specs.Names.{names_with, prefixed}
@@ -53,7 +53,7 @@ ending_stays octets more targets names agrees labels end is = record {
   ends = is.ends;
   new = is.new;
   position = λ some. position_stays octets more targets agrees.targets_are
-      (end.next ∷ prefixed (label_no labels (end.written - 1))) end.position (is.position some);
+      (key end.next (prefixed (label_no labels (end.written - 1)))) end.position (is.position some);
 }
 
 -- the names that were there are before what is written

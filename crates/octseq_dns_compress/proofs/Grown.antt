@@ -7,11 +7,11 @@ use Rattle.std.proofs.Math.ListN.{get_or-append}
 use Rattle.std.proofs.Math.Logic.{∥∥₁_map, ∥∥₁_elim}
 use Rattle.std.proofs.lemmas.List.{drop-append-le, take-append-le}
 use Rattle.std.specs.Cmp.Lexicographic.{slice_cmp}
-use Rattle.std.specs.Coded.{Coded-set, coded_bool, le_prop}
+use Rattle.std.specs.Coded.{Coded-set, coded_bool, coded_ℕ, le_prop}
 use Rattle.std.specs.FinMap.{empty, get-empty, len-empty}
 use Rattle.std.specs.Ordering.{nat_cmp, is_lt}
 use Rattle.octseq_dns_compress.specs.Agrees.{Agrees}
-use Rattle.octseq_dns_compress.specs.Key.{label_at, key_of, key_cmp, IsWhole, AreTargets}
+use Rattle.octseq_dns_compress.specs.Key.{label_at, digest_of, key, key_of, key_cmp, IsWhole, AreTargets}
 use Rattle.octseq_dns_compress.specs.Known.{Known}
 use Rattle.octseq_dns_compress.specs.Names.{Names, Place, labels_cmp}
 use Rattle.octseq_dns_compress.specs.declared.table.Target.{Target}
@@ -28,12 +28,13 @@ module _ (old new : List ℕ) (targets : List Target) (long : length old ≤ len
 
   key_alike : (i : ℕ) (d : Target) → i < length targets
       → key_of new (slice_index_or targets i d) ≡ key_of old (slice_index_or targets i d)
-  key_alike i d within = ap (λ label. (slice_index_or targets i d).next ∷ label) (alike i d within).1
+  key_alike i d within = ap (key (slice_index_or targets i d).next) (alike i d within).1
 
   targets_alike : AreTargets old targets → AreTargets new targets
   targets_alike are = record {
     whole = λ i d within. whole_alike (slice_index_or targets i d).at (alike i d within) (are.whole i d within);
     near = are.near;
+    digested = λ i d within. are.digested i d within ∙ ap digest_of (sym (alike i d within).1);
     few = are.few;
     less = λ i j d before within.
         ap (λ key. slice_cmp nat_cmp key (key_of new (slice_index_or targets j d)))
@@ -51,7 +52,7 @@ module _ (old new : List ℕ) (targets : List Target) (long : length old ≤ len
     held = agrees.held;
     all = λ label rest place is.
         let has = agrees.all label rest place is in
-        let d : Target = record { at = 0; next = 0; pointers = 0 } in
+        let d : Target = record { at = 0; next = 0; pointers = 0; digest = 0 } in
         let same : IsAlike old new place.at =
         subst (IsAlike old new) (ap (λ t. t.at) (has.target_is d)) (alike has.index d has.within) in
         record {
@@ -85,7 +86,7 @@ module _ (octets more : List ℕ) where
       ∙ take-append-le n (drop at octets) more (omega (arith, whole, left))
 
   pub key_stays : (target : Target) → IsWhole octets target.at → key_of (octets ++ more) target ≡ key_of octets target
-  key_stays target whole = ap (λ label. target.next ∷ label) (label_stays target.at whole)
+  key_stays target whole = ap (key target.next) (label_stays target.at whole)
 
   pub alike_stays : (at : ℕ) → IsWhole octets at → IsAlike octets (octets ++ more) at
   alike_stays at whole = (octet_stays at (omega (arith, whole)), label_stays at whole)
@@ -104,6 +105,9 @@ module _ (octets : List ℕ) (targets : List Target) (known : Known octets targe
   known_targets = record {
     whole = λ i d within. ∥∥₁_elim known.1 le_prop (λ agrees. agrees.targets_are.whole i d within);
     near = λ i d within. ∥∥₁_elim known.1 le_prop (λ agrees. agrees.targets_are.near i d within);
+    digested = λ i d within. ∥∥₁_elim known.1 (Coded-set coded_ℕ (slice_index_or targets i d).digest
+        (digest_of (label_at octets (slice_index_or targets i d).at)))
+        (λ agrees. agrees.targets_are.digested i d within);
     few = λ i d within. ∥∥₁_elim known.1 le_prop (λ agrees. agrees.targets_are.few i d within);
     less = λ i j d before within.
         let reported = key_cmp octets (slice_index_or targets i d) (key_of octets (slice_index_or targets j d)) in
@@ -118,6 +122,7 @@ none_agree octets held none = subst (λ t. Agrees octets t empty) (sym none) (re
   targets_are = record {
     whole = λ i d less. absurd (omega (arith, less));
     near = λ i d less. absurd (omega (arith, less));
+    digested = λ i d less. absurd (omega (arith, less));
     few = λ i d less. absurd (omega (arith, less));
     less = λ i j d first less. absurd (omega (arith, less));
   };

@@ -10,6 +10,7 @@ use Rattle.std.specs.List.{insert, filter}
 use Rattle.octseq_dns_compress.specs.Agrees.{Agrees, place_of}
 use Rattle.octseq_dns_compress.specs.Ending.{IsEnding}
 use Rattle.octseq_dns_compress.specs.FoundNames.{place_there}
+use Rattle.octseq_dns_compress.specs.Key.{digest_of}
 use Rattle.octseq_dns_compress.specs.Names.{Names, Place, at_or_zero, is_there, is_kept, label_no, last_place, prefixed}
 use Rattle.octseq_dns_compress.specs.Names.{pointers_from, with_labels, names_with}
 use Rattle.octseq_dns_compress.specs.Written.{IsWritten}
@@ -127,21 +128,26 @@ module _ (most : ℕ) {octets : List ℕ} {held : List Target} {names : Names} {
         ∙ ap (λ n. with_labels most ending.pointers names n (label ∷ rest)) (sym same)
 
     -- one more is kept
-    pub kept_at : (new : List Target) → end ≡ place_after start labels left
-        → new ≡ insert after position (record { at = at; next = next; pointers = ending.pointers }) → at ≤ 16383
+    pub kept_at : (new : List Target) (digest : ℕ) → digest ≡ digest_of (prefixed label)
+        → end ≡ place_after start labels left
+        → new ≡ insert after position (record { at = at; next = next; pointers = ending.pointers; digest = digest })
+        → at ≤ 16383
         → ending.pointers ≤ 126 → ¬ (most ≤ length after)
         → KeptSoFar octets new (now (left - 1)) labels start at older (left - 1) at (older + 1)
-    kept_at new end_is is near few room =
+    kept_at new digest digested end_is is near few room =
         let count = so_far.agrees.count in
         let less : left - 1 < ending.written = omega (arith, some, few_left) in
-        subst (λ held. KeptSoFar octets held (now (left - 1)) labels start at older (left - 1) at (older + 1)) (sym is)
-        (subst (λ names. KeptSoFar octets
-        (insert after position (record { at = at; next = next; pointers = ending.pointers })) names labels start at older
-        (left - 1) at (older + 1))
+        subst (λ held. KeptSoFar octets held (now (left - 1)) labels start at older (left - 1) at (older + 1))
+        (sym (is ∙ ap (λ n. insert after position
+        (record { at = at; next = next; pointers = ending.pointers; digest = n })) digested))
+        (subst (λ names. KeptSoFar octets (insert after position
+        (record { at = at; next = next; pointers = ending.pointers; digest = digest_of (prefixed label) })) names labels
+        start at older (left - 1) at (older + 1))
         (sym (now_is
         ∙ with_one most ending.pointers names at label rest (now left) true up new_before
         (kept_from most (now left) rest place near few (omega (arith, count, room)) so_far.there)))
-        (so_far_kept at ending.pointers so_far some (omega (arith, few_left, within)) (ap (get (now left)) here ∙ still_new)
+        (so_far_kept at ending.pointers so_far some (omega (arith, few_left, within))
+        (ap (get (now left)) here ∙ still_new)
         (label_here written (left - 1) less within at same) (whole_here written (left - 1) less within at same)
         (omega (arith, end_is, longer)) written.after_header (omega (arith, same)) near few))
 

@@ -16,7 +16,7 @@ use Rattle.std.specs.Ordering.{nat_cmp, ordering_then, is_lt}
 use Rattle.std.specs.declared.cmp.Ordering.{Ordering}
 use Rattle.octseq_dns_compress.specs.Agrees.{Agrees, place_of}
 use Rattle.octseq_dns_compress.specs.FoundNames.{get_new, get_other, same_or_other, one_place}
-use Rattle.octseq_dns_compress.specs.Key.{label_at, key_of, IsWhole, IsPosition}
+use Rattle.octseq_dns_compress.specs.Key.{label_at, digest_of, with_digest, key, key_of, IsWhole, IsPosition}
 use Rattle.octseq_dns_compress.specs.Names.{Names, Place, at_or_zero, is_there, label_no, prefixed, unrooted}
 use Rattle.octseq_dns_compress.specs.Written.{IsWritten}
 use Rattle.octseq_dns_compress.specs.declared.table.Target.{Target}
@@ -81,7 +81,7 @@ module _ {octets : List ℕ} {names : Names} {start : ℕ} {labels : List (List 
 -- the position of a label if no target is followed by the same offset
 by_next : (octets : List ℕ) (held : List Target) (next position : ℕ) (label : List ℕ) → position ≤ length held
     → All (λ t. t.next < next) (take position held) → All (λ t. next < t.next) (drop position held)
-    → IsPosition octets held (next ∷ label) position
+    → IsPosition octets held (key next label) position
 by_next octets held next position label within low high = record {
   within = within;
   before = λ k d less.
@@ -99,10 +99,12 @@ by_next octets held next position label within low high = record {
       high))));
 } where
   reported : (k : ℕ) (d : Target) (order : Ordering) → order ≡ nat_cmp (slice_index_or held k d).next next
-      → slice_cmp nat_cmp (key_of octets (slice_index_or held k d)) (next ∷ label)
-      ≡ ordering_then order (slice_cmp nat_cmp (label_at octets (slice_index_or held k d).at) label)
+      → slice_cmp nat_cmp (key_of octets (slice_index_or held k d)) (key next label)
+      ≡ ordering_then order (slice_cmp nat_cmp (with_digest (label_at octets (slice_index_or held k d).at))
+      (with_digest label))
   reported k d order is =
-      ap (λ order. ordering_then order (slice_cmp nat_cmp (label_at octets (slice_index_or held k d).at) label)) (sym is)
+      ap (λ order. ordering_then order (slice_cmp nat_cmp (with_digest (label_at octets (slice_index_or held k d).at))
+      (with_digest label))) (sym is)
 
 -- ---- the names so far
 
@@ -122,7 +124,7 @@ pub record KeptSoFar (octets : List ℕ) (held : List Target) (now : Names) (lab
   pub next_is : next ≡ place_of now (drop left labels)
   pub apart : (others : List (List ℕ)) (place : Place) → get now others ≡ Some place
       → (place.at < start) ⊎ (end ≤ place.at)
-  pub here : 0 < left → IsPosition octets held (next ∷ prefixed (label_no labels (left - 1))) position
+  pub here : 0 < left → IsPosition octets held (key next (prefixed (label_no labels (left - 1)))) position
   pub low : All (λ t. t.next < start) (take (older + 1) held)
   pub high : All (λ t. next < t.next) (drop (older + 1) held)
   pub phase : IsPhase held start end older next position
@@ -144,7 +146,7 @@ module _ {octets : List ℕ} {held : List Target} {now : Names} {labels : List (
   place = record { at = at; pointers = pointers }
 
   abbrev target : Target
-  target = record { at = at; next = next; pointers = pointers }
+  target = record { at = at; next = next; pointers = pointers; digest = digest_of (prefixed label) }
 
   is : drop (left - 1) labels ≡ label ∷ rest
   is = one_left labels left some inside
@@ -166,10 +168,11 @@ module _ {octets : List ℕ} {held : List Target} {now : Names} {labels : List (
 
   agrees_kept : Agrees octets (insert held position target) (put now (label ∷ rest) place)
   agrees_kept =
-      subst (λ n. Agrees octets (insert held position (record { at = at; next = n; pointers = pointers }))
+      subst (λ n. Agrees octets (insert held position
+      (record { at = at; next = n; pointers = pointers; digest = digest_of (prefixed label) }))
       (put now (label ∷ rest) place)) (sym so_far.next_is)
       (agrees_added octets held now so_far.agrees label rest place may position
-      (subst (λ n. IsPosition octets held (n ∷ prefixed label) position) so_far.next_is (so_far.here some)))
+      (subst (λ n. IsPosition octets held (key n (prefixed label)) position) so_far.next_is (so_far.here some)))
 
   within : position ≤ length held
   within = (so_far.here some).within
@@ -214,7 +217,8 @@ module _ {octets : List ℕ} {held : List Target} {now : Names} {labels : List (
   more_than (inr later) = let all = later.1 in omega (arith, all, grown)
 
   -- with one more label
-  pub so_far_kept : KeptSoFar octets (insert held position (record { at = at; next = next; pointers = pointers }))
+  pub so_far_kept : KeptSoFar octets (insert held position
+      (record { at = at; next = next; pointers = pointers; digest = digest_of (prefixed (label_no labels (left - 1))) }))
       (put now (label_no labels (left - 1) ∷ drop left labels) (record { at = at; pointers = pointers })) labels start at
       older (left - 1) at (older + 1)
   so_far_kept = record {

@@ -117,7 +117,7 @@ pub nowhere : (octets : List ℕ) (targets : List Target) (key : List ℕ) (posi
     → HasNoKey octets targets key
 nowhere octets targets key position before after index has = below (lt_or_ge (dec_le position index)) where
   d : Target
-  d = record { at = 0; next = 0; pointers = 0 }
+  d = record { at = 0; next = 0; pointers = 0; digest = 0 }
 
   equal : key_cmp octets (slice_index_or targets index d) key ≡ Ordering.Equal
   equal = key_equal octets targets key index d has

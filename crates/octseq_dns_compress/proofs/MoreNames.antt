@@ -8,9 +8,9 @@ use Rattle.std.specs.List.{insert}
 use Rattle.octseq_dns_compress.specs.Agrees.{Agrees, IsOfName, HasTarget, place_of, target_of}
 use Rattle.octseq_dns_compress.specs.FoundNames.{labels_total, get_new, get_other, alike_there, some_or_none}
 use Rattle.octseq_dns_compress.specs.FoundNames.{place_there, same_or_other, one_place}
-use Rattle.octseq_dns_compress.specs.Key.{label_at, key_of, IsWhole, IsPosition, HasNoKey}
+use Rattle.octseq_dns_compress.specs.Key.{label_at, digest_of, key, key_of, IsWhole, IsPosition, HasNoKey}
 use Rattle.octseq_dns_compress.specs.Known.{name_key, found}
-use Rattle.octseq_dns_compress.specs.Names.{Names, Place, at_or_zero, is_there}
+use Rattle.octseq_dns_compress.specs.Names.{Names, Place, at_or_zero, is_there, prefixed}
 use Rattle.octseq_dns_compress.specs.declared.table.Target.{Target}
 use Rattle.octseq_dns_compress.proofs.Added.{all_insert, still_in, targets_added}
 
@@ -42,25 +42,26 @@ module _ (octets : List ℕ) (targets : List Target) (names : Names) (agrees : A
   unfolding all_names
   get_stays labels there = get_other names (label ∷ rest) labels place (apart labels there)
 
-  target_stays : (labels : List (List ℕ)) (p : Place) → IsTrue (is_there names labels)
-      → target_of names labels p ≡ target_of all_names labels p
-  target_stays labels p there =
-      ap (λ found. record { at = p.at; next = at_or_zero found; pointers = p.pointers }) (sym (get_stays labels there))
+  target_stays : (l : List ℕ) (labels : List (List ℕ)) (p : Place) → IsTrue (is_there names labels)
+      → target_of names l labels p ≡ target_of all_names l labels p
+  target_stays l labels p there =
+      ap (λ found. record { at = p.at; next = at_or_zero found; pointers = p.pointers; digest = digest_of (prefixed l) })
+      (sym (get_stays labels there))
 
   there_stays : (labels : List (List ℕ)) → IsTrue (is_there names labels) → IsTrue (is_there all_names labels)
   there_stays labels there = alike_there all_names names labels (get_stays labels there) ∙ there
 
   target : Target
-  target = target_of names rest place
+  target = target_of names label rest place
 
   key_is : key_of octets target ≡ name_key names label rest
   unfolding target
-  key_is = ap (λ xs. place_of names rest ∷ xs) may.label_is
+  key_is = ap (key (place_of names rest)) may.label_is
 
   -- no target has its key
   none : HasNoKey octets targets (name_key names label rest)
   none index has =
-      let d : Target = record { at = 0; next = 0; pointers = 0 } in
+      let d : Target = record { at = 0; next = 0; pointers = 0; digest = 0 } in
       let found = found agrees label rest index d may.more has in
       some_or_none (get names (label ∷ rest)) found.0 found.1 may.new
 
@@ -87,14 +88,14 @@ module _ (octets : List ℕ) (targets : List Target) (names : Names) (agrees : A
           rest = held.rest;
           place = held.place;
           there = get_stays (held.label ∷ held.rest) (ap is_some held.there) ∙ held.there;
-          target_is = held.target_is ∙ target_stays held.rest held.place mine.more;
+          target_is = held.target_is ∙ target_stays held.label held.rest held.place mine.more;
         })
         (record {
           label = label;
           rest = rest;
           place = place;
           there = get_new names (label ∷ rest) place;
-          target_is = target_stays rest place may.more;
+          target_is = target_stays label rest place may.more;
         })
 
     new_has : HasTarget octets all_targets all_names label rest place
@@ -107,7 +108,7 @@ module _ (octets : List ℕ) (targets : List Target) (names : Names) (agrees : A
       index = position;
       within = let long = length-insert targets position target is.within in
           let within = is.within in omega (arith, long, within);
-      target_is = λ d. get_or-insert_at targets position target d is.within ∙ target_stays rest place may.more;
+      target_is = λ d. get_or-insert_at targets position target d is.within ∙ target_stays label rest place may.more;
     }
 
     old_has : (l : List ℕ) (r : List (List ℕ)) (p : Place) → HasTarget octets targets names l r p
@@ -122,7 +123,7 @@ module _ (octets : List ℕ) (targets : List Target) (names : Names) (agrees : A
           more = there_stays r has.more;
           index = still.0;
           within = still.1;
-          target_is = λ d. still.2 d ∙ has.target_is d ∙ target_stays r p has.more;
+          target_is = λ d. still.2 d ∙ has.target_is d ∙ target_stays l r p has.more;
         }
 
     all_added : (l : List ℕ) (r : List (List ℕ)) (p : Place) → get all_names (l ∷ r) ≡ Some p
@@ -165,11 +166,12 @@ module _ (octets : List ℕ) (targets : List Target) (names : Names) (agrees : A
           by_name (inr same) (inr other) =
               agrees.once labels others p o (old_place labels p same one) (old_place others o other two) at
 
-    pub agrees_added : Agrees octets (insert targets position (target_of names rest place))
+    pub agrees_added : Agrees octets (insert targets position (target_of names label rest place))
         (put names (label ∷ rest) place)
     unfolding all_targets all_names target
     agrees_added = record {
-      targets_are = targets_added octets targets target position agrees.targets_are may.whole may.near may.few
+      targets_are = targets_added octets targets target position agrees.targets_are may.whole may.near
+          (sym (ap digest_of may.label_is)) may.few
           at_position none_there;
       count = length-insert targets position target is.within ∙ ap (λ n. n + 1) agrees.count
           ∙ sym (len-insert labels_total names (label ∷ rest) place

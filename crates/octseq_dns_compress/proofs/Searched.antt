@@ -9,7 +9,7 @@ use Rattle.std.specs.Option.{option_or}
 use Rattle.octseq_dns_compress.specs.Agrees.{Agrees}
 use Rattle.octseq_dns_compress.specs.Ending.{Ends}
 use Rattle.octseq_dns_compress.specs.FoundNames.{place_there, none_found}
-use Rattle.octseq_dns_compress.specs.Key.{HasKeyAt, HasNoKey}
+use Rattle.octseq_dns_compress.specs.Key.{key, HasKeyAt, HasNoKey}
 use Rattle.octseq_dns_compress.specs.Known.{found, missing}
 use Rattle.octseq_dns_compress.specs.Names.{Names, at_or_zero, is_there, first_labels, label_no, last_place, pointers_from, prefixed}
 use Rattle.octseq_dns_compress.specs.declared.table.Target.{Target}
@@ -18,10 +18,10 @@ use Rattle.octseq_dns_compress.proofs.PlainLabels.{one_left}
 module _ {octets : List ℕ} {targets : List Target} (names : Names) (agrees : Agrees octets targets names) where
   -- one more label is there
   pub ends_before : (label : List ℕ) (rest : List (List ℕ)) (next pointers index : ℕ) (d : Target)
-      → Ends names rest next pointers → HasKeyAt octets targets (next ∷ length label ∷ label) index
+      → Ends names rest next pointers → HasKeyAt octets targets (key next (prefixed label)) index
       → Ends names (label ∷ rest) (slice_index_or targets index d).at ((slice_index_or targets index d).pointers + 1)
   ends_before label rest next pointers index d ends has =
-      let key = subst (λ n. HasKeyAt octets targets (n ∷ length label ∷ label) index) ends.next_is has in
+      let key = subst (λ n. HasKeyAt octets targets (key n (prefixed label)) index) ends.next_is has in
       let it = found agrees label rest index d ends.there key in
       record {
         there = ap is_some it.1;
@@ -31,9 +31,9 @@ module _ {octets : List ℕ} {targets : List Target} (names : Names) (agrees : A
 
   -- or it isn't
   pub none_before : (label : List ℕ) (rest : List (List ℕ)) (next pointers : ℕ) → Ends names rest next pointers
-      → HasNoKey octets targets (next ∷ length label ∷ label) → get names (label ∷ rest) ≡ None
+      → HasNoKey octets targets (key next (prefixed label)) → get names (label ∷ rest) ≡ None
   none_before label rest next pointers ends none =
-      missing agrees label rest (subst (λ n. HasNoKey octets targets (n ∷ length label ∷ label)) ends.next_is none)
+      missing agrees label rest (subst (λ n. HasNoKey octets targets (key n (prefixed label))) ends.next_is none)
 
   -- labels whose suffix isn't there aren't there
   not_there : (labels : List (List ℕ)) (k : ℕ) → k < length labels → get names (drop k labels) ≡ None
@@ -83,19 +83,19 @@ module _ (octets : List ℕ) (targets : List Target) (names : Names) (agrees : A
     (within : written ≤ length labels) (is : read ≡ prefixed (label_no labels (written - 1)))
     (ends : Ends names (drop written labels) next pointers) where
   -- it is there
-  pub ends_at : (index : ℕ) (d : Target) → HasKeyAt octets targets (next ∷ read) index
+  pub ends_at : (index : ℕ) (d : Target) → HasKeyAt octets targets (key next read) index
       → Ends names (drop (written - 1) labels) (slice_index_or targets index d).at
       ((slice_index_or targets index d).pointers + 1)
   ends_at index d has =
       subst (λ all. Ends names all (slice_index_or targets index d).at ((slice_index_or targets index d).pointers + 1))
       (sym (one_left labels written some within))
       (ends_before names agrees (label_no labels (written - 1)) (drop written labels) next pointers index d ends
-      (subst (λ o. HasKeyAt octets targets (next ∷ o) index) is has))
+      (subst (λ o. HasKeyAt octets targets (key next o) index) is has))
 
   -- or no target has its key, so neither it nor a label before it is there
-  pub none_at : HasNoKey octets targets (next ∷ read) → (k : ℕ) → k < written → get names (drop k labels) ≡ None
+  pub none_at : HasNoKey octets targets (key next read) → (k : ℕ) → k < written → get names (drop k labels) ≡ None
   none_at none k less =
       all_new names agrees labels (written - 1) k (omega (arith, less)) (omega (arith, some, within))
       (ap (get names) (one_left labels written some within)
       ∙ none_before names agrees (label_no labels (written - 1)) (drop written labels) next pointers ends
-      (subst (λ o. HasNoKey octets targets (next ∷ o)) is none))
+      (subst (λ o. HasNoKey octets targets (key next o)) is none))

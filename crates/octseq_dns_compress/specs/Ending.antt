@@ -2,7 +2,7 @@
 use Rattle.std.specs.Prelude.{◌≡◌, ℕ, ◌-◌, ◌<◌, None, List, ◌∷◌, take, drop, IsTrue}
 use Rattle.std.specs.FinMap.{get}
 use Rattle.octseq_dns_compress.specs.Agrees.{place_of}
-use Rattle.octseq_dns_compress.specs.Key.{IsPosition}
+use Rattle.octseq_dns_compress.specs.Key.{key, IsPosition}
 use Rattle.octseq_dns_compress.specs.Names.{Names, is_there, first_labels, label_no, last_place, pointers_from, prefixed}
 use Rattle.octseq_dns_compress.specs.declared.search.Ending.{Ending}
 use Rattle.octseq_dns_compress.specs.declared.table.Target.{Target}
@@ -23,4 +23,4 @@ pub record IsEnding (octets : List ℕ) (targets : List Target) (names : Names) 
   pub ends : Ends names (drop ending.written labels) ending.next ending.pointers
   pub new : (k : ℕ) → k < ending.written → get names (drop k labels) ≡ None
   pub position : 0 < ending.written
-      → IsPosition octets targets (ending.next ∷ prefixed (label_no labels (ending.written - 1))) ending.position
+      → IsPosition octets targets (key ending.next (prefixed (label_no labels (ending.written - 1)))) ending.position

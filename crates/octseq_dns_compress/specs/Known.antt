@@ -9,13 +9,13 @@ use mathlib.Core.HLevel.{Σ_prop_path}
 use Rattle.octseq_dns_compress.specs.Agrees.{Agrees, HasTarget, place_of, target_of}
 use Rattle.octseq_dns_compress.specs.FoundNames.{labels_total, labels_alike, alike_there, place_there}
 use Rattle.octseq_dns_compress.specs.FoundNames.{found_alike, none_found}
-use Rattle.octseq_dns_compress.specs.Key.{key_of, HasKeyAt, HasNoKey}
-use Rattle.octseq_dns_compress.specs.Names.{Names, Place, at_or_zero, is_there}
+use Rattle.octseq_dns_compress.specs.Key.{key, key_of, HasKeyAt, HasNoKey}
+use Rattle.octseq_dns_compress.specs.Names.{Names, Place, at_or_zero, is_there, prefixed}
 use Rattle.octseq_dns_compress.specs.declared.table.Target.{Target}
 
 -- the key of a name: the offset of what follows its first label, and that label with its length octet
 abbrev pub name_key : Names → List ℕ → List (List ℕ) → List ℕ
-name_key names label rest = place_of names rest ∷ length label ∷ label
+name_key names label rest = key (place_of names rest) (prefixed label)
 
 -- the target of a name has its key
 pub key_there : (octets : List ℕ) (targets : List Target) (names : Names) (label : List ℕ) (rest : List (List ℕ))
@@ -23,7 +23,7 @@ pub key_there : (octets : List ℕ) (targets : List Target) (names : Names) (lab
     → HasKeyAt octets targets (name_key names label rest) has.index
 key_there octets targets names label rest place has = record {
   within = has.within;
-  is = λ d. ap (key_of octets) (has.target_is d) ∙ ap (λ xs. place_of names rest ∷ xs) has.label_is;
+  is = λ d. ap (key_of octets) (has.target_is d) ∙ ap (key (place_of names rest)) has.label_is;
 }
 
 module _ {octets : List ℕ} {targets : List Target} {names : Names} (agrees : Agrees octets targets names) where
@@ -53,19 +53,20 @@ module _ {octets : List ℕ} {targets : List Target} {names : Names} (agrees : A
   pub found : (label : List ℕ) (rest : List (List ℕ)) (index : ℕ) (d : Target) → IsTrue (is_there names rest)
       → HasKeyAt octets targets (name_key names label rest) index
       → (place : Place) × (get names (label ∷ rest) ≡ Some place)
-      × (slice_index_or targets index d ≡ target_of names rest place)
+      × (slice_index_or targets index d ≡ target_of names label rest place)
   found label rest index d there has =
       let held = agrees.held index d has.within in
       let mine = agrees.all held.label held.rest held.place held.there in
-      let key : place_of names held.rest ∷ (length held.label ∷ held.label) ≡ name_key names label rest =
-      sym (ap (key_of octets) held.target_is ∙ ap (λ xs. place_of names held.rest ∷ xs) mine.label_is) ∙ has.is d in
-      let same_label : held.label ≡ label = ap (drop 2) key in
+      let same : name_key names held.label held.rest ≡ name_key names label rest =
+      sym (ap (key_of octets) held.target_is ∙ ap (key (place_of names held.rest)) mine.label_is) ∙ has.is d in
+      let same_label : held.label ≡ label = ap (drop 3) same in
       let same_rest : held.rest ≡ rest =
-      one_rest held.rest rest mine.more there (ap (λ xs. slice_index_or xs 0 0) key) in (
+      one_rest held.rest rest mine.more there (ap (λ xs. slice_index_or xs 0 0) same) in (
         held.place,
         ap (λ r. get names (label ∷ r)) (sym same_rest)
             ∙ ap (λ l. get names (l ∷ held.rest)) (sym same_label) ∙ held.there,
-        held.target_is ∙ ap (λ r. target_of names r held.place) same_rest,
+        held.target_is ∙ ap (λ l. target_of names l held.rest held.place) same_label
+            ∙ ap (λ r. target_of names label r held.place) same_rest,
       )
 
   -- if no target has its key, the name isn't there
@@ -96,12 +97,12 @@ module _ {octets : List ℕ} {targets : List Target} where
       → get names (label ∷ rest) ≡ Some place → get others (label ∷ rest) ≡ Some place
   carried {names = names} {others = others} agrees other label rest place same is =
       let has = agrees.all label rest place is in
-      let d : Target = record { at = 0; next = 0; pointers = 0 } in
+      let d : Target = record { at = 0; next = 0; pointers = 0; digest = 0 } in
       let there = sym (alike_there names others rest same) ∙ has.more in
-      let key = subst (λ next. HasKeyAt octets targets (next ∷ length label ∷ label) has.index) (ap at_or_zero same)
+      let mine = subst (λ next. HasKeyAt octets targets (key next (prefixed label)) has.index) (ap at_or_zero same)
       (key_there octets targets names label rest place has) in
-      let it = found other label rest has.index d there key in
-      let both : target_of names rest place ≡ target_of others rest it.0 = sym (has.target_is d) ∙ it.2 in
+      let it = found other label rest has.index d there mine in
+      let both : target_of names label rest place ≡ target_of others label rest it.0 = sym (has.target_is d) ∙ it.2 in
       let one : it.0 ≡ place =
       λ i. record { at = (sym (ap (λ t. t.at) both)) i; pointers = (sym (ap (λ t. t.pointers) both)) i } in
       it.1 ∙ ap Some one

@@ -27,9 +27,10 @@ use std::alloc::AllocError;
 const MESSAGE_MAX: usize = 65535;
 
 /// Most names have no more labels: room for their offsets takes no time to make.
-const LABELS_FEW: usize = 16;
+const LABELS_FEW: usize = 8;
 
 /// Appends a slice to a message, within its limit.
+#[inline(always)]
 pub(crate) fn append<B: OctetsBuilder>(octets: &mut B, slice: &[u8]) -> Result<(), AppendError>
     requires { length (B.content octets.old) ≤ 65535 }
     ensures appended { Appends (message_limit B.limit) B.asks result slice.now
@@ -41,7 +42,7 @@ pub(crate) fn append<B: OctetsBuilder>(octets: &mut B, slice: &[u8]) -> Result<(
     if slice.len() > MESSAGE_MAX - octets.len() {
         return Err(AppendError::Short(ShortBuf));
     }
-    octets.append_slice(slice)
+    octets.append_few(slice)
 }
 
 /// Whether a message stays within its limit with `len` more octets.

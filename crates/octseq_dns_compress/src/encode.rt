@@ -32,7 +32,7 @@ fn append_labels<B: OctetsBuilder>(
     let mut index = 0;
     'labels: while index < count {
         let (run, after) = name.run(index, count);
-        if let Err(error) = octets.append_slice(run) {
+        if let Err(error) = octets.append_few(run) {
             return Err(error);
         }
         index = after;

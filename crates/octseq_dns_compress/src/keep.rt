@@ -8,7 +8,7 @@ ghost use Rattle.octseq_dns_compress.specs.PlainNames.{plain_labels};
 ghost use Rattle.octseq_dns_compress.specs.Written.{IsWritten};
 
 use crate::plain::PlainName;
-use crate::search::Ending;
+use crate::search::{Ending, digest};
 use crate::table::{Compressor, Target};
 use octseq::Turns;
 use std::alloc::AllocError;
@@ -61,7 +61,8 @@ pub(crate) fn keep<T: Compressor>(
     let mut position = ending.position;
     'labels: while left > 0 {
         turns.tick();
-        let at = end - name.label(left - 1).len();
+        let label = name.label(left - 1);
+        let at = end - label.len();
         if at > PLACE_MAX || table.is_full() {
             return Ok(());
         }
@@ -71,6 +72,7 @@ pub(crate) fn keep<T: Compressor>(
                 at: at as u16,
                 next,
                 pointers: ending.pointers,
+                digest: digest(label),
             },
         )?;
         left -= 1;

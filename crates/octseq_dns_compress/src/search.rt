@@ -1,11 +1,12 @@
 //! Searching for a label among targets, which are in the order of their keys.
-ghost use Rattle.std.specs.Prelude.{◌≡◌, ◌≤◌, ◌+◌, ◌↔◌, ◌∷◌, length, take, IsTrue, IsErr, IfOk, IfErr};
+ghost use Rattle.std.specs.Prelude.{◌≡◌, ◌≤◌, ◌+◌, ◌↔◌, length, take, IsTrue, IsErr, IfOk, IfErr};
 ghost use Rattle.std.specs.Prelude.{◌*◌, ◌-◌, ◌^◌};
 ghost use Rattle.octseq_dns_compress.specs.Agrees.{Agrees};
 ghost use Rattle.octseq_dns_compress.specs.Ending.{IsEnding};
 ghost use Rattle.octseq_dns_compress.specs.Names.{Names, unrooted};
 ghost use Rattle.octseq_dns_compress.specs.PlainNames.{plain_labels};
-ghost use Rattle.octseq_dns_compress.specs.Key.{label_at, IsWhole, key_cmp, AreTargets, IsPosition, HasKeyAt, HasNoKey};
+ghost use Rattle.octseq_dns_compress.specs.Key.{label_at, digest_of, key, IsWhole, key_cmp, AreTargets, IsPosition};
+ghost use Rattle.octseq_dns_compress.specs.Key.{HasKeyAt, HasNoKey};
 
 use crate::plain::PlainName;
 use crate::table::Target;
@@ -57,7 +58,15 @@ pub(crate) fn search(
     let mut near = 0;
     'labels: while ending.written > 0 {
         let label = name.label(ending.written - 1);
-        match find(octets, targets, near, ending.next, label, turns) {
+        match find(
+            octets,
+            targets,
+            near,
+            ending.next,
+            digest(label),
+            label,
+            turns,
+        ) {
             Ok(index) => {
                 let target = targets[index];
                 ending.written -= 1;
@@ -85,13 +94,32 @@ fn label_at(octets: &[u8], at: u16) -> &[u8]
     &octets[at..at + 1 + len]
 }
 
-/// Compares a target with a label, given with its length octet, that is followed by what is at `next`.
-fn compare(octets: &[u8], target: &Target, next: u16, label: &[u8]) -> Ordering
-    requires { IsWhole octets.now target.now.at }
-    ensures { result ≡ key_cmp octets.now target.now (next ∷ label.now) }
+/// Returns the digest of a label, given with its length octet: a number of its last three octets.
+#[inline(always)]
+pub(crate) fn digest(label: &[u8]) -> u16
+    ensures { result ≡ digest_of label.now }
+{
+    let len = label.len();
+    if len < 3 {
+        return 0;
+    }
+    let (third, second) = (u16::from(label[len - 3]), u16::from(label[len - 2]));
+    240 * third + 16 * second + u16::from(label[len - 1])
+}
+
+/// Compares a target with a label, given with its length octet and its digest, that is followed by what is at `next`.
+#[inline(always)]
+fn compare(octets: &[u8], target: &Target, next: u16, digest: u16, label: &[u8]) -> Ordering
+    requires whole { IsWhole octets.now target.now.at }
+    requires target { target.now.digest ≡ digest_of (label_at octets.now target.now.at) }
+    requires digest { digest ≡ digest_of label.now }
+    ensures { result ≡ key_cmp octets.now target.now (key next label.now) }
 {
     match target.next.cmp(&next) {
-        Ordering::Equal => label_at(octets, target.at).cmp(label),
+        Ordering::Equal => match target.digest.cmp(&digest) {
+            Ordering::Equal => label_at(octets, target.at).cmp(label),
+            other => other,
+        },
         other => other,
     }
 }
@@ -102,14 +130,16 @@ fn find_by_halves(
     octets: &[u8],
     targets: &[Target],
     next: u16,
+    digest: u16,
     label: &[u8],
     turns: &mut Turns,
 ) -> Result<usize, usize>
     requires targets { AreTargets octets.now targets.now }
+    requires digest { digest ≡ digest_of label.now }
     requires few { length targets.now ≤ 16384 }
-    ensures found { IfOk result (HasKeyAt octets.now targets.now (next ∷ label.now)) }
-    ensures position { IfErr result (IsPosition octets.now targets.now (next ∷ label.now)) }
-    ensures none { IsErr result → HasNoKey octets.now targets.now (next ∷ label.now) }
+    ensures found { IfOk result (HasKeyAt octets.now targets.now (key next label.now)) }
+    ensures position { IfErr result (IsPosition octets.now targets.now (key next label.now)) }
+    ensures none { IsErr result → HasNoKey octets.now targets.now (key next label.now) }
     ensures turns { turns.new ≤ turns.old + 15 }
     ensures least { IsErr result → length targets.now + 2 ≤ 2 * 2 ^ (turns.new - turns.old) }
     ensures on { turns.old ≤ turns.new }
@@ -119,7 +149,7 @@ fn find_by_halves(
     'halves: while left > 0 {
         turns.tick();
         let half = left / 2;
-        let order = compare(octets, &targets[from + half], next, label);
+        let order = compare(octets, &targets[from + half], next, digest, label);
         if order.is_eq() {
             return Ok(from + half);
         }
@@ -141,32 +171,42 @@ fn find(
     targets: &[Target],
     near: usize,
     next: u16,
+    digest: u16,
     label: &[u8],
     turns: &mut Turns,
 ) -> Result<usize, usize>
     requires targets { AreTargets octets.now targets.now }
+    requires digest { digest ≡ digest_of label.now }
     requires few { length targets.now ≤ 16384 }
-    ensures found { IfOk result (HasKeyAt octets.now targets.now (next ∷ label.now)) }
-    ensures position { IfErr result (IsPosition octets.now targets.now (next ∷ label.now)) }
-    ensures none { IsErr result → HasNoKey octets.now targets.now (next ∷ label.now) }
+    ensures found { IfOk result (HasKeyAt octets.now targets.now (key next label.now)) }
+    ensures position { IfErr result (IsPosition octets.now targets.now (key next label.now)) }
+    ensures none { IsErr result → HasNoKey octets.now targets.now (key next label.now) }
     ensures turns { turns.new ≤ turns.old + 16 }
     ensures least { turns.old + 1 ≤ turns.new }
 {
     turns.tick();
     let (before, after) = (near.saturating_sub(1), near.saturating_add(1));
-    if is_at(octets, targets, before, next, label) {
+    if is_at(octets, targets, before, next, digest, label) {
         return Ok(before);
     }
-    if is_at(octets, targets, after, next, label) {
+    if is_at(octets, targets, after, next, digest, label) {
         return Ok(after);
     }
-    find_by_halves(octets, targets, next, label, turns)
+    find_by_halves(octets, targets, next, digest, label, turns)
 }
 
 /// Whether the target at an index is that of a label that is followed by what is at `next`.
-fn is_at(octets: &[u8], targets: &[Target], index: usize, next: u16, label: &[u8]) -> bool
-    requires { AreTargets octets.now targets.now }
-    ensures { IsTrue result ↔ HasKeyAt octets.now targets.now (next ∷ label.now) index }
+fn is_at(
+    octets: &[u8],
+    targets: &[Target],
+    index: usize,
+    next: u16,
+    digest: u16,
+    label: &[u8],
+) -> bool
+    requires targets { AreTargets octets.now targets.now }
+    requires digest { digest ≡ digest_of label.now }
+    ensures { IsTrue result ↔ HasKeyAt octets.now targets.now (key next label.now) index }
 {
-    index < targets.len() && compare(octets, &targets[index], next, label).is_eq()
+    index < targets.len() && compare(octets, &targets[index], next, digest, label).is_eq()
 }

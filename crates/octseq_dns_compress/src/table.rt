@@ -21,6 +21,8 @@ pub struct Target {
     pub next: u16,
     /// The number of pointers that are followed from there.
     pub pointers: u8,
+    /// A number by which most labels differ, so that few are compared octet by octet.
+    pub digest: u16,
 }
 
 /// A table of targets, in an order that its user maintains.

@@ -11,6 +11,10 @@ use Rattle.std.specs.Net.Text.{ipv4_text}
 use Rattle.octseq.specs.OctetsText.{ipv6_address_text}
 use Rattle.octseq_dns_data.proofs.Mnemonics.{reads_shown}
 use Rattle.octseq_dns_data.specs.Mnemonic.{ReadsRtype, rtype_text}
+use Rattle.octseq_dns_data.specs.declared.layout.Field.{Field}
+use Rattle.octseq_dns_data.specs.declared.layout.Field.TheVariants as field
+use Rattle.octseq_dns_data.specs.declared.layout.Tail.{Tail}
+use Rattle.octseq_dns_data.specs.declared.layout.Tail.TheVariants as tail
 use Rattle.octseq_dns_name.specs.Wire.{wire}
 use Rattle.octseq_dns_scan.proofs.Addresses.{ipv4_word, ipv6_word}
 use Rattle.octseq_dns_scan.proofs.Numerals.{shown_digits, shown_value, shown_short}
@@ -31,10 +35,6 @@ use Rattle.octseq_dns_text.specs.Reached.{Reached, ReadsText}
 use Rattle.octseq_dns_text.specs.Scans.{Goes, BeginsWithWords, IsFault}
 use Rattle.octseq_dns_text.specs.Tails.{IsTailText}
 use Rattle.octseq_dns_text.specs.declared.error.ScanError.{ScanError}
-use Rattle.octseq_dns_data.specs.declared.layout.Field.{Field}
-use Rattle.octseq_dns_data.specs.declared.layout.Field.TheVariants as field
-use Rattle.octseq_dns_data.specs.declared.layout.Tail.{Tail}
-use Rattle.octseq_dns_data.specs.declared.layout.Tail.TheVariants as tail
 
 -- ---- each field and each tail has a text
 

@@ -4,6 +4,10 @@ use Rattle.std.proofs.Common.{Some, None, inl, inr}
 use Rattle.std.specs.List.{concat}
 use Rattle.octseq.proofs.WrittenBack.{AreOctets}
 use Rattle.octseq.specs.Integer.{octets_be}
+use Rattle.octseq_dns_data.specs.declared.layout.Field.{Field}
+use Rattle.octseq_dns_data.specs.declared.layout.Field.TheVariants as field
+use Rattle.octseq_dns_data.specs.declared.layout.Tail.{Tail}
+use Rattle.octseq_dns_data.specs.declared.layout.Tail.TheVariants as tail
 use Rattle.octseq_dns_name.proofs.Readings.{name_once, name_once_with_origin}
 use Rattle.octseq_dns_name.specs.Wire.{wire, IsWireOf}
 use Rattle.octseq_dns_scan.proofs.Addresses.{one_ipv4, one_ipv6}
@@ -22,10 +26,6 @@ use Rattle.octseq_dns_text.specs.Fields.{SpellsAt, IsNameWord, IsTagWord, IsFiel
 use Rattle.octseq_dns_text.specs.Layouts.{TextLayout, IsLayoutText}
 use Rattle.octseq_dns_text.specs.Tails.{IsValue, AreStrings, IsTailText}
 use Rattle.octseq_dns_text.specs.Words.{IsNumber, IsCounted, IsStringWord, IsSomeHex, IsSomeBase32hex, IsSalt}
-use Rattle.octseq_dns_data.specs.declared.layout.Field.{Field}
-use Rattle.octseq_dns_data.specs.declared.layout.Field.TheVariants as field
-use Rattle.octseq_dns_data.specs.declared.layout.Tail.{Tail}
-use Rattle.octseq_dns_data.specs.declared.layout.Tail.TheVariants as tail
 
 number_one : (size : ℕ) (word octets other : List ℕ) → IsNumber size word octets → IsNumber size word other
     → octets ≡ other

@@ -3,13 +3,13 @@ use Rattle.std.specs.Prelude.{◌≡◌, ℕ, Option, Some, None, List}
 use Rattle.octseq.specs.Integer.{octets_be}
 use Rattle.octseq_dns_data.specs.Mnemonic.{ReadsRtype}
 use Rattle.octseq_dns_data.specs.Tag.{IsTag}
+use Rattle.octseq_dns_data.specs.declared.layout.Field.{Field}
+use Rattle.octseq_dns_data.specs.declared.layout.Field.TheVariants as field
 use Rattle.octseq_dns_name.specs.Origin.{SpellsWithOrigin}
 use Rattle.octseq_dns_name.specs.Spelling.{SpellsName}
 use Rattle.octseq_dns_name.specs.Wire.{IsWireOf}
 use Rattle.octseq_dns_scan.specs.Address.{IsIpv4Word}
 use Rattle.octseq_dns_text.specs.Words.{IsNumber, IsTimeWord, IsIpv6, IsCounted, IsStringWord, IsSomeBase32hex, IsSalt}
-use Rattle.octseq_dns_data.specs.declared.layout.Field.{Field}
-use Rattle.octseq_dns_data.specs.declared.layout.Field.TheVariants as field
 
 -- a type, in two octets
 abbrev pub IsRtypeWord : List ℕ → List ℕ → Type 0

@@ -1,5 +1,7 @@
 -- The words of tails: what comes after the fields of data, up to the end of its text.
 use Rattle.std.specs.Prelude.{◌≡◌, ℕ, ◌≤◌, Bool, true, false, List, [], ◌∷◌, ◌++◌, length}
+use Rattle.octseq_dns_data.specs.declared.layout.Tail.{Tail}
+use Rattle.octseq_dns_data.specs.declared.layout.Tail.TheVariants as tail
 use Rattle.octseq_dns_scan.specs.Base64.{IsBase64Text}
 use Rattle.octseq_dns_scan.specs.Hex.{IsHexText}
 use Rattle.octseq_dns_scan.specs.Spelled.{SpellsString}
@@ -8,8 +10,6 @@ use Rattle.octseq_dns_text.specs.Runs.{AreRuns}
 use Rattle.octseq_dns_text.specs.Scans.{AreSome}
 use Rattle.octseq_dns_text.specs.TypesText.{IsTypesText}
 use Rattle.octseq_dns_text.specs.Words.{IsStringWord}
-use Rattle.octseq_dns_data.specs.declared.layout.Tail.{Tail}
-use Rattle.octseq_dns_data.specs.declared.layout.Tail.TheVariants as tail
 
 -- no word
 abbrev pub IsNothing : List (List ℕ) → List ℕ → Type 0

@@ -1,10 +1,10 @@
 //! Rewriting messages, and composing them of their texts.
-ghost use Rattle.std.specs.Prelude.{◌≡◌, IfOk};
+ghost use Rattle.std.specs.Prelude.{IfOk};
 ghost use Rattle.octseq_dns.specs.Parsed.{header_of, questions_of, answers_of, authorities_of, additionals_of};
 ghost use Rattle.octseq_dns_tool.specs.Composed.{IsComposing};
 ghost use Rattle.octseq_dns_tool.specs.Rewritten.{IsRewriting};
 
-use octseq_dns::{AdditionalBuilder, Message, RewriteError, Target, rewrite};
+use octseq_dns::{Message, RewriteError, Target, rewrite};
 use octseq_dns_compose::{ComposeError, Place, compose_text};
 use std::alloc::{AllocError, Global};
 use std::mem;
@@ -55,15 +55,6 @@ impl Writer {
         (octets, table)
     }
 
-    /// Keeps the octets and the table of a message that was written.
-    fn keep(&mut self, message: AdditionalBuilder<Vec<u8>, Vec<Target>>)
-        ensures { self.new.octets.items ≡ message.state.octets }
-    {
-        let (octets, table) = message.finish();
-        self.octets = octets;
-        self.table = table;
-    }
-
     /// Rewrites a message with its names compressed, in place of the last one. Returns whether it was written, or why
     /// not.
     pub(super) fn rewrite(
@@ -78,7 +69,9 @@ impl Writer {
         let (octets, table) = self.take(alloc);
         match rewrite(message, octets, table) {
             Ok(written) => {
-                self.keep(written);
+                let (octets, table) = written.finish();
+                self.octets = octets;
+                self.table = table;
                 Ok(Rewriting::Written)
             }
             Err(RewriteError::Immovable) => Ok(Rewriting::Immovable),
@@ -95,7 +88,8 @@ impl Writer {
         let (octets, table) = self.take(alloc);
         match compose_text(alloc, text, octets, table) {
             Ok(composed) => {
-                self.keep(composed);
+                let (octets, table) = composed.finish();
+                *self = Writer { octets, table };
                 Ok(Composing::Written)
             }
             Err(ComposeError::Malformed(place)) => Ok(Composing::Malformed(place)),

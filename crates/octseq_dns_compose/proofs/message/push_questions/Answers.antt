@@ -1,5 +1,4 @@
 use Rattle.std.proofs.Common.{[], ◌∷◌, ◌++◌, ◌∙◌, codes, refl, sym, subst, rules}
-use Rattle.octseq_dns_compose.specs.MessageText.{IsQuestionLine}
 use Rattle.octseq_dns_compose.specs.QuestionText.{IsAnyQuestion, IsQuestionText}
 use Rattle.octseq_dns_compose.specs.TextLines.{IsFaultyLine, IsNoneOf}
 use Rattle.octseq_dns_compose.proofs.Onstage.{added_more, added_none, added_so, question_added}
@@ -8,8 +7,7 @@ use Rattle.octseq_dns.proofs.LeastLimit.{within_second}
 use Rattle.octseq_dns.specs.Sections.{takes_questions}
 use Rattle.octseq_dns.specs.Writes.{all_more, least_limit, more_questions}
 use Rattle.octseq_dns_compress.specs.Composed.{message_limit}
-use Rattle.octseq_dns_compose.specs.TooLong.{Exceeds}
-use Rattle.octseq_dns_compose.proofs.MessageTexts.{if_none, if_some, more_snoc}
+use Rattle.octseq_dns_compose.proofs.MessageTexts.{exceeds_more, if_none, if_some}
 use Rattle.octseq_dns_compose.proofs.MessageTexts.{questions_more, read_more, read_none, read_same}
 use Rattle.octseq_dns_compose.proofs.Overrun.{push_exceeds}
 use Rattle.octseq_dns_compose.proofs.message.push_questions.Goals as goal
@@ -17,7 +15,7 @@ use Rattle.octseq_dns_compose.proofs.message.push_questions.Goals as goal
 pub lines-init : goal.lines-init
 lines-init g c = (
   [],
-  read_none IsQuestionLine _ _ _ _ refl refl,
+  read_none refl refl,
   λ m writes. writes,
   λ within. within,
   refl,
@@ -30,7 +28,7 @@ returns-in_default-clause-ok g c =
     let so_far = c.lines.invariant in
     let none = if_none c.in-Ok.next _ (search rules) c.in-Ok.ensures.none in (
       so_far.0,
-      read_same IsQuestionLine _ _ _ _ _ _ so_far.0 so_far.1 none.1 none.2,
+      read_same so_far.1 none.1 none.2,
       subst (IsNoneOf (codes "question")) (sym none.1) none.0,
       so_far.2,
     )
@@ -41,7 +39,7 @@ lines-preserved g c =
     let some = if_some c.in-Ok.next _ _ c.in-Some.is c.in-Ok.ensures.some in
     let q = pushed_question c.parsed-qname.result c.in-Some.question.qtype c.in-Some.question.qclass in (
       so_far.0 ++ q ∷ [],
-      read_more IsQuestionLine _ _ _ _ _ _ so_far.0 q (codes "question" ∷ some.0) so_far.1 some.1 some.3 (
+      read_more q (codes "question" ∷ some.0) so_far.1 some.1 some.3 (
         refl,
         subst (λ labels. IsQuestionText labels c.in-Some.question.qclass c.in-Some.question.qtype some.0)
             (sym c.parsed-qname.ensures) some.2,
@@ -101,18 +99,15 @@ returns-in-Err-Short-clause-short g c = λ _.
       values = so_far.0 ++ q ∷ [];
       ahead = c.next_question.new.lines.ahead.now;
       now = c.next_question.new.lines.number;
-      read = read_more IsQuestionLine _ _ _ _ _ _ so_far.0 q (codes "question" ∷ some.0) so_far.1 some.1 some.3 (
+      read = read_more q (codes "question" ∷ some.0) so_far.1 some.1 some.3 (
         refl,
         subst (λ labels. IsQuestionText labels c.in-Some.question.qclass c.in-Some.question.qtype some.0)
             (sym c.parsed-qname.ensures) some.2,
       );
       is = λ m writes.
-          subst (Exceeds most (least_limit c.args.message.now.push_limit limit) (λ counts. counts.qdcount))
-          (sym (more_snoc more_questions m so_far.0 q))
-          (subst (λ l. Exceeds most (least_limit l limit) (λ counts. counts.qdcount)
-          (more_questions (all_more more_questions m so_far.0) q)) so_far.4
-          (push_exceeds takes_questions most (least_limit c.lines.message.push_limit limit) q
-          c.lines.message.state c.lines.message.header c.lines.message.counts c.in-Err-Short.ensures.reaches
+          exceeds_more more_questions most (λ counts. counts.qdcount) m so_far.0 q limit so_far.4
+          (push_exceeds takes_questions most (least_limit c.lines.message.push_limit limit) q c.lines.message.state
+          c.lines.message.header c.lines.message.counts c.in-Err-Short.ensures.reaches
           (c.in-Err-Short.ensures.pushed.short (search rules)) (all_more more_questions m so_far.0)
-          (so_far.2 m writes)));
+          (so_far.2 m writes));
     }

@@ -1,35 +1,33 @@
 use Rattle.std.proofs.Common.{None, [], ◌∷◌, ◌++◌, ◌∙◌, length, refl, sym, subst, inl, inr, rules}
-use Rattle.octseq_dns_compose.specs.MessageText.{IsRecordLine, IsRecordOf, Said}
+use Rattle.octseq_dns_compose.specs.MessageText.{IsRecordOf, Said}
 use Rattle.octseq_dns_compose.specs.Read.{head_of}
 use Rattle.octseq_dns_compose.specs.RecordText.{IsAnyRecord, IsRecordText}
 use Rattle.octseq_dns_compose.specs.TextLines.{IsFaultyLine, IsLongLine, IsNoneOf}
 use Rattle.octseq.specs.Limit.{IsWithin}
 use Rattle.octseq_dns_compose.proofs.Onstage.{added_more, added_none, added_so, record_added}
-use Rattle.octseq_dns.specs.Writes.{all_more, least_limit}
+use Rattle.octseq_dns.specs.Writes.{all_more}
 use Rattle.octseq_dns_compress.specs.Composed.{message_limit}
-use Rattle.octseq_dns_compose.specs.TooLong.{Exceeds}
-use Rattle.octseq_dns_compose.proofs.MessageTexts.{if_none, if_some, more_snoc, zip_snoc}
+use Rattle.octseq_dns_compose.proofs.MessageTexts.{exceeds_more, if_none, if_some, zip_snoc}
 use Rattle.octseq_dns_compose.proofs.MessageTexts.{read_more, read_none, read_same, written_more, written_none}
 use Rattle.octseq_dns_compose.proofs.message.push_records.Goals as goal
 
 pub lines-init : goal.lines-init
-lines-init g c =
-    let read = read_none (IsRecordLine c.args.section.now) _ _ _ _ refl refl in (
-      [],
-      read,
-      written_none _ _ _ _ _,
-      λ within. within,
-      refl,
-      refl,
-      λ m writes. added_none m c.args.lines.now.ahead.now (writes, refl),
-    )
+lines-init g c = (
+  [],
+  read_none refl refl,
+  written_none,
+  λ within. within,
+  refl,
+  refl,
+  λ m writes. added_none m c.args.lines.now.ahead.now (writes, refl),
+)
 
 pub returns-in_default-clause-ok : goal.returns-in_default-clause-ok
 returns-in_default-clause-ok g c =
     let so_far = c.lines.invariant in
     let none = if_none c.in-Ok.next _ (search rules) c.in-Ok.ensures.none in (
       so_far.0,
-      read_same (IsRecordLine c.args.section.now) _ _ _ _ _ _ so_far.0 so_far.1 none.1 none.2,
+      read_same so_far.1 none.1 none.2,
       subst (IsNoneOf c.args.section.now) (sym none.1) none.0,
       so_far.2,
     )
@@ -41,11 +39,9 @@ lines-preserved g c =
     let pushed = c.in-Ok-push_record.ensures.written in
     let one : Said = record { head = head_of c.in-Some.head; octets = c.as_ref.result.now } in (
       so_far.0 ++ one ∷ [],
-      read_more (IsRecordLine c.args.section.now) _ _ _ _ _ _ so_far.0 one (c.args.section.now ∷ some.0) so_far.1
-          some.1 some.3
+      read_more one (c.args.section.now ∷ some.0) so_far.1 some.1 some.3
           (refl, subst (IsRecordText None (head_of c.in-Some.head) some.0) (sym c.as_ref.ensures.value) some.2),
-      written_more g.T.Compressor.most g.S.RecordSection.more so_far.0 one pushed.0 _ _ _ _ _ _ _ _ _ so_far.2 pushed.1
-          pushed.2,
+      written_more one pushed.0 so_far.2 pushed.1 pushed.2,
       λ within. c.in-Ok-push_record.ensures.within,
       c.in-Ok-push_record.ensures.push_limit ∙ so_far.4,
       c.in-Ok-push_record.ensures.borrows ∙ so_far.5,
@@ -119,26 +115,20 @@ returns-in-Err-Short-clause-short g c = λ _.
     let some = if_some c.in-Ok.next _ _ c.in-Some.is c.in-Ok.ensures.some in
     let pushed = c.in-Err-Short.ensures.short (search rules) in
     let one : Said = record { head = head_of c.in-Some.head; octets = c.as_ref.result.now } in
-    let limit = message_limit g.B.AsOctets.limit in
-    let most = g.T.Compressor.most in
-    let more = g.S.RecordSection.more in
     let written = so_far.2 in
     record {
       values = so_far.0 ++ one ∷ [];
       ahead = c.next_record.new.lines.ahead.now;
       now = c.next_record.new.lines.number;
-      read = read_more (IsRecordLine c.args.section.now) _ _ _ _ _ _ so_far.0 one (c.args.section.now ∷ some.0)
-          so_far.1 some.1 some.3
+      read = read_more one (c.args.section.now ∷ some.0) so_far.1 some.1 some.3
           (refl, subst (IsRecordText None (head_of c.in-Some.head) some.0) (sym c.as_ref.ensures.value) some.2);
       is = inl (record {
         records = written.records ++ pushed.0 ∷ [];
         are = zip_snoc IsRecordOf so_far.0 written.records one pushed.0 written.are pushed.1;
         exceeds = λ m writes.
-            subst (Exceeds most (least_limit c.args.message.now.push_limit limit) g.S.RecordSection.count)
-            (sym (more_snoc more m written.records pushed.0))
-            (subst (λ l. Exceeds most (least_limit l limit) g.S.RecordSection.count
-            (more (all_more more m written.records) pushed.0)) so_far.4
-            (pushed.2 (all_more more m written.records) (written.written m writes)));
+            exceeds_more g.S.RecordSection.more g.T.Compressor.most g.S.RecordSection.count m written.records pushed.0
+            (message_limit g.B.AsOctets.limit) so_far.4
+            (pushed.2 (all_more g.S.RecordSection.more m written.records) (written.written m writes));
       });
     }
 

@@ -3,6 +3,7 @@ use Rattle.std.proofs.Math.Bool.{true≢false}
 use Rattle.std.specs.Prelude.{nat_lt}
 use Rattle.std.specs.List.{filter}
 use Rattle.std.proofs.lemmas.List.Edits.{length-insert}
+use Rattle.octseq_dns_compress.specs.Key.{digest_of}
 use Rattle.octseq_dns_compress.specs.PlainNames.{plain_labels}
 use Rattle.octseq_dns_compress.proofs.Keeping.{none_before, kept_none, kept_yet, kept_at, kept_far, kept_full, kept_all}
 use Rattle.octseq_dns_compress.proofs.PlainLabels.{last_label}
@@ -22,8 +23,8 @@ overflow_sub-at g c =
     let so_far = c.labels.invariant in
     let within = so_far.within in
     let all = c.requires.written in
-    let begin = last_label (plain_labels c.args.name.now) c.labels.left c.label.result.now
-    (omega (arith, c.labels-test.true)) (omega (arith, within, all)) c.label.ensures in
+    let begin = last_label (plain_labels c.args.name.now) c.labels.left c.label-label.result.now
+    (omega (arith, c.labels-test.true)) (omega (arith, within, all)) c.label-label.ensures in
     let end = so_far.end in
     omega (arith, begin, end)
 
@@ -40,7 +41,9 @@ labels-init g c =
       least = omega arith;
       on = omega arith;
       before = refl;
-      kept = λ octets names agrees ends written. kept_yet g.T.Compressor.most agrees ends c.requires.written written _ (length c.as_slice-older.result.now) all c.requires.position;
+      kept = λ octets names agrees ends written.
+          kept_yet g.T.Compressor.most agrees ends c.requires.written written _ (length c.as_slice-older.result.now) all
+          c.requires.position;
     }
 
 pub returns-then-at-gt-PLACE_MAX-clause-kept : goal.returns-then-at-gt-PLACE_MAX-clause-kept
@@ -48,17 +51,19 @@ returns-then-at-gt-PLACE_MAX-clause-kept g c octets names agrees ends written =
     let so_far = c.labels.invariant in
     let kept = so_far.kept octets names agrees ends written in
     let some : 0 < c.labels.left = omega (arith, c.labels-test.true) in
-    let begin = last_label (plain_labels c.args.name.now) c.labels.left c.label.result.now some
-    (let within = so_far.within in let all = c.requires.written in omega (arith, within, all)) c.label.ensures in
+    let begin = last_label (plain_labels c.args.name.now) c.labels.left c.label-label.result.now some
+    (let within = so_far.within in let all = c.requires.written in omega (arith, within, all)) c.label-label.ensures in
     let end = so_far.end in
-    let size = ap length c.label.ensures in
-    let at = c.labels.end - length c.label.result.now in
+    let size = ap length c.label-label.ensures in
+    let at = c.labels.end - length c.label-label.result.now in
     elim c.then-at-gt-PLACE_MAX.branch [
       | then-at-gt-PLACE_MAX-via-then-at-gt-PLACE_MAX w ↦
-          kept_far g.T.Compressor.most agrees ends c.requires.written written kept some so_far.within at (omega (arith, begin, end))
+          kept_far g.T.Compressor.most agrees ends c.requires.written written kept some so_far.within at
+          (omega (arith, begin, end))
           (omega (arith, begin, end, size)) w.if-at-gt-PLACE_MAX.true
       | then-at-gt-PLACE_MAX-via-else-at-gt-PLACE_MAX+then-is_full w ↦
-          kept_full g.T.Compressor.most agrees ends c.requires.written written kept some so_far.within at (omega (arith, begin, end))
+          kept_full g.T.Compressor.most agrees ends c.requires.written written kept some so_far.within at
+          (omega (arith, begin, end))
           (omega (arith, begin, end, size)) (w.if-is_full.ensures.0 refl)
     ]
 
@@ -74,10 +79,11 @@ labels-preserved g c =
     let few = so_far.few in
     let tick = c.tick.ensures in
     let room : ¬ (g.T.Compressor.most ≤ length held) = λ full. true≢false (sym (c.if-is_full.ensures.1 full)) in
-    let begin = last_label (plain_labels c.args.name.now) c.labels.left c.label.result.now
-    (omega (arith, c.labels-test.true)) (let all = c.requires.written in omega (arith, within, all)) c.label.ensures in
+    let begin = last_label (plain_labels c.args.name.now) c.labels.left c.label-label.result.now
+    (omega (arith, c.labels-test.true)) (let all = c.requires.written in omega (arith, within, all))
+    c.label-label.ensures in
     let end = so_far.end in
-    let size = ap length c.label.ensures in
+    let size = ap length c.label-label.ensures in
     let few_pointers = c.if-ending-gt-POINTERS_MAX.false in
     let near = c.if-at-gt-PLACE_MAX.false in
     record {
@@ -91,9 +97,12 @@ labels-preserved g c =
       on = (let on = so_far.on in omega (arith, on, tick));
       before = ap (filter (λ t. nat_lt t.at c.args.start)) inserted
           ∙ none_before c.args.start held c.labels.position _ (omega (arith, begin, end)) ∙ so_far.before;
-      kept = λ octets names agrees ends written. kept_at g.T.Compressor.most agrees ends c.requires.written written (so_far.kept octets names agrees ends written)
-          (omega (arith, c.labels-test.true)) within (c.labels.end - length c.label.result.now)
-          (omega (arith, begin, end)) (omega (arith, begin, end, size)) (g.T.Compressor.held c.insert.new.self) end
+      kept = λ octets names agrees ends written.
+          kept_at g.T.Compressor.most agrees ends c.requires.written written
+          (so_far.kept octets names agrees ends written)
+          (omega (arith, c.labels-test.true)) within (c.labels.end - length c.label-label.result.now)
+          (omega (arith, begin, end)) (omega (arith, begin, end, size)) (g.T.Compressor.held c.insert.new.self) _
+          (c.digest.ensures ∙ ap digest_of c.label-label.ensures) end
           inserted (omega (arith, near)) (omega (arith, few_pointers)) room;
     }
 
@@ -101,4 +110,5 @@ pub returns-clause-kept : goal.returns-clause-kept
 returns-clause-kept g c octets names agrees ends written =
     let so_far = c.labels.invariant in
     let none = c.labels-test.false in
-    kept_all g.T.Compressor.most agrees ends c.requires.written written (so_far.kept octets names agrees ends written) (omega (arith, none))
+    kept_all g.T.Compressor.most agrees ends c.requires.written written (so_far.kept octets names agrees ends written)
+    (omega (arith, none))

@@ -1,5 +1,6 @@
 use Rattle.std.proofs.Common.{sym, ◌∙◌, ◌+◌, ◌-◌, ◌/◌, ◌<◌, ◌∷◌, length, arith, rules}
 use Rattle.std.specs.Cmp.{Equal-is}
+use Rattle.octseq_dns_compress.specs.Key.{key}
 use Rattle.octseq_dns_compress.proofs.Keys.{before_more, after_more, greater_not_less, halved, halves_left, few_halves}
 use Rattle.octseq_dns_compress.proofs.Keys.{key_there, nowhere}
 use Rattle.octseq_dns_compress.proofs.search.find_by_halves.Goals as goal
@@ -9,7 +10,7 @@ halves-preserved-then-is_lt c =
     let so_far = c.halves.invariant in
     let octets = c.args.octets.now in
     let targets = c.args.targets.now in
-    let key = c.args.next ∷ c.args.label.now in
+    let key = key c.args.next c.args.label.now in
     let half = c.halves.left / 2 in
     let mid = c.halves.from + half in
     let within = so_far.within in
@@ -36,7 +37,7 @@ halves-preserved c =
     let so_far = c.halves.invariant in
     let octets = c.args.octets.now in
     let targets = c.args.targets.now in
-    let key = c.args.next ∷ c.args.label.now in
+    let key = key c.args.next c.args.label.now in
     let half = c.halves.left / 2 in
     let mid = c.halves.from + half in
     let within = so_far.within in
@@ -60,7 +61,7 @@ halves-preserved c =
 pub returns-then-is_eq-clause-found : goal.returns-then-is_eq-clause-found
 returns-then-is_eq-clause-found c =
     let reported = c.compare-order.result in
-    key_there c.args.octets.now c.args.targets.now (c.args.next ∷ c.args.label.now)
+    key_there c.args.octets.now c.args.targets.now (key c.args.next c.args.label.now)
     (c.halves.from + c.halves.left / 2) _ (let within = c.halves.invariant.within in
     omega (arith, within, c.halves-test.true))
     (sym c.compare-order.ensures ∙ (Equal-is reported).0 (sym c.is_eq.ensures ∙ c.if-is_eq.true))
@@ -80,5 +81,5 @@ pub returns-clause-none : goal.returns-clause-none
 returns-clause-none c = λ _.
     let so_far = c.halves.invariant in
     let none = c.halves-test.false in
-    nowhere c.args.octets.now c.args.targets.now (c.args.next ∷ c.args.label.now) c.halves.from so_far.before
+    nowhere c.args.octets.now c.args.targets.now (key c.args.next c.args.label.now) c.halves.from so_far.before
     (λ k d from inside. so_far.after k d (omega (arith, none, from)) inside)

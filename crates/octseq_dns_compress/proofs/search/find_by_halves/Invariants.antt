@@ -1,7 +1,7 @@
 -- This many targets are known to come before the key, and this many after it.
 use Rattle.std.proofs.Common.{◌≡◌, ◌+◌, ◌*◌, ◌^◌, ◌-◌, ◌<◌, ◌≤◌, ℕ, ◌∷◌, length, slice_index_or}
 use Rattle.std.specs.declared.cmp.Ordering.{Ordering}
-use Rattle.octseq_dns_compress.specs.Key.{key_cmp}
+use Rattle.octseq_dns_compress.specs.Key.{key, key_cmp}
 use Rattle.octseq_dns_compress.specs.declared.table.Target.{Target}
 use Rattle.octseq_dns_compress.proofs.search.find_by_halves.Given as goal
 
@@ -9,7 +9,7 @@ abbrev pub invariant-halves : goal.invariant-halves
 invariant-halves l =
     let octets = l.fn.octets in
     let targets = l.fn.targets in
-    let key = l.fn.next ∷ l.fn.label in
+    let key = key l.fn.next l.fn.label in
     record {
       within : l.from + l.left ≤ length targets;
       before : (k : ℕ) (d : Target) → k < l.from → key_cmp octets (slice_index_or targets k d) key ≡ Ordering.Less;

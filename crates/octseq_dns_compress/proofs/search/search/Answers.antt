@@ -1,5 +1,5 @@
 use Rattle.std.proofs.Common.{◌∷◌, refl, subst, arith}
-use Rattle.octseq_dns_compress.specs.Key.{IsPosition}
+use Rattle.octseq_dns_compress.specs.Key.{key, IsPosition}
 use Rattle.octseq_dns_compress.specs.PlainNames.{plain_labels}
 use Rattle.octseq_dns_compress.specs.declared.table.Target.{Target}
 use Rattle.octseq_dns_compress.proofs.PlainLabels.{last_label}
@@ -25,7 +25,7 @@ labels-preserved c =
     let turns = c.in-Ok.ensures.turns in
     let found = c.in-Ok.ensures.found in
     let index = found.within in
-    let d : Target = record { at = 0; next = 0; pointers = 0 } in
+    let d : Target = record { at = 0; next = 0; pointers = 0; digest = 0 } in
     record {
       within = omega (arith, within);
       len = (let len = so_far.len in
@@ -59,6 +59,6 @@ returns-in-Err-clause-ending c names agrees =
       ends = ends;
       new = new;
       position = λ some.
-          subst (λ o. IsPosition c.args.octets.now c.args.targets.now (c.labels.ending.next ∷ o) c.in-Err.position)
+          subst (λ o. IsPosition c.args.octets.now c.args.targets.now (key c.labels.ending.next o) c.in-Err.position)
           c.label-label.ensures c.in-Err.ensures.position;
     }

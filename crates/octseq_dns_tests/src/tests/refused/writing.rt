@@ -149,6 +149,7 @@ fn is_added(rt: &impl Abort, table: &mut Vec<Target>, at: u16) {
         at,
         next: 0,
         pointers: 3,
+        digest: 0,
     };
     let before = table.len();
     if Compressor::is_full(table) {

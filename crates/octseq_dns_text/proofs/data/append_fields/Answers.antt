@@ -1,6 +1,8 @@
 use Rattle.std.proofs.Common.{◌≡◌, ℕ, ◌+◌, List, [], ◌∷◌, ◌++◌, length, refl, sym, ap, ◌∙◌, subst, append_assoc, arith}
 use Rattle.std.proofs.Common.{option_map, rules}
 use Rattle.std.proofs.lemmas.List.{append-nil, nil_from_length}
+use Rattle.octseq_dns_data.specs.declared.layout.Field.{Field}
+use Rattle.octseq_dns_data.specs.declared.layout.Tail.{Tail}
 use Rattle.octseq_dns_name.specs.Read.{labels_of}
 use Rattle.octseq_dns_scan.proofs.Taken.{word_once}
 use Rattle.octseq_dns_scan.specs.Words.{ahead_of, offset_of}
@@ -11,8 +13,6 @@ use Rattle.octseq_dns_text.specs.Fields.{IsFieldText}
 use Rattle.octseq_dns_text.specs.Layouts.{IsLayoutText}
 use Rattle.octseq_dns_text.specs.Reached.{Reached}
 use Rattle.octseq_dns_text.specs.Scans.{IsFault}
-use Rattle.octseq_dns_data.specs.declared.layout.Field.{Field}
-use Rattle.octseq_dns_data.specs.declared.layout.Tail.{Tail}
 use Rattle.octseq_dns_text.proofs.data.append_fields.Goals as goal
 
 pub fields-init : goal.fields-init

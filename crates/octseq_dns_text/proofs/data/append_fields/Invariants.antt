@@ -1,12 +1,12 @@
 -- The fields so far are read, and their octets are appended.
 use Rattle.std.proofs.Common.{◌≡◌, List, ◌++◌, length, option_map}
+use Rattle.octseq_dns_data.specs.declared.layout.Field.{Field}
+use Rattle.octseq_dns_data.specs.declared.layout.Tail.{Tail}
 use Rattle.octseq_dns_name.specs.Read.{labels_of}
 use Rattle.octseq_dns_scan.specs.Words.{ahead_of, offset_of}
 use Rattle.octseq_dns_text.specs.Layouts.{IsLayoutText}
 use Rattle.octseq_dns_text.specs.Output.{Grows}
 use Rattle.octseq_dns_text.specs.Reached.{Reached}
-use Rattle.octseq_dns_data.specs.declared.layout.Field.{Field}
-use Rattle.octseq_dns_data.specs.declared.layout.Tail.{Tail}
 use Rattle.octseq_dns_text.proofs.data.append_fields.Given as goal
 
 abbrev pub invariant-fields : goal.invariant-fields

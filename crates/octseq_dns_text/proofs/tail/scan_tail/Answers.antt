@@ -1,10 +1,10 @@
 use Rattle.std.proofs.Common.{true}
+use Rattle.octseq_dns_data.specs.declared.layout.Tail.{Tail}
 use Rattle.octseq_dns_scan.specs.Words.{ahead_of, offset_of}
 use Rattle.octseq_dns_text.proofs.ReadTexts.{reads_or, of_scans, scans_grow}
 use Rattle.octseq_dns_text.specs.ParamsText.{IsParamsText}
 use Rattle.octseq_dns_text.specs.Tails.{IsTailText, has_list}
 use Rattle.octseq_dns_text.specs.TypesText.{IsTypesText}
-use Rattle.octseq_dns_data.specs.declared.layout.Tail.{Tail}
 use Rattle.octseq_dns_text.proofs.tail.scan_tail.Goals as goal
 
 pub returns-in-Nothing-clause-reads : goal.returns-in-Nothing-clause-reads

@@ -104,9 +104,9 @@ fn a_carriage_return_is_no_part_of_a_text(rt: HostRuntime) {
 
 /// Makes the text of a message with an answer of the root, of type 10 and class 1, with this many octets of data, all
 /// of them zeros.
-fn text_of(alloc: Global, size: usize) -> Result<String, AllocError> {
+fn text_of(alloc: Global, size: u16) -> Result<String, AllocError> {
     let mut digits = Vec::new(alloc);
-    digits.resize(2 * size, b'0')?;
+    digits.resize(2 * usize::from(size), b'0')?;
     let digits = String::from_utf8_lossy(alloc, &digits)?;
     format!(in alloc; "id 0 opcode 0 rcode 0 flags\nanswer . 0 IN TYPE10 \\# {size} {digits}\n")
 }

@@ -11,15 +11,18 @@ use std::process::Abort;
 /// A message of zeros, preceded by its length.
 const BLANK: [u8; 14] = [0, 12, 0, 0, 0, 0, 0, 0, 0, 0, 0, 0, 0, 0];
 
-/// The text of that message, and an empty line.
-const BLANK_LINES: &[u8] = b"id 0 opcode 0 rcode 0 flags\n\n";
+/// The same as characters.
+const BLANK_STREAM: &str = "\0\x0C\0\0\0\0\0\0\0\0\0\0\0\0";
 
-/// What each command writes for an input: for `BLANK`, or for its text.
-const OUTPUTS: [(&str, &[u8], Status, &[u8]); 4] = [
-    ("message", &BLANK, Status::Refused, b"malformed\n"),
-    ("stream", &BLANK, Status::Fine, BLANK_LINES),
-    ("rewrite", &BLANK, Status::Fine, &BLANK),
-    ("compose", BLANK_LINES, Status::Fine, &BLANK),
+/// The text of that message, and an empty line.
+const BLANK_LINES: &str = "id 0 opcode 0 rcode 0 flags\n\n";
+
+/// What each command writes for an input.
+const OUTPUTS: [(&str, &str, Status, &str); 4] = [
+    ("message", BLANK_STREAM, Status::Refused, "malformed\n"),
+    ("stream", BLANK_STREAM, Status::Fine, BLANK_LINES),
+    ("rewrite", BLANK_STREAM, Status::Fine, BLANK_STREAM),
+    ("compose", BLANK_LINES, Status::Fine, BLANK_STREAM),
 ];
 
 /// Runs a command over readers that fail after no read, after one, and so on. Returns after how many reads it succeeds.
@@ -27,11 +30,11 @@ fn failed_reads(
     rt: &impl Abort,
     alloc: Global,
     at_once: usize,
-    (command, input, status, output): (&str, &[u8], Status, &[u8]),
+    (command, input, status, output): (&str, &str, Status, &str),
 ) -> usize {
     for reads in 0..32 {
         let mut reader = Drip {
-            rest: input,
+            rest: input.as_bytes(),
             at_once,
             reads,
         };
@@ -39,12 +42,15 @@ fn failed_reads(
         let answer = engine(alloc, command, &mut reader, &mut written);
         if answer.is_ok() {
             assert_equal!(rt, answer, Ok(status));
-            assert_equal!(rt, written.as_slice(), output);
+            assert_equal!(rt, written.as_slice(), output.as_bytes());
             return reads;
         }
         assert_equal!(rt, answer, Err(ProgramFault::Read));
         // (the whole message is written after it was read, and nothing before that)
-        assert_true!(rt, written.is_empty() || written.as_slice() == output);
+        assert_true!(
+            rt,
+            written.is_empty() || written.as_slice() == output.as_bytes()
+        );
     }
     32
 }
@@ -78,7 +84,8 @@ fn a_failed_write_is_reported(rt: HostRuntime) {
                     at_once,
                     calls,
                 };
-                let answer = engine(rt.alloc(), command, &mut { input }, &mut writer);
+                let octets = input.as_bytes();
+                let answer = engine(rt.alloc(), command, &mut { octets }, &mut writer);
                 let wanted = if calls < needed {
                     Err(ProgramFault::Write)
                 } else {
@@ -86,7 +93,7 @@ fn a_failed_write_is_reported(rt: HostRuntime) {
                 };
                 assert_eq!(rt; answer, wanted, "{command} of {calls}");
                 let taken = writer.taken.as_slice();
-                assert_equal!(&rt, output.get(..taken.len()), Some(taken));
+                assert_equal!(&rt, output.as_bytes().get(..taken.len()), Some(taken));
                 assert_true!(&rt, answer.is_err() || taken.len() == output.len());
             }
         }

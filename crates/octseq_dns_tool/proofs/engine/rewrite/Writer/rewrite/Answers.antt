@@ -8,13 +8,13 @@ pub returns-in-Ok : goal.returns-in-Ok
 returns-in-Ok c =
     let contents = c.in-Ok.ensures.rewritten.contents in
     let is = c.in-Ok.ensures.rewritten.written contents.0 contents.1 in
-    let same = ap length c.keep.ensures in
+    let same = ap length c.finish-octets.ensures.content in
     let few : length c.in-Ok.written.state.octets ≤ 65535 = c.in-Ok.ensures.rewritten.fits in
     record {
       moves = moves _ (λ stays. c.in-Ok.ensures.immovable.1 stays);
       contents = contents.0;
       contents_are = contents.1;
-      written = c.keep.ensures ∙ ap (λ state. state.octets) is.state_is;
+      written = c.finish-octets.ensures.content ∙ ap (λ state. state.octets) is.state_is;
       size = omega (arith, same, few);
     }
 
