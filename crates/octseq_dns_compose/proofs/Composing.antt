@@ -24,8 +24,7 @@ use Rattle.octseq_dns_compose.proofs.LineFaults.{LeadsLines, Line, led_line_faul
 use Rattle.octseq_dns_compose.proofs.MessageFaults.{AnyEntries, IsSection, NoneFrom, SaysAs, after_header, none_step}
 use Rattle.octseq_dns_compose.proofs.MessageFaults.{of_additionals, of_answers, of_authorities, of_questions}
 use Rattle.octseq_dns_compose.proofs.MessageFaults.{other_fault, past_section, reached_most, stop_fault}
-use Rattle.octseq_dns_compose.proofs.Overrun.{counted_additionals, counted_answers, counted_authorities}
-use Rattle.octseq_dns_compose.proofs.Overrun.{counted_questions, header_past, past_limit}
+use Rattle.octseq_dns_compose.proofs.Overrun.{counts_most, header_past, past_limit}
 
 -- ---- entries after others
 
@@ -286,7 +285,7 @@ answers = record {
   };
   adds = λ m said r is. (r, is, refl);
   octets = λ said. refl;
-  counted = counted_answers;
+  counted = λ m. (counts_most m).1;
   named = inl refl;
 }
 
@@ -299,7 +298,7 @@ authorities = record {
   };
   adds = λ m said r is. (r, is, refl);
   octets = λ said. refl;
-  counted = counted_authorities;
+  counted = λ m. (counts_most m).2;
   named = inr (inl refl);
 }
 
@@ -312,7 +311,7 @@ additionals = record {
   };
   adds = λ m said r is. (r, is, refl);
   octets = λ said. refl;
-  counted = counted_additionals;
+  counted = λ m. (counts_most m).3;
   named = inr (inr refl);
 }
 
@@ -379,8 +378,8 @@ module _ {B T : Type 0} {most : ℕ} {text a : List ℕ} {i : ℕ} {before : Bui
       → IsTooLong most (message_limit limit) text
   long_questions limit found =
       long_message questions now limit (λ counts. counts.qdcount) found.ahead found.now found.values
-      (all_more more_questions now.m found.values) counted_questions found.read (with_questions now.m found.values)
-      (found.is now.m now.writes)
+      (all_more more_questions now.m found.values) (λ m. (counts_most m).0) found.read
+      (with_questions now.m found.values) (found.is now.m now.writes)
 
 module _ {make : Said → Entry} {section : ℕ} {word : List ℕ} {more : Message → Record → Message}
     {count : HeaderCounts → ℕ} (records : Records make section word more count) {B T : Type 0} {most : ℕ}

@@ -74,23 +74,6 @@ led_fault Is Rest front leads text ahead start next offset begins place fault = 
       fault.ends none less.0 less.1;
 }
 
--- another word at the front
-pub led_word : (Is Mid Rest : List (List ℕ) → List ℕ → Type 0) (front : List (List ℕ)) (word : List ℕ)
-    → Leads Is Mid front
-    → ((words : List (List ℕ)) (octets : List ℕ) → Rest words octets → (all : List ℕ) × Mid (word ∷ words) all)
-    → ((words : List (List ℕ)) (octets : List ℕ) → Mid (word ∷ words) octets → (less : List ℕ) × Rest words less)
-    → Leads Is Rest (front ++ word ∷ [])
-led_word Is Mid Rest front word leads into out = record {
-  into = λ words octets rest.
-      let mid = into words octets rest in
-      let all = leads.into (word ∷ words) mid.0 mid.1 in
-      (all.0, subst (λ ws. Is ws all.0) (sym (append_assoc front (word ∷ []) words)) all.1);
-  out = λ words octets is.
-      let mid = leads.out (word ∷ words) octets
-      (subst (λ ws. Is ws octets) (append_assoc front (word ∷ []) words) is) in
-      out words mid.0 mid.1;
-}
-
 -- Words at the front of a text of one kind were read, after which it is of another.
 pub record Reached (Is Rest : List (List ℕ) → List ℕ → Type 0) (text : List ℕ) (start : ℕ) (ahead : List ℕ)
     (next : ℕ) : Type 0 where

@@ -1,206 +1,158 @@
 -- The line of a header, and where it is none.
 use Rattle.std.proofs.Common.{◌≡◌, ℕ, ◌+◌, false, List, [], ◌∷◌, length, codes}
-use Rattle.std.proofs.Common.{refl, ap, subst, arith}
+use Rattle.std.proofs.Common.{refl, subst, arith}
 use Rattle.std.proofs.lemmas.List.{append-nil}
 use Rattle.octseq_dns_scan.specs.Word.{TakesWord, AreWords}
 use Rattle.octseq_dns_text.specs.Scans.{BeginsWithWords, IsFault}
 use Rattle.octseq_dns_compose.specs.Take.{IsGiven, IsUpTo, Then}
 use Rattle.octseq_dns_compose.specs.HeaderLine.{Field, IsNoField, AreFlags, IsHeaderLine, Picks, flag_names}
-use Rattle.octseq_dns_compose.proofs.Faults.{Leads, Reached, are_more, at_front, first_fault, led_fault, past_words}
+use Rattle.octseq_dns_compose.proofs.Faults.{Leads, Reached, are_more, first_fault, kept_fault, led_fault, past_words}
 use Rattle.octseq_dns_compose.proofs.Flags.{flags_fault}
 use Rattle.octseq_dns_message.specs.declared.header.Flags.{Flags}
 use Rattle.octseq_dns_message.specs.declared.header.Header.{Header}
 
--- texts of words, of no octets
-abbrev pub Of : (List (List ℕ) → Type 0) → List (List ℕ) → List ℕ → Type 0
-Of Is words octets = Is words
+-- what any header says in words
+abbrev pub Any : (Header → List (List ℕ) → Type 0) → List (List ℕ) → List ℕ → Type 0
+Any Is words octets = (h : Header) × Is h words
 
--- ---- a field
+abbrev pub HeaderTexts : List (List ℕ) → List ℕ → Type 0
+HeaderTexts = Any IsHeaderLine
 
--- with any number
-abbrev pub AnyField : List ℕ → ℕ → (List (List ℕ) → Type 0) → List (List ℕ) → Type 0
-AnyField name most Rest words = (number : ℕ) × Field name most number Rest words
+-- what follows each number
+abbrev pub AfterRcode : Header → List (List ℕ) → Type 0
+AfterRcode h = Then (IsGiven (codes "flags")) (AreFlags h.flags)
+
+abbrev pub AfterOpcode : Header → List (List ℕ) → Type 0
+AfterOpcode h = Field (codes "rcode") 15 h.rcode (AfterRcode h)
+
+abbrev pub AfterId : Header → List (List ℕ) → Type 0
+AfterId h = Field (codes "opcode") 15 h.opcode (AfterOpcode h)
+
+-- ---- a sample
+
+zero_header : Header
+zero_header = record {
+  id = 0;
+  flags = record { qr = false; aa = false; tc = false; rd = false; ra = false; z = false; ad = false; cd = false };
+  opcode = 0;
+  rcode = 0;
+}
 
 zero_up_to : (most : ℕ) → IsUpTo most 0 (codes "0")
 zero_up_to most = ((omega arith, (omega arith, tt)), refl, omega arith)
 
--- words that are a text
-abbrev Sample : (List (List ℕ) → Type 0) → Type 0
-Sample Is = (words : List (List ℕ)) × Is words
+abbrev flags_words : List (List ℕ)
+flags_words = codes "flags" ∷ []
 
-field_text : (name : List ℕ) (most : ℕ) (Rest : List (List ℕ) → Type 0) → Sample Rest
-    → Sample (AnyField name most Rest)
-field_text name most Rest rest = (name ∷ codes "0" ∷ rest.0, (0, (refl, (zero_up_to most, rest.1))))
+abbrev rcode_words : List (List ℕ)
+rcode_words = codes "rcode" ∷ codes "0" ∷ flags_words
 
-first_of_field : (name : List ℕ) (most : ℕ) (Rest : List (List ℕ) → Type 0) (word : List ℕ) (words : List (List ℕ))
-    → AnyField name most Rest (word ∷ words) → word ≡ name
-first_of_field name most Rest word words is = is.1.0
+abbrev opcode_words : List (List ℕ)
+opcode_words = codes "opcode" ∷ codes "0" ∷ rcode_words
 
-second_of_field : (name : List ℕ) (most : ℕ) (Rest : List (List ℕ) → Type 0) (word next : List ℕ)
-    (words : List (List ℕ)) → AnyField name most Rest (word ∷ next ∷ words) → (n : ℕ) × IsUpTo most n next
-second_of_field name most Rest word next words is = (is.0, is.1.1.0)
+flags_text : AfterRcode zero_header flags_words
+unfolding zero_header
+flags_text = (refl, (refl, refl))
 
-no_second : (name : List ℕ) (most : ℕ) (Rest : List (List ℕ) → Type 0) (word : List ℕ)
-    → ¬ AnyField name most Rest (word ∷ [])
-no_second name most Rest word is = is.1.1
+rcode_text : AfterOpcode zero_header rcode_words
+unfolding zero_header
+rcode_text = (refl, (zero_up_to 15, flags_text))
 
-pub field_fault : (name : List ℕ) (most : ℕ) (Rest : List (List ℕ) → Type 0) (ahead after : List ℕ)
-    (start next : ℕ) → Sample Rest → next + length after ≡ start + length ahead
-    → IsNoField name most ahead after → IsFault (Of (AnyField name most Rest)) ahead start next
-field_fault name most Rest ahead after start next rest place (IsNoField.no_name same none) =
-    let size = ap length same in
-    let at : start ≡ next = omega (arith, place, size) in
-    subst (IsFault (Of (AnyField name most Rest)) ahead start) at
-    (first_fault (Of (AnyField name most Rest)) ahead start
-    (let sample = field_text name most Rest rest in (sample.0, [], sample.1))
-    (λ word left taken goes.
-    let is = first_of_field name most Rest word goes.0 goes.2 in
-    none left (subst (λ w. TakesWord w ahead left) is taken))
+opcode_text : AfterId zero_header opcode_words
+unfolding zero_header
+opcode_text = (refl, (zero_up_to 15, rcode_text))
+
+id_text : IsHeaderLine zero_header (codes "id" ∷ codes "0" ∷ opcode_words)
+unfolding zero_header
+id_text = (refl, (zero_up_to 65535, opcode_text))
+
+-- ---- a field
+
+-- the same, if a word and a number come first
+abbrev FieldIn : List ℕ → ℕ → (Header → ℕ) → (Header → List (List ℕ) → Type 0) → Header → List (List ℕ) → Type 0
+FieldIn name most number Rest h = Field name most (number h) (Rest h)
+
+field_fault : (name : List ℕ) (most : ℕ) (number : Header → ℕ) (Rest : Header → List (List ℕ) → Type 0)
+    (words : List (List ℕ)) → FieldIn name most number Rest zero_header (name ∷ codes "0" ∷ words)
+    → {ahead after : List ℕ} {start next : ℕ} → next + length after ≡ start + length ahead
+    → IsNoField name most ahead after → IsFault (Any (FieldIn name most number Rest)) ahead start next
+field_fault name most number Rest words sample {ahead = ahead} {after = after} {start = start} {next = next} place
+    (IsNoField.no_name same none) =
+    kept_fault (Any (FieldIn name most number Rest)) ahead after start next same place
+    (first_fault (Any (FieldIn name most number Rest)) ahead start (name ∷ codes "0" ∷ words, [], (zero_header, sample))
+    (λ word left taken goes. none left (subst (λ w. TakesWord w ahead left) goes.2.1.0 taken))
     (λ over octets is. is.1))
-field_fault name most Rest ahead after start next rest place (IsNoField.no_number taken none) = record {
-  front = name ∷ [];
-  rest = after;
-  begins = (after, taken, refl);
-  place = place;
-  goes = (codes "0" ∷ rest.0, [], (0, (refl, (zero_up_to most, rest.1))));
-  stops = λ word left also goes.
-      let is = second_of_field name most Rest name word goes.0 goes.2 in
-      none word left is.0 also is.1;
-  ends = λ over octets is. no_second name most Rest name is;
+field_fault name most number Rest words sample {ahead = ahead} {after = after} {start = start} {next = next} place
+    (IsNoField.no_number taken none) = record {
+      front = name ∷ [];
+      rest = after;
+      begins = (after, taken, refl);
+      place = place;
+      goes = (codes "0" ∷ words, [], (zero_header, sample));
+      stops = λ word left also goes. none word left (number goes.2.0) also goes.2.1.1.0;
+      ends = λ over octets is. is.1.1;
+    }
+
+pub id_fault : {ahead after : List ℕ} {start next : ℕ} → next + length after ≡ start + length ahead
+    → IsNoField (codes "id") 65535 ahead after → IsFault HeaderTexts ahead start next
+id_fault = field_fault (codes "id") 65535 (λ h. h.id) AfterId opcode_words id_text
+
+pub opcode_fault : {ahead after : List ℕ} {start next : ℕ} → next + length after ≡ start + length ahead
+    → IsNoField (codes "opcode") 15 ahead after → IsFault (Any AfterId) ahead start next
+opcode_fault = field_fault (codes "opcode") 15 (λ h. h.opcode) AfterOpcode rcode_words opcode_text
+
+pub rcode_fault : {ahead after : List ℕ} {start next : ℕ} → next + length after ≡ start + length ahead
+    → IsNoField (codes "rcode") 15 ahead after → IsFault (Any AfterOpcode) ahead start next
+rcode_fault = field_fault (codes "rcode") 15 (λ h. h.rcode) AfterRcode flags_words rcode_text
+
+-- A word and a number lead from one to the other.
+abbrev PastField : List ℕ → ℕ → (Is Rest : List (List ℕ) → List ℕ → Type 0) → Type 0
+PastField name most Is Rest = (n : ℕ) (word : List ℕ) → IsUpTo most n word → Leads Is Rest (name ∷ word ∷ [])
+
+pub past_id : PastField (codes "id") 65535 HeaderTexts (Any AfterId)
+past_id n word is = record {
+  into = λ words octets rest. ([], (record rest.0 { id = n }, (refl, (is, rest.1))));
+  out = λ words octets all. ([], (all.0, all.1.1.1));
 }
 
-pub field_leads : (name word : List ℕ) (most n : ℕ) (Rest : List (List ℕ) → Type 0) → IsUpTo most n word
-    → Leads (Of (AnyField name most Rest)) (Of Rest) (name ∷ word ∷ [])
-field_leads name word most n Rest is = record {
-  into = λ words octets rest. ([], (n, (refl, (is, rest))));
-  out = λ words octets all. ([], all.1.1.1);
+pub past_opcode : PastField (codes "opcode") 15 (Any AfterId) (Any AfterOpcode)
+past_opcode n word is = record {
+  into = λ words octets rest. ([], (record rest.0 { opcode = n }, (refl, (is, rest.1))));
+  out = λ words octets all. ([], (all.0, all.1.1.1));
 }
 
--- ---- the line
-
-abbrev pub AnyFlags : List (List ℕ) → Type 0
-AnyFlags words = (flags : Flags) × AreFlags flags words
-
-abbrev pub AfterRcode : List (List ℕ) → Type 0
-AfterRcode = Then (IsGiven (codes "flags")) AnyFlags
-
-abbrev pub AfterOpcode : List (List ℕ) → Type 0
-AfterOpcode = AnyField (codes "rcode") 15 AfterRcode
-
-abbrev pub AfterId : List (List ℕ) → Type 0
-AfterId = AnyField (codes "opcode") 15 AfterOpcode
-
-abbrev pub AnyHeader : List (List ℕ) → Type 0
-AnyHeader = AnyField (codes "id") 65535 AfterId
-
-abbrev no_flags : Flags
-no_flags =
-    record { qr = false; aa = false; tc = false; rd = false; ra = false; z = false; ad = false; cd = false }
-
-flags_text : AnyFlags []
-flags_text = (no_flags, (refl, refl))
-
-pub rcode_text : Sample AfterRcode
-rcode_text = (codes "flags" ∷ [], (refl, flags_text))
-
-pub opcode_text : Sample AfterOpcode
-opcode_text = field_text (codes "rcode") 15 AfterRcode rcode_text
-
-pub id_text : Sample AfterId
-id_text = field_text (codes "opcode") 15 AfterOpcode opcode_text
-
--- any header is the header of a line, and the other way round
-any_header : (words : List (List ℕ)) → AnyHeader words → (h : Header) × IsHeaderLine h words
-any_header (a ∷ b ∷ c ∷ d ∷ e ∷ f ∷ g ∷ words) is =
-    let id = is in
-    let opcode = is.1.1.1 in
-    let rcode = opcode.1.1.1 in
-    let flags = rcode.1.1.1 in (
-      record { id = id.0; opcode = opcode.0; rcode = rcode.0; flags = flags.1.0 },
-      (id.1.0, (id.1.1.0, (opcode.1.0, (opcode.1.1.0, (rcode.1.0, (rcode.1.1.0, (flags.0, flags.1.1))))))),
-    )
-any_header [] is = absurd is.1
-any_header (a ∷ []) is = absurd is.1.1
-any_header (a ∷ b ∷ []) is = absurd is.1.1.1.1
-any_header (a ∷ b ∷ c ∷ []) is = absurd is.1.1.1.1.1
-any_header (a ∷ b ∷ c ∷ d ∷ []) is = absurd is.1.1.1.1.1.1.1
-any_header (a ∷ b ∷ c ∷ d ∷ e ∷ []) is = absurd is.1.1.1.1.1.1.1.1
-any_header (a ∷ b ∷ c ∷ d ∷ e ∷ f ∷ []) is = absurd is.1.1.1.1.1.1.1.1.1
-
-header_any : (words : List (List ℕ)) (h : Header) → IsHeaderLine h words → AnyHeader words
-header_any (a ∷ b ∷ c ∷ d ∷ e ∷ f ∷ g ∷ words) h is = (
-  h.id,
-  (
-    is.0,
-    (
-      is.1.0,
-      (
-        h.opcode,
-        (
-          is.1.1.0,
-          (
-            is.1.1.1.0,
-            (
-              h.rcode,
-              (
-                is.1.1.1.1.0,
-                (
-                  is.1.1.1.1.1.0,
-                  (is.1.1.1.1.1.1.0, (h.flags, is.1.1.1.1.1.1.1)),
-                ),
-              ),
-            ),
-          ),
-        ),
-      ),
-    ),
-  ),
-)
-header_any [] h is = absurd is
-header_any (a ∷ []) h is = absurd is.1
-header_any (a ∷ b ∷ []) h is = absurd is.1.1
-header_any (a ∷ b ∷ c ∷ []) h is = absurd is.1.1.1
-header_any (a ∷ b ∷ c ∷ d ∷ []) h is = absurd is.1.1.1.1
-header_any (a ∷ b ∷ c ∷ d ∷ e ∷ []) h is = absurd is.1.1.1.1.1
-header_any (a ∷ b ∷ c ∷ d ∷ e ∷ f ∷ []) h is = absurd is.1.1.1.1.1.1
-
-abbrev pub HeaderTexts : List (List ℕ) → List ℕ → Type 0
-HeaderTexts words octets = (h : Header) × IsHeaderLine h words
-
-header_leads : Leads HeaderTexts (Of AnyHeader) []
-header_leads = record {
-  into = λ words octets is. ([], any_header words is);
-  out = λ words octets is. ([], header_any words is.0 is.1);
+pub past_rcode : PastField (codes "rcode") 15 (Any AfterOpcode) (Any AfterRcode)
+past_rcode n word is = record {
+  into = λ words octets rest. ([], (record rest.0 { rcode = n }, (refl, (is, rest.1))));
+  out = λ words octets all. ([], (all.0, all.1.1.1));
 }
 
--- ---- its faults
-
-pub at_line : {text : List ℕ} {start : ℕ} → Reached HeaderTexts (Of AnyHeader) text start text start
-at_line = past_words [] at_front header_leads refl refl
-
-pub past_field : {Is : List (List ℕ) → List ℕ → Type 0} {name : List ℕ} {most : ℕ} {Rest : List (List ℕ) → Type 0}
-    {text ahead after : List ℕ} {start next then n : ℕ}
-    → Reached Is (Of (AnyField name most Rest)) text start ahead next
+pub past_field : (name : List ℕ) (most n : ℕ) (Is Mid Rest : List (List ℕ) → List ℕ → Type 0)
+    {text ahead after : List ℕ} {start next then : ℕ} → PastField name most Mid Rest
+    → Reached Is Mid text start ahead next
     → ((mid word : List ℕ) × TakesWord name ahead mid × TakesWord word mid after × IsUpTo most n word)
-    → then + length after ≡ next + length ahead → Reached Is (Of Rest) text start after then
-past_field {name = name} {most = most} {Rest = Rest} {n = n} so_far taken place =
-    past_words (name ∷ taken.1 ∷ []) so_far (field_leads name taken.1 most n Rest taken.4)
-    (_, taken.2, (_, taken.3, refl)) place
+    → then + length after ≡ next + length ahead → Reached Is Rest text start after then
+past_field name most n Is Mid Rest past so_far taken place =
+    past_words (name ∷ taken.1 ∷ []) so_far (past n taken.1 taken.4) (_, taken.2, (_, taken.3, refl)) place
+
+-- ---- the flags
 
 pub fault_at_flags : (ahead : List ℕ) (start : ℕ) → ((rest : List ℕ) → ¬ TakesWord (codes "flags") ahead rest)
-    → IsFault (Of AfterRcode) ahead start start
+    → IsFault (Any AfterRcode) ahead start start
 fault_at_flags ahead start none =
-    first_fault (Of AfterRcode) ahead start (rcode_text.0, [], rcode_text.1)
-    (λ word left taken goes. none left (subst (λ w. TakesWord w ahead left) goes.2.0 taken)) (λ over octets is. is)
+    first_fault (Any AfterRcode) ahead start (flags_words, [], (zero_header, flags_text))
+    (λ word left taken goes. none left (subst (λ w. TakesWord w ahead left) goes.2.1.0 taken)) (λ over octets is. is.1)
 
 pub fault_after_flags : (ahead mid rest : List ℕ) (words : List (List ℕ)) (start next offset : ℕ)
     → TakesWord (codes "flags") ahead mid → next + length mid ≡ start + length ahead
     → Picks flag_names mid words rest → offset + length rest ≡ next + length mid → ¬ (rest ≡ [])
-    → IsFault (Of AfterRcode) ahead start offset
+    → IsFault (Any AfterRcode) ahead start offset
 fault_after_flags ahead mid rest words start next offset taken place picks on some =
-    led_fault (Of AfterRcode) (Of AnyFlags) (codes "flags" ∷ [])
-    (record { into = λ ws octets is. ([], (refl, is)); out = λ ws octets is. ([], is.1) }) ahead mid start next offset
-    (mid, taken, refl) place (flags_fault mid rest words next offset picks on some)
+    led_fault (Any AfterRcode) (λ ws octets. (flags : Flags) × AreFlags flags ws) (codes "flags" ∷ [])
+    (record {
+      into = λ ws octets is. ([], (record zero_header { flags = is.0 }, (refl, is.1)));
+      out = λ ws octets is. ([], (is.0.flags, is.1.1));
+    }) ahead mid start next offset (mid, taken, refl) place (flags_fault mid rest words next offset picks on some)
 
 -- ---- a line that is read
 

@@ -1,5 +1,5 @@
 -- The lines of a text, and how their faults are put together.
-use Rattle.std.proofs.Common.{◌≡◌, ◌⊎◌, ℕ, ◌+◌, ◌<◌, List, [], ◌∷◌, ◌++◌, length, refl, sym, ap, ◌∙◌, subst, inl, inr}
+use Rattle.std.proofs.Common.{◌≡◌, ◌⊎◌, ℕ, ◌+◌, List, [], ◌∷◌, ◌++◌, length, refl, sym, ap, ◌∙◌, subst, inl, inr}
 use Rattle.std.proofs.Common.{None, arith}
 use Rattle.std.proofs.Common.{append_assoc}
 use Rattle.std.proofs.lemmas.List.{length-append, append-nil}
@@ -173,20 +173,6 @@ none_of first text line after split none other left rest also taken =
     let same = splits_same line other after left split.is_line also.is_line split.ends also.ends
     (sym split.whole ∙ also.whole) in
     none rest (subst (λ l. TakesWord first l rest) (sym same) taken)
-
--- it is taken, if a line feed ends it
-pub line_taken : (first text line after rest ahead : List ℕ) (others : Line) → Splits text line after
-    → TakesWord first line ahead → AreWords others ahead → after ≡ 10 ∷ rest
-    → TakesLine (first ∷ others) text rest
-line_taken first text line after rest ahead others split taken are feed =
-    (line, split.whole ∙ ap (λ l. line ++ l) feed, split.is_line, (ahead, taken, are))
-
-pub less_left : (text line after rest : List ℕ) → Splits text line after → after ≡ 10 ∷ rest
-    → length rest < length text
-less_left text line after rest split feed =
-    let all = ap length split.whole ∙ length-append line after in
-    let size = ap length feed in
-    omega (arith, all, size)
 
 -- a fault in it
 pub faulty_words : (first : List ℕ) (Is : Line → List ℕ → Type 0) (text line after rest : List ℕ) (start offset : ℕ)

@@ -86,29 +86,20 @@ past_limit most limit count m less (inr many) =
 
 -- ---- the counts of a message
 
-pub counted_questions : (m : Message) → length m.questions ≤ length (entries_of m)
-counted_questions m =
+pub counts_most : (m : Message) → (length m.questions ≤ length (entries_of m))
+    × (length m.answers ≤ length (entries_of m)) × (length m.authorities ≤ length (entries_of m))
+    × (length m.additionals ≤ length (entries_of m))
+counts_most m =
     let size = length-append (map question_entry m.questions) (map record_entry (records_in m)) in
     let questions = length-map m.questions question_entry in
-    omega (arith, size, questions)
-
-counted_records : (m : Message) → length m.answers + (length m.authorities + length m.additionals)
-    ≤ length (entries_of m)
-counted_records m =
-    let size = length-append (map question_entry m.questions) (map record_entry (records_in m)) in
     let records = length-map (records_in m) record_entry in
     let first = length-append m.answers (m.authorities ++ m.additionals) in
-    let second = length-append m.authorities m.additionals in
-    omega (arith, size, records, first, second)
-
-pub counted_answers : (m : Message) → length m.answers ≤ length (entries_of m)
-counted_answers m = let all = counted_records m in omega (arith, all)
-
-pub counted_authorities : (m : Message) → length m.authorities ≤ length (entries_of m)
-counted_authorities m = let all = counted_records m in omega (arith, all)
-
-pub counted_additionals : (m : Message) → length m.additionals ≤ length (entries_of m)
-counted_additionals m = let all = counted_records m in omega (arith, all)
+    let second = length-append m.authorities m.additionals in (
+      omega (arith, size, questions),
+      omega (arith, size, records, first),
+      omega (arith, size, records, first, second),
+      omega (arith, size, records, first, second),
+    )
 
 -- ---- what a push refuses
 

@@ -2,69 +2,65 @@ use Rattle.std.proofs.Common.{◌≡◌, [], codes, sym, subst, rules}
 use Rattle.octseq_dns_scan.specs.Word.{TakesWord}
 use Rattle.octseq_dns_scan.specs.Words.{ahead_of}
 use Rattle.octseq_dns_compose.specs.Take.{IsUpTo}
-use Rattle.octseq_dns_compose.proofs.Faults.{Reached, kept_fault, reached_fault}
-use Rattle.octseq_dns_compose.proofs.HeaderLines.{AfterId, AfterOpcode, AfterRcode, HeaderTexts, Of, at_line}
-use Rattle.octseq_dns_compose.proofs.HeaderLines.{fault_after_flags}
-use Rattle.octseq_dns_compose.proofs.HeaderLines.{fault_at_flags, field_fault, id_text, line_words, opcode_text}
-use Rattle.octseq_dns_compose.proofs.HeaderLines.{past_field, rcode_text}
+use Rattle.octseq_dns_compose.proofs.Faults.{at_front, kept_fault, reached_fault}
+use Rattle.octseq_dns_compose.proofs.HeaderLines.{AfterId, AfterOpcode, AfterRcode, Any, HeaderTexts}
+use Rattle.octseq_dns_compose.proofs.HeaderLines.{fault_after_flags, fault_at_flags, id_fault, line_words, opcode_fault}
+use Rattle.octseq_dns_compose.proofs.HeaderLines.{past_field, past_id, past_opcode, past_rcode, rcode_fault}
 use Rattle.octseq_dns_compose.proofs.header.scan_header.Goals as goal
 
 pub returns-in_default : goal.returns-in_default
-returns-in_default c =
-    record {
-      some = tt;
-      none = λ _. reached_fault at_line
-          (field_fault (codes "id") 65535 AfterId _ _ _ _ id_text c.in_default.ensures.end
-          (c.in_default.ensures.taken.none (search rules)));
-    }
+returns-in_default c = record {
+  some = tt;
+  none = λ _. id_fault c.in_default.ensures.end (c.in_default.ensures.taken.none (search rules));
+}
 
 pub returns-in_default-take_field : goal.returns-in_default-take_field
 returns-in_default-take_field c =
-    let one : Reached HeaderTexts (Of AfterId) _ _ _ _ =
-    past_field at_line c.in-Some.ensures.taken.some c.in-Some.ensures.end in
+    let one = past_field _ _ _ HeaderTexts _ (Any AfterId) past_id at_front c.in-Some.ensures.taken.some
+    c.in-Some.ensures.end in
     record {
       some = tt;
       none = λ _. reached_fault one
-          (field_fault (codes "opcode") 15 AfterOpcode _ _ _ _ opcode_text c.in_default-take_field.ensures.end
+          (opcode_fault c.in_default-take_field.ensures.end
           (c.in_default-take_field.ensures.taken.none (search rules)));
     }
 
 pub returns-in_default-take_field-2 : goal.returns-in_default-take_field-2
 returns-in_default-take_field-2 c =
-    let one : Reached HeaderTexts (Of AfterId) _ _ _ _ =
-    past_field at_line c.in-Some.ensures.taken.some c.in-Some.ensures.end in
-    let two : Reached HeaderTexts (Of AfterOpcode) _ _ _ _ =
-    past_field one c.in-Some-take_field.ensures.taken.some c.in-Some-take_field.ensures.end in
+    let one = past_field _ _ _ HeaderTexts _ (Any AfterId) past_id at_front c.in-Some.ensures.taken.some
+    c.in-Some.ensures.end in
+    let two = past_field _ _ _ HeaderTexts _ (Any AfterOpcode) past_opcode one c.in-Some-take_field.ensures.taken.some
+    c.in-Some-take_field.ensures.end in
     record {
       some = tt;
       none = λ _. reached_fault two
-          (field_fault (codes "rcode") 15 AfterRcode _ _ _ _ rcode_text c.in_default-take_field-2.ensures.end
+          (rcode_fault c.in_default-take_field-2.ensures.end
           (c.in_default-take_field-2.ensures.taken.none (search rules)));
     }
 
 pub returns-then-not-take_word : goal.returns-then-not-take_word
 returns-then-not-take_word c =
-    let one : Reached HeaderTexts (Of AfterId) _ _ _ _ =
-    past_field at_line c.in-Some.ensures.taken.some c.in-Some.ensures.end in
-    let two : Reached HeaderTexts (Of AfterOpcode) _ _ _ _ =
-    past_field one c.in-Some-take_field.ensures.taken.some c.in-Some-take_field.ensures.end in
-    let three : Reached HeaderTexts (Of AfterRcode) _ _ _ _ =
-    past_field two c.in-Some-take_field-2.ensures.taken.some c.in-Some-take_field-2.ensures.end in
+    let one = past_field _ _ _ HeaderTexts _ (Any AfterId) past_id at_front c.in-Some.ensures.taken.some
+    c.in-Some.ensures.end in
+    let two = past_field _ _ _ HeaderTexts _ (Any AfterOpcode) past_opcode one c.in-Some-take_field.ensures.taken.some
+    c.in-Some-take_field.ensures.end in
+    let three = past_field _ _ _ HeaderTexts _ (Any AfterRcode) past_rcode two
+    c.in-Some-take_field-2.ensures.taken.some c.in-Some-take_field-2.ensures.end in
     let none = c.if-not-take_word.ensures.taken in
     record {
       some = tt;
       none = λ _. reached_fault three
-          (kept_fault (Of AfterRcode) _ _ _ _ none.0 c.if-not-take_word.ensures.end (fault_at_flags _ _ none.1));
+          (kept_fault (Any AfterRcode) _ _ _ _ none.0 c.if-not-take_word.ensures.end (fault_at_flags _ _ none.1));
     }
 
 pub returns-then-not-is_at_end : goal.returns-then-not-is_at_end
 returns-then-not-is_at_end c =
-    let one : Reached HeaderTexts (Of AfterId) _ _ _ _ =
-    past_field at_line c.in-Some.ensures.taken.some c.in-Some.ensures.end in
-    let two : Reached HeaderTexts (Of AfterOpcode) _ _ _ _ =
-    past_field one c.in-Some-take_field.ensures.taken.some c.in-Some-take_field.ensures.end in
-    let three : Reached HeaderTexts (Of AfterRcode) _ _ _ _ =
-    past_field two c.in-Some-take_field-2.ensures.taken.some c.in-Some-take_field-2.ensures.end in
+    let one = past_field _ _ _ HeaderTexts _ (Any AfterId) past_id at_front c.in-Some.ensures.taken.some
+    c.in-Some.ensures.end in
+    let two = past_field _ _ _ HeaderTexts _ (Any AfterOpcode) past_opcode one c.in-Some-take_field.ensures.taken.some
+    c.in-Some-take_field.ensures.end in
+    let three = past_field _ _ _ HeaderTexts _ (Any AfterRcode) past_rcode two
+    c.in-Some-take_field-2.ensures.taken.some c.in-Some-take_field-2.ensures.end in
     let word : TakesWord (codes "flags") (ahead_of c.take_field-3.new.words) (ahead_of c.take_word.new.words) =
     c.if-not-take_word.ensures.taken in
     let flags = c.take_flags-flags.ensures.taken in
