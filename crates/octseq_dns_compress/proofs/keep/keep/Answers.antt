@@ -54,17 +54,14 @@ returns-then-at-gt-PLACE_MAX-clause-kept g c octets names agrees ends written =
     let begin = last_label (plain_labels c.args.name.now) c.labels.left c.label-label.result.now some
     (let within = so_far.within in let all = c.requires.written in omega (arith, within, all)) c.label-label.ensures in
     let end = so_far.end in
-    let size = ap length c.label-label.ensures in
     let at = c.labels.end - length c.label-label.result.now in
     elim c.then-at-gt-PLACE_MAX.branch [
       | then-at-gt-PLACE_MAX-via-then-at-gt-PLACE_MAX w ↦
           kept_far g.T.Compressor.most agrees ends c.requires.written written kept some so_far.within at
-          (omega (arith, begin, end))
-          (omega (arith, begin, end, size)) w.if-at-gt-PLACE_MAX.true
+          (omega (arith, begin, end)) w.if-at-gt-PLACE_MAX.true
       | then-at-gt-PLACE_MAX-via-else-at-gt-PLACE_MAX+then-is_full w ↦
           kept_full g.T.Compressor.most agrees ends c.requires.written written kept some so_far.within at
-          (omega (arith, begin, end))
-          (omega (arith, begin, end, size)) (w.if-is_full.ensures.0 refl)
+          (omega (arith, begin, end)) (w.if-is_full.ensures.0 refl)
     ]
 
 pub labels-preserved : goal.labels-preserved
@@ -83,7 +80,6 @@ labels-preserved g c =
     (omega (arith, c.labels-test.true)) (let all = c.requires.written in omega (arith, within, all))
     c.label-label.ensures in
     let end = so_far.end in
-    let size = ap length c.label-label.ensures in
     let few_pointers = c.if-ending-gt-POINTERS_MAX.false in
     let near = c.if-at-gt-PLACE_MAX.false in
     record {
@@ -101,7 +97,7 @@ labels-preserved g c =
           kept_at g.T.Compressor.most agrees ends c.requires.written written
           (so_far.kept octets names agrees ends written)
           (omega (arith, c.labels-test.true)) within (c.labels.end - length c.label-label.result.now)
-          (omega (arith, begin, end)) (omega (arith, begin, end, size)) (g.T.Compressor.held c.insert.new.self) _
+          (omega (arith, begin, end)) (g.T.Compressor.held c.insert.new.self) _
           (c.digest.ensures ∙ ap digest_of c.label-label.ensures) end
           inserted (omega (arith, near)) (omega (arith, few_pointers)) room;
     }
