@@ -1,8 +1,7 @@
 -- What calls do to a composed message, by their results.
-use Rattle.std.proofs.Common.{◌≡◌, Bool, true, ℕ, Option, Ok, Err, List, []}
-use Rattle.std.proofs.Common.{length, refl, sym, ap, ◌∙◌, subst, append-nil, length-append, Result}
+use Rattle.std.proofs.Common.{◌≡◌, Bool, true, ℕ, Option, Ok, Err, List, [], length, refl, sym, ap, ◌∙◌, subst}
+use Rattle.std.proofs.Common.{append-nil, length-append, Result, OnOk, OnErr}
 use Rattle.std.proofs.lemmas.Result.{on_err_weaker, on_ok_weaker}
-use Rattle.std.specs.Prelude.{OnOk, OnErr}
 use Rattle.octseq.specs.Appends.{Appends}
 use Rattle.octseq.specs.Limit.{IsPast, IsWithin}
 use Rattle.octseq.specs.Refusal.{IsMemory, append_error}

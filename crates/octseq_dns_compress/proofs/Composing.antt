@@ -1,14 +1,12 @@
 -- Appending a name to a message, whose targets are those of names.
-use Rattle.std.specs.Prelude.{slice_index_or, ◌↔◌}
-use Rattle.std.proofs.Common.{◌≡◌, Bool, ℕ, ◌+◌, ◌-◌, ◌<◌, ◌≤◌, Option, Some, List, [], ◌∷◌, ◌++◌, length, take}
-use Rattle.std.proofs.Common.{Ok, Err, refl, sym, ap, ◌∙◌, subst, arith, is_some, length-append}
-use Rattle.std.proofs.Math.Bool.{true≢false}
+use Rattle.std.proofs.Common.{slice_index_or, ◌↔◌, ◌≡◌, Bool, ℕ, ◌+◌, ◌-◌, ◌<◌, ◌≤◌, Option, Some, List, [], ◌∷◌, ◌++◌}
+use Rattle.std.proofs.Common.{length, take, Ok, Err, refl, sym, ap, ◌∙◌, subst, arith, is_some, length-append}
+use Rattle.std.proofs.Common.{true≢false, nat_cmp}
 use Rattle.std.proofs.Math.Logic.{∥∥₁_map, ∥∥₁_elim}
 use Rattle.std.proofs.Math.Seq.{take-append_seam}
 use Rattle.std.specs.Cmp.Lexicographic.{slice_cmp}
 use Rattle.std.specs.Coded.{Coded-set, coded_list, coded_ℕ}
 use Rattle.std.specs.FinMap.{get}
-use Rattle.std.specs.Ordering.{nat_cmp}
 use Rattle.octseq.specs.Appends.{Appends}
 use Rattle.octseq.specs.Limit.{IsPast, IsWithin}
 use Rattle.octseq.specs.Refusal.{IsShort, append_error}
@@ -18,8 +16,8 @@ use Rattle.octseq_dns_compress.specs.Composed.{before}
 use Rattle.octseq_dns_compress.specs.Ending.{IsEnding}
 use Rattle.octseq_dns_compress.specs.Key.{key, IsWhole, key_cmp, AreTargets, IsPosition}
 use Rattle.octseq_dns_compress.specs.Named.{AppendsName}
-use Rattle.octseq_dns_compress.specs.Names.{Names, Place, at_or_zero, ended, unrooted, name_octets, first_labels, label_no}
-use Rattle.octseq_dns_compress.specs.Names.{names_with, prefixed}
+use Rattle.octseq_dns_compress.specs.Names.{Names, Place, at_or_zero, ended, unrooted, name_octets, first_labels}
+use Rattle.octseq_dns_compress.specs.Names.{label_no, names_with, prefixed}
 use Rattle.octseq_dns_compress.specs.Sound.{Message, state_of}
 use Rattle.octseq_dns_compress.specs.State.{with_name}
 use Rattle.octseq_dns_compress.specs.Written.{IsWritten}

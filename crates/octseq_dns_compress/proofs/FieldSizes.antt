@@ -3,8 +3,8 @@ use Rattle.std.proofs.Common.{◌≡◌, ℕ, ◌≤◌, Option, Some, None, Lis
 use Rattle.std.proofs.Common.{length-append}
 use Rattle.std.specs.FinMap.{empty}
 use Rattle.octseq_dns_compress.specs.Names.{name_octets, names_with}
-use Rattle.octseq_dns_compress.specs.State.{State, Field, Entry, with_octets, with_field, with_fields}
-use Rattle.octseq_dns_compress.specs.State.{with_data, with_entry, with_entries}
+use Rattle.octseq_dns_compress.specs.State.{State, Field, Entry, with_octets, with_field, with_fields, with_data}
+use Rattle.octseq_dns_compress.specs.State.{with_entry, with_entries}
 use Rattle.octseq_dns_compress.proofs.Fields.{counted_length}
 use Rattle.octseq_dns_compress.proofs.PlainForm.{name_shorter, plain_octets, plain_names}
 use Rattle.octseq_dns_name.proofs.Wires.{wire_has}

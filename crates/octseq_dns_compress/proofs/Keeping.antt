@@ -1,13 +1,10 @@
 -- Each step of keeping the labels of a name.
-use Rattle.std.specs.Prelude.{IsTrue, nat_lt, cond, if◌then◌else◌}
-use Rattle.std.proofs.Common.{◌≡◌, Bool, inl, true, false, ℕ, zero, suc, ◌+◌, ◌-◌, ◌<◌, ◌≤◌, None, List, []}
-use Rattle.std.proofs.Common.{◌∷◌, ◌++◌, length, take, drop, refl, sym, ap, ◌∙◌, subst, arith, take-append-drop}
-use Rattle.std.proofs.Math.Bool.{true≢false}
+use Rattle.std.proofs.Common.{IsTrue, nat_lt, cond, if◌then◌else◌, ◌≡◌, Bool, inl, true, false, ℕ, zero, suc, ◌+◌, ◌-◌}
+use Rattle.std.proofs.Common.{◌<◌, ◌≤◌, None, List, [], ◌∷◌, ◌++◌, length, take, drop, refl, sym, ap, ◌∙◌, subst, arith}
+use Rattle.std.proofs.Common.{take-append-drop, true≢false, length-drop, insert, filter}
 use Rattle.std.proofs.lemmas.Bool.{lt-leb}
-use Rattle.std.proofs.lemmas.List.{length-drop}
 use Rattle.std.proofs.lemmas.List.Elements.{filter-append}
 use Rattle.std.specs.FinMap.{get, insert as put}
-use Rattle.std.specs.List.{insert, filter}
 use Rattle.octseq_dns_compress.specs.Agrees.{Agrees, place_of}
 use Rattle.octseq_dns_compress.specs.Ending.{IsEnding}
 use Rattle.octseq_dns_compress.specs.FoundNames.{place_there}

@@ -1,8 +1,8 @@
 -- The names after labels are written, of which the last ones are kept first.
-use Rattle.std.specs.Prelude.{IsTrue, if◌then◌else◌, nat_le, nat_lt}
-use Rattle.std.proofs.Common.{◌≡◌, Bool, true, false, ℕ, zero, suc, ◌+◌, ◌<◌, ◌≤◌, None, List, []}
-use Rattle.std.proofs.Common.{◌∷◌, length, length-append, length-drop, take, drop, refl, sym, ap, ◌∙◌, arith, is_some}
-use Rattle.std.proofs.lemmas.Bool.{and_from, and_parts, false_from_ne_true, le-leb, leb-true, lt-ltb, ltb-true}
+use Rattle.std.proofs.Common.{IsTrue, if◌then◌else◌, nat_le, nat_lt, ◌≡◌, Bool, true, false, ℕ, zero, suc, ◌+◌, ◌<◌}
+use Rattle.std.proofs.Common.{◌≤◌, None, List, [], ◌∷◌, length, length-append, length-drop, take, drop, refl, sym, ap}
+use Rattle.std.proofs.Common.{◌∙◌, arith, is_some, le-leb, leb-true, lt-ltb, ltb-true}
+use Rattle.std.proofs.lemmas.Bool.{and_from, and_parts, false_from_ne_true}
 use Rattle.std.specs.FinMap.{get, len, insert, contains_key}
 use Rattle.octseq_dns_compress.specs.FoundNames.{get_other}
 use Rattle.octseq_dns_compress.specs.Names.{Names, Place, is_there, is_kept, with_labels, unrooted}

@@ -1,18 +1,15 @@
 -- The names while the labels of a name are kept, the last one first.
-use Rattle.std.specs.Prelude.{slice_index_or, IsTrue}
-use Rattle.std.proofs.Common.{◌≡◌, ◌⊎◌, inl, inr, ℕ, ◌+◌, ◌-◌, ◌<◌, ◌≤◌, Some, None, List, [], ◌∷◌}
-use Rattle.std.proofs.Common.{◌++◌, length}
-use Rattle.std.proofs.Common.{length-append, take, drop, refl, sym, ap, ◌∙◌, subst, arith, is_some, append_assoc}
-use Rattle.std.proofs.Math.Bool.{true≢false}
-use Rattle.std.proofs.lemmas.List.{drop_at, drop_more, get_or-drop, get_or-take, length-drop, length-take, take-append-le}
-use Rattle.std.proofs.lemmas.List.{take-take}
+use Rattle.std.proofs.Common.{slice_index_or, IsTrue, ◌≡◌, ◌⊎◌, inl, inr, ℕ, ◌+◌, ◌-◌, ◌<◌, ◌≤◌, Some, None, List, []}
+use Rattle.std.proofs.Common.{◌∷◌, ◌++◌, length, length-append, take, drop, refl, sym, ap, ◌∙◌, subst, arith, is_some}
+use Rattle.std.proofs.Common.{append_assoc, true≢false, drop_at, get_or-drop, get_or-take, length-drop, length-take}
+use Rattle.std.proofs.Common.{take-take, All, insert, nat_cmp, is_lt}
+use Rattle.std.proofs.lemmas.List.{drop_more, take-append-le}
 use Rattle.std.proofs.lemmas.List.Edits.{length-insert}
 use Rattle.std.proofs.lemmas.List.Elements.{All-cons, All-take, All-weaker}
 use Rattle.std.specs.Cmp.{nat_cmp_is}
 use Rattle.std.specs.Cmp.Lexicographic.{slice_cmp}
 use Rattle.std.specs.FinMap.{get, insert as put}
-use Rattle.std.specs.List.{All, insert}
-use Rattle.std.specs.Ordering.{nat_cmp, ordering_then, is_lt}
+use Rattle.std.specs.Ordering.{ordering_then}
 use Rattle.std.specs.declared.cmp.Ordering.{Ordering}
 use Rattle.octseq_dns_compress.specs.Agrees.{Agrees, place_of}
 use Rattle.octseq_dns_compress.specs.FoundNames.{get_new, get_other, same_or_other, one_place}

@@ -1,10 +1,8 @@
 -- Targets of names, and one more of each.
-use Rattle.std.specs.Prelude.{slice_index_or, IsTrue, cond}
-use Rattle.std.proofs.Common.{◌≡◌, ◌⊎◌, inl, inr, ℕ, ◌+◌, ◌<◌, ◌≤◌, Some, None, List, [], ◌∷◌, length, drop, refl, sym}
-use Rattle.std.proofs.Common.{ap, ◌∙◌, subst, arith, is_some}
+use Rattle.std.proofs.Common.{slice_index_or, IsTrue, cond, ◌≡◌, ◌⊎◌, inl, inr, ℕ, ◌+◌, ◌<◌, ◌≤◌, Some, None, List, []}
+use Rattle.std.proofs.Common.{◌∷◌, length, drop, refl, sym, ap, ◌∙◌, subst, arith, is_some, insert}
 use Rattle.std.proofs.lemmas.List.Edits.{get_or-insert_at, length-insert}
 use Rattle.std.specs.FinMap.{get, len, insert as put, len-insert}
-use Rattle.std.specs.List.{insert}
 use Rattle.octseq_dns_compress.specs.Agrees.{Agrees, IsOfName, HasTarget, place_of, target_of}
 use Rattle.octseq_dns_compress.specs.FoundNames.{labels_total, get_new, get_other, alike_there, some_or_none}
 use Rattle.octseq_dns_compress.specs.FoundNames.{place_there, same_or_other, one_place}

@@ -1,8 +1,6 @@
 -- A name is no longer than without compression, and isn't compressed if there are no names.
-use Rattle.std.specs.Prelude.{if◌then◌else◌, ◌/◌, ◌%◌, ◌==◌}
-use Rattle.std.proofs.Common.{◌≡◌, Bool, true, false, ℕ, ◌+◌, ◌≤◌, Option, Some, None, List, [], ◌∷◌, ◌++◌, length}
-use Rattle.std.proofs.Common.{refl, sym}
-use Rattle.std.proofs.Common.{ap, ◌∙◌, arith, length-append}
+use Rattle.std.proofs.Common.{if◌then◌else◌, ◌/◌, ◌%◌, ◌==◌, ◌≡◌, Bool, true, false, ℕ, ◌+◌, ◌≤◌, Option, Some, None}
+use Rattle.std.proofs.Common.{List, [], ◌∷◌, ◌++◌, length, refl, sym, ap, ◌∙◌, arith, length-append}
 use Rattle.std.specs.FinMap.{get, empty, get-empty}
 use Rattle.octseq_dns_compress.specs.Names.{Names, Place, labels_cmp, ended, name_octets, last_place, pointers_from}
 use Rattle.octseq_dns_compress.specs.Names.{with_labels, names_with}

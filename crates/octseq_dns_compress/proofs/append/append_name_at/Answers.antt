@@ -1,5 +1,4 @@
-use Rattle.std.proofs.Common.{◌++◌, ap, ◌∙◌, length, length-append, take, arith}
-use Rattle.std.proofs.lemmas.List.{length-take}
+use Rattle.std.proofs.Common.{◌++◌, ap, ◌∙◌, length, length-append, take, arith, length-take}
 use Rattle.octseq_dns_compress.specs.Names.{ended, unrooted}
 use Rattle.octseq_dns_compress.specs.PlainNames.{plain_labels}
 use Rattle.octseq_dns_compress.proofs.Composing.{ending_of, name_refused, name_appended, name_taken_back}

@@ -1,15 +1,12 @@
-use Rattle.std.proofs.Common.{◌≤◌, ◌<◌, ◌-◌, ap, ◌∙◌, refl, sym, length, arith}
-use Rattle.std.proofs.Math.Bool.{true≢false}
-use Rattle.std.specs.Prelude.{nat_lt}
-use Rattle.std.specs.List.{filter}
+use Rattle.std.proofs.Common.{◌≤◌, ◌<◌, ◌-◌, ap, ◌∙◌, refl, sym, length, arith, true≢false, nat_lt, filter}
 use Rattle.std.proofs.lemmas.List.Edits.{length-insert}
 use Rattle.octseq_dns_compress.specs.Key.{digest_of}
 use Rattle.octseq_dns_compress.specs.PlainNames.{plain_labels}
 use Rattle.octseq_dns_compress.proofs.Keeping.{none_before, kept_none, kept_yet, kept_at, kept_far, kept_full, kept_all}
 use Rattle.octseq_dns_compress.proofs.PlainLabels.{last_label}
-use Rattle.octseq_dns_compress.proofs.keep.keep.Goals as goal
 use Rattle.octseq_dns_compress.proofs.keep.keep.Goals.{then-at-gt-PLACE_MAX-via-then-at-gt-PLACE_MAX}
 use Rattle.octseq_dns_compress.proofs.keep.keep.Goals.{then-at-gt-PLACE_MAX-via-else-at-gt-PLACE_MAX+then-is_full}
+use Rattle.octseq_dns_compress.proofs.keep.keep.Goals as goal
 
 pub returns-then-ending-gt-POINTERS_MAX-clause-kept : goal.returns-then-ending-gt-POINTERS_MAX-clause-kept
 returns-then-ending-gt-POINTERS_MAX-clause-kept g c octets names agrees ends written =
