@@ -12,7 +12,7 @@ use Rattle.std.specs.FinMap.{get, insert as put}
 use Rattle.std.specs.Ordering.{ordering_then}
 use Rattle.std.specs.declared.cmp.Ordering.{Ordering}
 use Rattle.octseq_dns_compress.specs.Agrees.{Agrees, place_of}
-use Rattle.octseq_dns_compress.specs.FoundNames.{get_new, get_other, same_or_other, one_place}
+use Rattle.octseq_dns_compress.specs.FoundNames.{get_new, put_cases}
 use Rattle.octseq_dns_compress.specs.Key.{label_at, digest_of, with_digest, key, key_cmp, IsWhole, IsPosition}
 use Rattle.octseq_dns_compress.specs.Names.{Names, Place, at_or_zero, is_there, label_no, prefixed, unrooted}
 use Rattle.octseq_dns_compress.specs.Written.{IsWritten}
@@ -213,7 +213,7 @@ module _ {octets : List ℕ} {held : List Target} {now : Names} {labels : List (
     agrees = agrees_kept;
     there = subst (λ r. IsTrue (is_there (put now (label ∷ rest) place) r)) (sym is) (ap is_some found);
     next_is = sym (ap at_or_zero (ap (get (put now (label ∷ rest) place)) is ∙ found));
-    apart = λ others other there. by_name others other (same_or_other others (label ∷ rest)) there;
+    apart = λ others other there. by_name others other (put_cases now (label ∷ rest) place others other there);
     here = λ some. later_position octets (insert held position target) start older at
         (prefixed (label_no labels (left - 1 - 1))) late (later so_far.phase);
     phase = inr (refl, refl, later so_far.phase);
@@ -221,12 +221,8 @@ module _ {octets : List ℕ} {held : List Target} {now : Names} {labels : List (
     found : get (put now (label ∷ rest) place) (label ∷ rest) ≡ Some place
     found = get_new now (label ∷ rest) place
 
-    by_name : (others : List (List ℕ)) (other : Place) → (others ≡ label ∷ rest) ⊎ ¬ (others ≡ label ∷ rest)
-        → get (put now (label ∷ rest) place) others ≡ Some other → start ≤ other.at → at ≤ other.at
-    by_name others other (inl same) there from =
-        let one = ap (λ p. p.at) (one_place other place
-        (sym there ∙ ap (get (put now (label ∷ rest) place)) same ∙ found)) in
-        omega (arith, one)
-    by_name others other (inr apart) there from =
-        let far = so_far.apart others other (sym (get_other now (label ∷ rest) others place apart) ∙ there) from in
-        omega (arith, far, longer)
+    by_name : (others : List (List ℕ)) (other : Place)
+        → ((others ≡ label ∷ rest) × (other ≡ place)) ⊎ (get now others ≡ Some other)
+        → start ≤ other.at → at ≤ other.at
+    by_name others other (inl same) from = let one = ap (λ p. p.at) same.1 in omega (arith, one)
+    by_name others other (inr old) from = let far = so_far.apart others other old from in omega (arith, far, longer)
