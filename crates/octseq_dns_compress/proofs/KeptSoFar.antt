@@ -17,8 +17,7 @@ use Rattle.octseq_dns_compress.specs.Key.{label_at, digest_of, with_digest, key,
 use Rattle.octseq_dns_compress.specs.Names.{Names, Place, at_or_zero, is_there, label_no, prefixed, unrooted}
 use Rattle.octseq_dns_compress.specs.Written.{IsWritten}
 use Rattle.octseq_dns_compress.specs.declared.table.Target.{Target}
-use Rattle.octseq_dns_compress.proofs.Added.{all_insert}
-use Rattle.octseq_dns_compress.proofs.MoreNames.{MayBeKept, agrees_added}
+use Rattle.octseq_dns_compress.proofs.MoreNames.{all_insert, MayBeKept, agrees_added}
 use Rattle.octseq_dns_compress.proofs.PlainLabels.{front_and_rest, length_there, whole_there, label_there, one_left}
 
 -- the offset of the label after this many
