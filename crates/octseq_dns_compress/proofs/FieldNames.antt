@@ -1,16 +1,15 @@
 -- Names stay at their places as fields and entries are appended. Data after its length is fields too: the length is one
 -- of them.
-use Rattle.std.proofs.Common.{◌≡◌, ℕ, ◌+◌, Option, Some, None, IfSome, List, [], ◌∷◌, ◌++◌, length, drop}
-use Rattle.std.proofs.Common.{refl, sym, ap, ◌∙◌, subst, arith, append_assoc, length-append}
-use Rattle.std.proofs.lemmas.List.{drop_at}
+use Rattle.std.proofs.Common.{◌≡◌, ℕ, ◌+◌, Option, Some, None, IfSome, List, [], ◌∷◌, ◌++◌, length, drop, refl, sym, ap}
+use Rattle.std.proofs.Common.{◌∙◌, subst, arith, append_assoc, length-append, drop_at}
 use Rattle.std.specs.List.{AllByRecursion}
 use Rattle.octseq.specs.Integer.{octets_be}
 use Rattle.octseq.specs.Part.{part_of}
 use Rattle.octseq.proofs.Written.{length_be}
 use Rattle.octseq_dns_compress.specs.Fits.{FitsField}
 use Rattle.octseq_dns_compress.specs.LabelsThere.{AreNamed, IsWellNamed}
-use Rattle.octseq_dns_compress.specs.State.{State, Field, Entry, with_octets, with_field, with_fields}
-use Rattle.octseq_dns_compress.specs.State.{with_counted, with_data, with_entry}
+use Rattle.octseq_dns_compress.specs.State.{State, Field, Entry, with_octets, with_field, with_fields, with_counted}
+use Rattle.octseq_dns_compress.specs.State.{with_data, with_entry}
 use Rattle.octseq_dns_compress.proofs.Fields.{field_grows, fields_alike, one_state}
 use Rattle.octseq_dns_compress.proofs.Steps.{grown_length}
 use Rattle.octseq_dns_compress.proofs.LabelsThere.{named_grows, named_with}

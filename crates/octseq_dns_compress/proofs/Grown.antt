@@ -1,15 +1,12 @@
 -- Targets in a message that changes elsewhere: their labels stay.
-use Rattle.std.specs.Prelude.{slice_index_or}
-use Rattle.std.proofs.Common.{◌≡◌, true, ℕ, ◌+◌, ◌<◌, ◌≤◌, List, [], ◌∷◌, ◌++◌, length, take, drop, sym, ap, ◌∙◌, subst}
-use Rattle.std.proofs.Common.{arith, is_some, length-append, length-drop}
-use Rattle.std.proofs.Math.Bool.{true≢false}
+use Rattle.std.proofs.Common.{slice_index_or, ◌≡◌, true, ℕ, ◌+◌, ◌<◌, ◌≤◌, List, [], ◌∷◌, ◌++◌, length, take, drop, sym}
+use Rattle.std.proofs.Common.{ap, ◌∙◌, subst, arith, is_some, length-append, length-drop, true≢false, nat_cmp, is_lt}
 use Rattle.std.proofs.Math.ListN.{get_or-append}
 use Rattle.std.proofs.Math.Logic.{∥∥₁_map, ∥∥₁_elim}
 use Rattle.std.proofs.lemmas.List.{drop-append-le, take-append-le}
 use Rattle.std.specs.Cmp.Lexicographic.{slice_cmp}
 use Rattle.std.specs.Coded.{Coded-set, coded_bool, coded_ℕ, le_prop}
 use Rattle.std.specs.FinMap.{empty, get-empty, len-empty}
-use Rattle.std.specs.Ordering.{nat_cmp, is_lt}
 use Rattle.octseq_dns_compress.specs.Agrees.{Agrees}
 use Rattle.octseq_dns_compress.specs.Key.{label_at, digest_of, key, key_of, key_cmp, IsWhole, AreTargets}
 use Rattle.octseq_dns_compress.specs.Known.{Known}

@@ -1,12 +1,10 @@
 -- Each step of keeping the labels of a name.
-use Rattle.std.specs.Prelude.{IsTrue, nat_lt, cond}
-use Rattle.std.proofs.Common.{◌≡◌, inl, true, false, ℕ, zero, suc, ◌+◌, ◌-◌, ◌<◌, ◌≤◌, None, List, []}
-use Rattle.std.proofs.Common.{◌∷◌, ◌++◌, length, take, drop, sym, ap, ◌∙◌, subst, arith, is_some, take-append-drop}
+use Rattle.std.proofs.Common.{IsTrue, nat_lt, cond, if◌then◌else◌, ◌≡◌, Bool, inl, true, false, ℕ, zero, suc, ◌+◌, ◌-◌}
+use Rattle.std.proofs.Common.{◌<◌, ◌≤◌, None, List, [], ◌∷◌, ◌++◌, length, take, drop, refl, sym, ap, ◌∙◌, subst, arith}
+use Rattle.std.proofs.Common.{take-append-drop, true≢false, length-drop, insert, filter}
 use Rattle.std.proofs.lemmas.Bool.{lt-leb}
-use Rattle.std.proofs.lemmas.List.{length-drop}
-use Rattle.std.proofs.lemmas.List.Elements.{All-take, filter-append}
-use Rattle.std.specs.FinMap.{get}
-use Rattle.std.specs.List.{insert, filter}
+use Rattle.std.proofs.lemmas.List.Elements.{filter-append}
+use Rattle.std.specs.FinMap.{get, insert as put}
 use Rattle.octseq_dns_compress.specs.Agrees.{Agrees, place_of}
 use Rattle.octseq_dns_compress.specs.Ending.{IsEnding}
 use Rattle.octseq_dns_compress.specs.FoundNames.{place_there}
@@ -16,10 +14,9 @@ use Rattle.octseq_dns_compress.specs.Names.{pointers_from, with_labels, names_wi
 use Rattle.octseq_dns_compress.specs.Written.{IsWritten}
 use Rattle.octseq_dns_compress.specs.declared.search.Ending.{Ending}
 use Rattle.octseq_dns_compress.specs.declared.table.Target.{Target}
-use Rattle.octseq_dns_compress.proofs.KeptNames.{kept_from, unkept, with_known, with_many, with_one, with_other}
-use Rattle.octseq_dns_compress.proofs.KeptNames.{with_stopped}
+use Rattle.octseq_dns_compress.proofs.KeptNames.{absent, kept_from, unkept, with_known, with_one, with_other}
 use Rattle.octseq_dns_compress.proofs.KeptSoFar.{KeptSoFar, place_after, so_far_kept, whole_here, label_here}
-use Rattle.octseq_dns_compress.proofs.PlainLabels.{one_left}
+use Rattle.octseq_dns_compress.proofs.PlainLabels.{last_label, one_left}
 
 -- a target that isn't before an offset doesn't count among those that are
 pub none_before : (start : ℕ) (held : List Target) (position : ℕ) (target : Target) → start ≤ target.at
@@ -44,16 +41,67 @@ module _ (most : ℕ) {octets : List ℕ} {held : List Target} {names : Names} {
   abbrev now : ℕ → Names
   now left = with_labels most ending.pointers names (place_after start labels left) (drop left labels)
 
-  agrees_with : (after : List Target) (more : Names) → Agrees octets after more
-      → with_labels most ending.pointers names start labels ≡ more
+  -- at the end, nothing is kept
+  now_none : now ending.written ≡ names
+  now_none = with_known most ending.pointers names (place_after start labels ending.written)
+      (drop ending.written labels) ends.ends.there
+
+  agrees_with : (after : List Target) (more : Names) → Agrees octets after more → now zero ≡ more
       → Agrees octets after (names_with most names start labels)
   agrees_with after more agrees same =
+      let begin : start ≡ place_after start labels zero = omega arith in
       subst (Agrees octets after)
-      (sym same ∙ ap (λ p. with_labels most p names start labels) same_pointers) agrees
+      (sym (ap (λ n. with_labels most ending.pointers names n labels) begin ∙ same)
+      ∙ ap (λ p. with_labels most p names start labels) same_pointers) agrees
+
+  module _ (left : ℕ) (some : 0 < left) (few_left : left ≤ ending.written) (at : ℕ)
+      (same : at ≡ place_after start labels (left - 1)) where
+    abbrev label : List ℕ
+    label = label_no labels (left - 1)
+
+    abbrev rest : List (List ℕ)
+    rest = drop left labels
+
+    abbrev place : Place
+    place = record { at = at; pointers = ending.pointers }
+
+    here : drop (left - 1) labels ≡ label ∷ rest
+    here = one_left labels left some (omega (arith, few_left, within))
+
+    longer : place_after start labels left ≡ at + length (prefixed label)
+    longer = let more = last_label labels left (prefixed label) some (omega (arith, few_left, within)) refl in
+        omega (arith, more, same)
+
+    -- one more label is kept, or isn't
+    now_is : (kept : Bool) → is_kept most (now left) rest place ≡ kept
+        → now (left - 1) ≡ (if kept then put (now left) (label ∷ rest) place else now left)
+    now_is kept is =
+        ap (with_labels most ending.pointers names (place_after start labels (left - 1))) here
+        ∙ ap (λ n. with_labels most ending.pointers names n (label ∷ rest)) (sym same)
+        ∙ with_one most ending.pointers names at label rest (now left) kept
+        (ap (λ n. with_labels most ending.pointers names n rest) (omega (arith, longer)))
+        (ap (get names) (sym here) ∙ ends.new (left - 1) (omega (arith, some, few_left))) is
+
+  -- the place of the label after this many
+  abbrev place_of_no : ℕ → Place
+  place_of_no k = record { at = place_after start labels k; pointers = ending.pointers }
+
+  -- if no label is kept from one on, these are all
+  stopped : (left : ℕ) → left ≤ ending.written → (more : Names) → now left ≡ more
+      → ((k : ℕ) → k < left → is_kept most more (drop (suc k) labels) (place_of_no k) ≡ false) → now zero ≡ more
+  stopped zero few_left more is never = is
+  stopped (suc k) few_left more is never =
+      let one : k ≡ suc k - 1 = omega arith in
+      stopped k (omega (arith, few_left)) more
+      (ap now one ∙ now_is (suc k) (omega arith) few_left _ (ap (place_after start labels) one) false
+      (ap (λ m. is_kept most m (drop (suc k) labels) (place_of_no k)) is ∙ never k (omega arith)) ∙ is)
+      (λ j less. never j (omega (arith, less)))
 
   -- there are too many pointers
   pub kept_none : 126 < ending.pointers → Agrees octets held (names_with most names start labels)
-  kept_none many = agrees_with held names agrees (with_many most ending.pointers names start labels many)
+  kept_none many =
+      agrees_with held names agrees (stopped ending.written (omega arith) names now_none
+      (λ k less. unkept most names (drop (suc k) labels) (place_of_no k) (λ near few room there. omega (arith, few, many))))
 
   -- the names that were there are before it
   before_start : (others : List (List ℕ)) → IsTrue (is_there names others) → place_of names others < start
@@ -70,112 +118,88 @@ module _ (most : ℕ) {octets : List ℕ} {held : List Target} {names : Names} {
       → KeptSoFar octets held (now ending.written) labels start end older ending.written ending.next ending.position
   kept_yet end older all inside =
       subst (λ names. KeptSoFar octets held names labels start end older ending.written ending.next ending.position)
-      (sym (with_known most ending.pointers names (place_after start labels ending.written)
-      (drop ending.written labels) ends.ends.there))
+      (sym now_none)
       (record {
         agrees = agrees;
         there = ends.ends.there;
         next_is = ends.ends.next_is;
-        apart = λ others place found. inl (written.after_names others place found);
+        apart = λ others place found late. let less = written.after_names others place found in
+            absurd (omega (arith, less, late));
         here = ends.position;
-        low = All-take (λ t. t.next < start) (older + 1) held (λ k d less.
-            let held_is = agrees.held k d less in
-            let has = agrees.all held_is.label held_is.rest held_is.place held_is.there in
-            let before = before_start held_is.rest has.more in
-            let next = ap (λ t. t.next) held_is.target_is in
-            omega (arith, before, next));
-        high = λ k d less. let none = length-drop (older + 1) held in absurd (omega (arith, less, none, all));
         phase = inl (
           omega (arith, inside, all),
           sym all,
           let before = before_start (drop ending.written labels) ends.ends.there in
               let next = ends.ends.next_is in omega (arith, before, next),
+          λ k d less.
+              let held_is = agrees.held k d less in
+              let has = agrees.all held_is.label held_is.rest held_is.place held_is.there in
+              let before = before_start held_is.rest has.more in
+              let next = ap (λ t. t.next) held_is.target_is in
+              omega (arith, before, next),
         );
       })
 
   module _ {after : List Target} {end older left next position : ℕ}
       (so_far : KeptSoFar octets after (now left) labels start end older left next position)
       (some : 0 < left) (few_left : left ≤ ending.written) (at : ℕ) (same : at ≡ place_after start labels (left - 1))
-      (longer : place_after start labels left ≡ at + length (prefixed (label_no labels (left - 1)))) where
-    abbrev label : List ℕ
-    label = label_no labels (left - 1)
+    where
+      abbrev here_place : Place
+      here_place = record { at = at; pointers = ending.pointers }
 
-    abbrev rest : List (List ℕ)
-    rest = drop left labels
+      -- the labels before the kept ones are new
+      still_new : (k : ℕ) → k < left → get (now left) (drop k labels) ≡ None
+      still_new k less =
+          let fewer = length-drop k labels in
+          let none = length-drop left labels in
+          with_other most ending.pointers names (place_after start labels left) (drop left labels) (drop k labels)
+          (omega (arith, less, fewer, none, few_left, within)) ∙ ends.new k (omega (arith, less, few_left))
 
-    abbrev place : Place
-    place = record { at = at; pointers = ending.pointers }
+      -- one more is kept
+      pub kept_at : (new : List Target) (digest : ℕ) → digest ≡ digest_of (prefixed (label_no labels (left - 1)))
+          → end ≡ place_after start labels left
+          → new ≡ insert after position (record { at = at; next = next; pointers = ending.pointers; digest = digest })
+          → at ≤ 16383
+          → ending.pointers ≤ 126 → ¬ (most ≤ length after)
+          → KeptSoFar octets new (now (left - 1)) labels start at older (left - 1) at (older + 1)
+      kept_at new digest digested end_is is near few room =
+          let count = so_far.agrees.count in
+          let less : left - 1 < ending.written = omega (arith, some, few_left) in
+          let long = longer left some few_left at same in
+          let target_is = is ∙ ap (λ n. insert after position
+          (record { at = at; next = next; pointers = ending.pointers; digest = n })) digested in
+          let names_are = now_is left some few_left at same true (kept_from most (now left) (drop left labels) here_place near
+          few (omega (arith, count, room)) so_far.there) in
+          subst (λ (both : List Target × Names). KeptSoFar octets both.0 both.1 labels start at older (left - 1) at (older + 1))
+          (λ i. (sym target_is i, sym names_are i))
+          (so_far_kept at ending.pointers so_far some (omega (arith, few_left, within))
+          (still_new (left - 1) (omega (arith, some)))
+          (label_here written (left - 1) less within at same) (whole_here written (left - 1) less within at same)
+          (omega (arith, end_is, long)) written.after_header (omega (arith, same)) near few)
 
-    here : drop (left - 1) labels ≡ label ∷ rest
-    here = one_left labels left some (omega (arith, few_left, within))
+      -- if no more are kept, these are all
+      kept_stopped : is_kept most (now left) (drop left labels) here_place ≡ false
+          → Agrees octets after (names_with most names start labels)
+      kept_stopped stops =
+          agrees_with after (now left) so_far.agrees
+          (stopped (left - 1) (omega (arith, few_left)) (now left) (now_is left some few_left at same false stops)
+          (λ k less. unkept most (now left) (drop (suc k) labels) (place_of_no k) (λ near few room there.
+          let long = length-drop (suc k) labels in
+          true≢false (sym there ∙ absent (now left) (drop (suc k) labels) (omega (arith, long, less, few_left, within))
+          (still_new (suc k) (omega (arith, less)))))))
 
-    new_before : get names (label ∷ rest) ≡ None
-    new_before = ap (get names) (sym here) ∙ ends.new (left - 1) (omega (arith, some, few_left))
+      pub kept_far : 16383 < at → Agrees octets after (names_with most names start labels)
+      kept_far far =
+          kept_stopped (unkept most (now left) (drop left labels) here_place (λ near few room there. omega (arith, far, near)))
 
-    up : with_labels most ending.pointers names (at + (1 + length label)) rest ≡ now left
-    up = ap (λ n. with_labels most ending.pointers names n rest) (omega (arith, longer))
-
-    -- the label before the kept ones is new
-    still_new : get (now left) (label ∷ rest) ≡ None
-    still_new =
-        ap (λ m. get m (label ∷ rest)) (sym up)
-        ∙ with_other most ending.pointers names (at + (1 + length label)) rest (label ∷ rest) (omega arith)
-        ∙ new_before
-
-    now_is : now (left - 1) ≡ with_labels most ending.pointers names at (label ∷ rest)
-    now_is =
-        ap (with_labels most ending.pointers names (place_after start labels (left - 1))) here
-        ∙ ap (λ n. with_labels most ending.pointers names n (label ∷ rest)) (sym same)
-
-    -- one more is kept
-    pub kept_at : (new : List Target) (digest : ℕ) → digest ≡ digest_of (prefixed label)
-        → end ≡ place_after start labels left
-        → new ≡ insert after position (record { at = at; next = next; pointers = ending.pointers; digest = digest })
-        → at ≤ 16383
-        → ending.pointers ≤ 126 → ¬ (most ≤ length after)
-        → KeptSoFar octets new (now (left - 1)) labels start at older (left - 1) at (older + 1)
-    kept_at new digest digested end_is is near few room =
-        let count = so_far.agrees.count in
-        let less : left - 1 < ending.written = omega (arith, some, few_left) in
-        subst (λ held. KeptSoFar octets held (now (left - 1)) labels start at older (left - 1) at (older + 1))
-        (sym (is ∙ ap (λ n. insert after position
-        (record { at = at; next = next; pointers = ending.pointers; digest = n })) digested))
-        (subst (λ names. KeptSoFar octets (insert after position
-        (record { at = at; next = next; pointers = ending.pointers; digest = digest_of (prefixed label) })) names labels
-        start at older (left - 1) at (older + 1))
-        (sym (now_is
-        ∙ with_one most ending.pointers names at label rest (now left) true up new_before
-        (kept_from most (now left) rest place near few (omega (arith, count, room)) so_far.there)))
-        (so_far_kept at ending.pointers so_far some (omega (arith, few_left, within))
-        (ap (get (now left)) here ∙ still_new)
-        (label_here written (left - 1) less within at same) (whole_here written (left - 1) less within at same)
-        (omega (arith, end_is, longer)) written.after_header (omega (arith, same)) near few))
-
-    -- if no more are kept, these are all
-    kept_stopped : is_kept most (now left) rest place ≡ false
-        → Agrees octets after (names_with most names start labels)
-    kept_stopped stops =
-        agrees_with after (now left) so_far.agrees
-        (with_stopped most ending.pointers names start labels (left - 1) (now left)
-        (omega (arith, some, few_left, within))
-        (now_is ∙ with_one most ending.pointers names at label rest (now left) false up new_before stops)
-        (ap (is_there (now left)) here ∙ ap is_some still_new)
-        (λ k less. ends.new k (omega (arith, less, some, few_left))))
-
-    pub kept_far : 16383 < at → Agrees octets after (names_with most names start labels)
-    kept_far far = kept_stopped (unkept most (now left) rest place (λ near few room there. omega (arith, far, near)))
-
-    pub kept_full : most ≤ length after → Agrees octets after (names_with most names start labels)
-    kept_full full =
-        let count = so_far.agrees.count in
-        kept_stopped (unkept most (now left) rest place (λ near few room there. omega (arith, full, count, room)))
+      pub kept_full : most ≤ length after → Agrees octets after (names_with most names start labels)
+      kept_full full =
+          let count = so_far.agrees.count in
+          kept_stopped
+          (unkept most (now left) (drop left labels) here_place (λ near few room there. omega (arith, full, count, room)))
 
   -- all are kept
   pub kept_all : {after : List Target} {end older left next position : ℕ}
       → KeptSoFar octets after (now left) labels start end older left next position → left ≡ 0
       → Agrees octets after (names_with most names start labels)
-  kept_all {after = after} {left = left} so_far none =
-      agrees_with after (now left) so_far.agrees
-      (let same : start ≡ place_after start labels zero = omega arith in
-      ap (λ n. with_labels most ending.pointers names n labels) same
-      ∙ ap (λ n. with_labels most ending.pointers names (place_after start labels n) (drop n labels)) (sym none))
+  kept_all {after = after} {left = left} so_far none = agrees_with after (now left) so_far.agrees (ap now (sym none))

@@ -1,15 +1,14 @@
 -- The names after labels are written, of which the last ones are kept first.
-use Rattle.std.specs.Prelude.{IsTrue, if◌then◌else◌, nat_le, nat_lt}
-use Rattle.std.proofs.Common.{◌≡◌, Bool, true, false, ℕ, zero, suc, ◌+◌, ◌<◌, ◌≤◌, None, List, []}
-use Rattle.std.proofs.Common.{◌∷◌, length, length-append, length-drop, take, drop, refl, sym, ap, ◌∙◌, arith, is_some}
-use Rattle.std.proofs.Math.Bool.{true≢false}
-use Rattle.std.proofs.lemmas.Bool.{and_from, and_parts, false_from_ne_true, le-leb, leb-true, lt-ltb, ltb-true}
+use Rattle.std.proofs.Common.{IsTrue, if◌then◌else◌, nat_le, nat_lt, ◌≡◌, Bool, true, false, ℕ, zero, suc, ◌+◌, ◌<◌}
+use Rattle.std.proofs.Common.{◌≤◌, None, List, [], ◌∷◌, length, length-append, length-drop, take, drop, refl, sym, ap}
+use Rattle.std.proofs.Common.{◌∙◌, arith, is_some, le-leb, leb-true, lt-ltb, ltb-true}
+use Rattle.std.proofs.lemmas.Bool.{and_from, and_parts, false_from_ne_true}
 use Rattle.std.specs.FinMap.{get, len, insert, contains_key}
 use Rattle.octseq_dns_compress.specs.FoundNames.{get_other}
 use Rattle.octseq_dns_compress.specs.Names.{Names, Place, is_there, is_kept, with_labels, unrooted}
 
 -- labels that aren't found, and aren't the root, aren't there
-absent : (names : Names) (labels : List (List ℕ)) → 0 < length labels → get names labels ≡ None
+pub absent : (names : Names) (labels : List (List ℕ)) → 0 < length labels → get names labels ≡ None
     → is_there names labels ≡ false
 absent names [] some none = absurd (omega (arith, some))
 absent names (label ∷ labels) some none = ap is_some none
@@ -86,61 +85,3 @@ module _ (most pointers : ℕ) (names : Names) where
       else (if is_kept most mine labels place then insert mine (label ∷ labels) place else mine)) (ap is_some none)
       ∙ ap (λ m. if is_kept most m labels place then insert m (label ∷ labels) place else m) is
       ∙ ap (λ kept. if kept then insert more (label ∷ labels) place else more) kept_is
-
-  -- no label is kept if too many pointers are followed from it
-  pub with_many : (start : ℕ) (labels : List (List ℕ)) → 126 < pointers
-      → with_labels most pointers names start labels ≡ names
-  with_many start [] many = refl
-  with_many start (label ∷ labels) many =
-      by (contains_key names (label ∷ labels)) (with_many (start + (1 + length label)) labels many) where
-        place : Place
-        place = record { at = start; pointers = pointers }
-
-        mine : Names
-        mine = with_labels most pointers names (start + (1 + length label)) labels
-
-        by : (known : Bool) → mine ≡ names
-            → (if known then names
-            else (if is_kept most mine labels place then insert mine (label ∷ labels) place else mine)) ≡ names
-        by true same = refl
-        by false same =
-            ap (λ kept. if kept then insert mine (label ∷ labels) place else mine)
-            (unkept most mine labels place (λ near few room there. omega (arith, few, many)))
-            ∙ same
-
-  -- if labels aren't kept, none before them is
-  pub with_stopped : (start : ℕ) (labels : List (List ℕ)) (left : ℕ) (more : Names) → left ≤ length labels
-      → with_labels most pointers names (start + length (unrooted (take left labels))) (drop left labels) ≡ more
-      → is_there more (drop left labels) ≡ false
-      → ((k : ℕ) → k < left → get names (drop k labels) ≡ None)
-      → with_labels most pointers names start labels ≡ more
-  with_stopped start labels zero more within is alone none =
-      let same : start ≡ start + 0 = omega arith in
-      ap (λ n. with_labels most pointers names n labels) same ∙ is
-  with_stopped start [] (suc v) more within is alone none = absurd (omega (arith, within))
-  with_stopped start (label ∷ labels) (suc v) more within is alone none =
-      let long = length-append label (unrooted (take v labels)) in
-      let same : start + (1 + length label) + length (unrooted (take v labels))
-      ≡ start + length (unrooted (take (suc v) (label ∷ labels))) = omega (arith, long) in
-      let inside : v ≤ length labels = omega (arith, within) in
-      let here : with_labels most pointers names
-      (start + (1 + length label) + length (unrooted (take v labels))) (drop v labels) ≡ more =
-      ap (λ n. with_labels most pointers names n (drop v labels)) same ∙ is in
-      let up = with_stopped (start + (1 + length label)) labels v more inside here alone
-      (λ k less. none (suc k) (omega (arith, less))) in
-      with_one start label labels more false up (none zero (omega arith))
-      (unkept most more labels (record { at = start; pointers = pointers }) (λ near few room there.
-      true≢false (sym there ∙ without v labels inside alone here (λ less. none (suc zero) (omega (arith, less)))))) where
-        without : (v : ℕ) (labels : List (List ℕ)) → v ≤ length labels → is_there more (drop v labels) ≡ false
-            → with_labels most pointers names (start + (1 + length label) + length (unrooted (take v labels)))
-            (drop v labels) ≡ more → (0 < v → get names labels ≡ None) → is_there more labels ≡ false
-        without zero labels inside alone here none = alone
-        without (suc u) labels inside alone here none =
-            let some : 0 < length labels = omega (arith, inside) in
-            let fewer = length-drop (suc u) labels in
-            absent more labels some
-            (ap (λ m. get m labels) (sym here)
-            ∙ with_other (start + (1 + length label) + length (unrooted (take (suc u) labels))) (drop (suc u) labels)
-            labels
-            (omega (arith, fewer, some))
-            ∙ none (omega arith))

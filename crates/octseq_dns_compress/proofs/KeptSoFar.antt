@@ -1,27 +1,23 @@
 -- The names while the labels of a name are kept, the last one first.
-use Rattle.std.specs.Prelude.{slice_index_or, IsTrue}
-use Rattle.std.proofs.Common.{◌≡◌, ◌⊎◌, inl, inr, ℕ, ◌+◌, ◌-◌, ◌<◌, ◌≤◌, Some, None, List, [], ◌∷◌}
-use Rattle.std.proofs.Common.{◌++◌, length}
-use Rattle.std.proofs.Common.{length-append, take, drop, refl, sym, ap, ◌∙◌, subst, arith, is_some, append_assoc}
-use Rattle.std.proofs.Math.Bool.{true≢false}
-use Rattle.std.proofs.lemmas.List.{drop_at, drop_more, get_or-drop, get_or-take, length-drop, length-take, take-append-le}
-use Rattle.std.proofs.lemmas.List.{take-take, take_all}
+use Rattle.std.proofs.Common.{slice_index_or, IsTrue, ◌≡◌, ◌⊎◌, inl, inr, ℕ, ◌+◌, ◌-◌, ◌<◌, ◌≤◌, Some, None, List, []}
+use Rattle.std.proofs.Common.{◌∷◌, ◌++◌, length, length-append, take, drop, refl, sym, ap, ◌∙◌, subst, arith, is_some}
+use Rattle.std.proofs.Common.{append_assoc, true≢false, drop_at, get_or-drop, get_or-take, length-drop, length-take}
+use Rattle.std.proofs.Common.{take-take, All, insert, nat_cmp, is_lt}
+use Rattle.std.proofs.lemmas.List.{drop_more, take-append-le}
 use Rattle.std.proofs.lemmas.List.Edits.{length-insert}
 use Rattle.std.proofs.lemmas.List.Elements.{All-cons, All-take, All-weaker}
 use Rattle.std.specs.Cmp.{nat_cmp_is}
 use Rattle.std.specs.Cmp.Lexicographic.{slice_cmp}
 use Rattle.std.specs.FinMap.{get, insert as put}
-use Rattle.std.specs.List.{All, insert}
-use Rattle.std.specs.Ordering.{nat_cmp, ordering_then, is_lt}
+use Rattle.std.specs.Ordering.{ordering_then}
 use Rattle.std.specs.declared.cmp.Ordering.{Ordering}
 use Rattle.octseq_dns_compress.specs.Agrees.{Agrees, place_of}
-use Rattle.octseq_dns_compress.specs.FoundNames.{get_new, get_other, same_or_other, one_place}
-use Rattle.octseq_dns_compress.specs.Key.{label_at, digest_of, with_digest, key, key_of, IsWhole, IsPosition}
+use Rattle.octseq_dns_compress.specs.FoundNames.{get_new, put_cases}
+use Rattle.octseq_dns_compress.specs.Key.{label_at, digest_of, with_digest, key, key_cmp, IsWhole, IsPosition}
 use Rattle.octseq_dns_compress.specs.Names.{Names, Place, at_or_zero, is_there, label_no, prefixed, unrooted}
 use Rattle.octseq_dns_compress.specs.Written.{IsWritten}
 use Rattle.octseq_dns_compress.specs.declared.table.Target.{Target}
-use Rattle.octseq_dns_compress.proofs.Added.{all_insert}
-use Rattle.octseq_dns_compress.proofs.MoreNames.{MayBeKept, agrees_added}
+use Rattle.octseq_dns_compress.proofs.MoreNames.{all_insert, MayBeKept, agrees_added}
 use Rattle.octseq_dns_compress.proofs.PlainLabels.{front_and_rest, length_there, whole_there, label_there, one_left}
 
 -- the offset of the label after this many
@@ -76,58 +72,61 @@ module _ {octets : List ℕ} {names : Names} {start : ℕ} {labels : List (List 
       (length_there octets front (label_no labels v) back split_here)
       ∙ label_there octets front (label_no labels v) back split_here
 
--- ---- the last position
+-- ---- the names so far
 
--- the position of a label if no target is followed by the same offset
-by_next : (octets : List ℕ) (held : List Target) (next position : ℕ) (label : List ℕ) → position ≤ length held
-    → All (λ t. t.next < next) (take position held) → All (λ t. next < t.next) (drop position held)
-    → IsPosition octets held (key next label) position
-by_next octets held next position label within low high = record {
-  within = within;
+-- the targets that were there lead to offsets before `start`
+abbrev pub IsFirst : List Target → ℕ → ℕ → ℕ → ℕ → Type 0
+IsFirst held start older next position =
+    (position ≤ older) × (length held ≡ older) × (next < start) × All (λ t. t.next < start) held
+
+-- The target of the first label that is kept is inserted among them, and each other one after it: these lead to offsets
+-- after `next`.
+pub record IsLater (held : List Target) (start older next : ℕ) : Type 0 where
+  pub many : older + 1 ≤ length held
+  pub low : All (λ t. t.next < start) (take (older + 1) held)
+  pub high : All (λ t. next < t.next) (drop (older + 1) held)
+
+-- so this is the position of a label that is followed by what is at `next`
+later_position : (octets : List ℕ) (held : List Target) (start older next : ℕ) (label : List ℕ) → start ≤ next
+    → IsLater held start older next → IsPosition octets held (key next label) (older + 1)
+later_position octets held start older next label late is = record {
+  within = is.many;
   before = λ k d less.
-      let taken = length-take position held in
-      let low = low k d (omega (arith, less, within, taken)) in
-      reported k d Ordering.Less (nat_cmp_is (slice_index_or held k d).next next Ordering.Less
-      (subst (λ t. t.next < next) (get_or-take position held k d less) low));
-  after = λ k d from inside is.
-      let left = length-drop position held in
-      let high = high (k - position) d (omega (arith, from, inside, left)) in
-      let same : position + (k - position) ≡ k = omega (arith, from) in
-      true≢false (ap is_lt (sym is ∙ reported k d Ordering.Greater
-      (nat_cmp_is (slice_index_or held k d).next next Ordering.Greater
-      (subst (λ t. next < t.next) (get_or-drop position held (k - position) d ∙ ap (λ i. slice_index_or held i d) same)
-      high))));
+      let taken = length-take (older + 1) held in
+      let many = is.many in
+      let low = is.low k d (omega (arith, less, many, taken)) in
+      let same = ap (λ t. t.next) (get_or-take (older + 1) held k d less) in
+      reported k d Ordering.Less
+      (nat_cmp_is (slice_index_or held k d).next next Ordering.Less (omega (arith, low, same, late)));
+  after = λ k d from inside is_less.
+      let left = length-drop (older + 1) held in
+      let high = is.high (k - (older + 1)) d (omega (arith, from, inside, left)) in
+      let here : older + 1 + (k - (older + 1)) ≡ k = omega (arith, from) in
+      let same = ap (λ t. t.next)
+      (get_or-drop (older + 1) held (k - (older + 1)) d ∙ ap (λ i. slice_index_or held i d) here) in
+      true≢false (ap is_lt (sym is_less ∙ reported k d Ordering.Greater
+      (nat_cmp_is (slice_index_or held k d).next next Ordering.Greater (omega (arith, high, same)))));
 } where
   reported : (k : ℕ) (d : Target) (order : Ordering) → order ≡ nat_cmp (slice_index_or held k d).next next
-      → slice_cmp nat_cmp (key_of octets (slice_index_or held k d)) (key next label)
+      → key_cmp octets (slice_index_or held k d) (key next label)
       ≡ ordering_then order (slice_cmp nat_cmp (with_digest (label_at octets (slice_index_or held k d).at))
       (with_digest label))
   reported k d order is =
       ap (λ order. ordering_then order (slice_cmp nat_cmp (with_digest (label_at octets (slice_index_or held k d).at))
       (with_digest label))) (sym is)
 
--- ---- the names so far
-
--- The target of the first label that is kept is inserted among the older targets, and each other one after them and
--- after the first.
-abbrev pub IsPhase : List Target → ℕ → ℕ → ℕ → ℕ → ℕ → Type 0
-IsPhase held start end older next position = ((position ≤ older) × (length held ≡ older) × (next < start))
-    ⊎ ((position ≡ older + 1) × (older + 1 ≤ length held) × (next ≡ end))
-
 -- Labels of a name are kept, the last one first: `left` of those that are written aren't kept yet and end before `end`,
--- and `next` is the offset of what follows them. The targets after the index `older` are those of the labels that are kept, except the
--- first one kept.
+-- and `next` is the offset of what follows them. The targets after the index `older` are those of the labels that are
+-- kept, except the first one kept.
 pub record KeptSoFar (octets : List ℕ) (held : List Target) (now : Names) (labels : List (List ℕ))
     (start end older left next position : ℕ) : Type 0 where
   pub agrees : Agrees octets held now
   pub there : IsTrue (is_there now (drop left labels))
   pub next_is : next ≡ place_of now (drop left labels)
-  pub apart : (others : List (List ℕ)) (place : Place) → get now others ≡ Some place
-      → (place.at < start) ⊎ (end ≤ place.at)
+  pub apart : (others : List (List ℕ)) (place : Place) → get now others ≡ Some place → start ≤ place.at → end ≤ place.at
   pub here : 0 < left → IsPosition octets held (key next (prefixed (label_no labels (left - 1)))) position
-  pub low : All (λ t. t.next < start) (take (older + 1) held)
-  pub high : All (λ t. next < t.next) (drop (older + 1) held)
-  pub phase : IsPhase held start end older next position
+  pub phase : IsFirst held start older next position
+      ⊎ ((position ≡ older + 1) × (next ≡ end) × IsLater held start older next)
 
 module _ {octets : List ℕ} {held : List Target} {now : Names} {labels : List (List ℕ)}
     {start end older left next position : ℕ} (at pointers : ℕ)
@@ -160,11 +159,9 @@ module _ {octets : List ℕ} {held : List Target} {now : Names} {labels : List (
     after_header = omega (arith, after_header, late);
     near = near;
     few = few;
-    fresh = λ others other found same. by_place (so_far.apart others other found) same;
-  } where
-    by_place : {other : ℕ} → (other < start) ⊎ (end ≤ other) → ¬ (other ≡ at)
-    by_place (inl less) same = absurd (omega (arith, less, same, late))
-    by_place (inr more) same = absurd (omega (arith, more, same, longer))
+    fresh = λ others other found same.
+        let far = so_far.apart others other found (omega (arith, same, late)) in omega (arith, far, same, longer);
+  }
 
   agrees_kept : Agrees octets (insert held position target) (put now (label ∷ rest) place)
   agrees_kept =
@@ -174,47 +171,37 @@ module _ {octets : List ℕ} {held : List Target} {now : Names} {labels : List (
       (agrees_added octets held now so_far.agrees label rest place may position
       (subst (λ n. IsPosition octets held (key n (prefixed label)) position) so_far.next_is (so_far.here some)))
 
-  within : position ≤ length held
-  within = (so_far.here some).within
-
-  grown : length (insert held position target) ≡ length held + 1
-  grown = length-insert held position target within
-
-  low_kept : IsPhase held start end older next position
-      → All (λ t. t.next < start) (take (older + 1) (insert held position target))
-  low_kept (inl first) =
+  later : IsFirst held start older next position
+      ⊎ ((position ≡ older + 1) × (next ≡ end) × IsLater held start older next)
+      → IsLater (insert held position target) start older at
+  later (inl first) =
       let all = first.1 in
-      All-take (λ t. t.next < start) (older + 1) (insert held position target)
-      (all_insert (λ t. t.next < start) position held target
-      (subst (All (λ t. t.next < start)) (take_all (older + 1) held (omega (arith, all))) so_far.low) first.2)
-  low_kept (inr later) =
-      let here = later.0 in
+      let grown = length-insert held position target (so_far.here some).within in
+      record {
+        many = omega (arith, all, grown);
+        low = All-take (λ t. t.next < start) (older + 1) (insert held position target)
+            (all_insert (λ t. t.next < start) position held target first.3 first.2);
+        high = λ i d inside.
+            let none = length-drop (older + 1) (insert held position target) in
+            absurd (omega (arith, inside, none, grown, all));
+      }
+  later (inr (here, next_is, is)) =
+      let many = is.many in
+      let grown = length-insert held position target (so_far.here some).within in
       let taken = length-take position held in
-      subst (All (λ t. t.next < start))
-      (sym (take-append-le (older + 1) (take position held) (target ∷ drop position held)
-      (omega (arith, here, taken, within)) ∙ take-take (older + 1) position held (omega (arith, here)))) so_far.low
-
-  high_kept : IsPhase held start end older next position
-      → All (λ t. at < t.next) (drop (older + 1) (insert held position target))
-  high_kept (inl first) = λ i d inside.
-      let all = first.1 in
-      let none = length-drop (older + 1) (insert held position target) in
-      absurd (omega (arith, inside, none, grown, all))
-  high_kept (inr later) =
-      let here = later.0 in
-      let next_is = later.2 in
-      let taken = length-take position held in
-      subst (All (λ t. at < t.next))
-      (sym (drop_at (take position held) (target ∷ drop position held) (older + 1) (omega (arith, here, taken, within))))
-      (All-cons (λ t. at < t.next) target (drop position held) (omega (arith, next_is, longer))
-      (subst (λ n. All (λ t. at < t.next) (drop n held)) (sym here)
-      (All-weaker (λ t. next < t.next) (λ t. at < t.next) (λ t less. omega (arith, less, next_is, longer))
-      (drop (older + 1) held) so_far.high)))
-
-  -- there is one target more than the older ones
-  more_than : IsPhase held start end older next position → older + 1 ≤ length (insert held position target)
-  more_than (inl first) = let all = first.1 in omega (arith, all, grown)
-  more_than (inr later) = let all = later.1 in omega (arith, all, grown)
+      record {
+        many = omega (arith, many, grown);
+        low = subst (All (λ t. t.next < start))
+            (sym (take-append-le (older + 1) (take position held) (target ∷ drop position held)
+            (omega (arith, here, taken, many)) ∙ take-take (older + 1) position held (omega (arith, here)))) is.low;
+        high = subst (All (λ t. at < t.next))
+            (ap (λ n. target ∷ drop n held) (sym here)
+            ∙ sym (drop_at (take position held) (target ∷ drop position held) (older + 1)
+            (omega (arith, here, taken, many))))
+            (All-cons (λ t. at < t.next) target (drop (older + 1) held) (omega (arith, next_is, longer))
+            (All-weaker (λ t. next < t.next) (λ t. at < t.next) (λ t less. omega (arith, less, next_is, longer))
+            (drop (older + 1) held) is.high));
+      }
 
   -- with one more label
   pub so_far_kept : KeptSoFar octets (insert held position
@@ -225,31 +212,16 @@ module _ {octets : List ℕ} {held : List Target} {now : Names} {labels : List (
     agrees = agrees_kept;
     there = subst (λ r. IsTrue (is_there (put now (label ∷ rest) place) r)) (sym is) (ap is_some found);
     next_is = sym (ap at_or_zero (ap (get (put now (label ∷ rest) place)) is ∙ found));
-    apart = λ others other there. by_name others other (same_or_other others (label ∷ rest)) there;
-    here = λ some. by_next octets (insert held position target) at (older + 1)
-        (prefixed (label_no labels (left - 1 - 1))) many
-        (All-weaker (λ t. t.next < start) (λ t. t.next < at) (λ t less. omega (arith, less, late))
-        (take (older + 1) (insert held position target)) (low_kept so_far.phase))
-        (high_kept so_far.phase);
-    low = low_kept so_far.phase;
-    high = high_kept so_far.phase;
-    phase = inr (refl, many, refl);
+    apart = λ others other there. by_name others other (put_cases now (label ∷ rest) place others other there);
+    here = λ some. later_position octets (insert held position target) start older at
+        (prefixed (label_no labels (left - 1 - 1))) late (later so_far.phase);
+    phase = inr (refl, refl, later so_far.phase);
   } where
     found : get (put now (label ∷ rest) place) (label ∷ rest) ≡ Some place
     found = get_new now (label ∷ rest) place
 
-    many : older + 1 ≤ length (insert held position target)
-    many = more_than so_far.phase
-
-    old : (other : Place) → (other.at < start) ⊎ (end ≤ other.at) → (other.at < start) ⊎ (at ≤ other.at)
-    old other (inl less) = inl less
-    old other (inr more) = inr (omega (arith, more, longer))
-
-    by_name : (others : List (List ℕ)) (other : Place) → (others ≡ label ∷ rest) ⊎ ¬ (others ≡ label ∷ rest)
-        → get (put now (label ∷ rest) place) others ≡ Some other → (other.at < start) ⊎ (at ≤ other.at)
-    by_name others other (inl same) there =
-        let one = ap (λ p. p.at) (one_place other place (sym there ∙ ap (get (put now (label ∷ rest) place)) same ∙
-        found)) in
-        inr (omega (arith, one))
-    by_name others other (inr apart) there =
-        old other (so_far.apart others other (sym (get_other now (label ∷ rest) others place apart) ∙ there))
+    by_name : (others : List (List ℕ)) (other : Place)
+        → ((others ≡ label ∷ rest) × (other ≡ place)) ⊎ (get now others ≡ Some other)
+        → start ≤ other.at → at ≤ other.at
+    by_name others other (inl same) from = let one = ap (λ p. p.at) same.1 in omega (arith, one)
+    by_name others other (inr old) from = let far = so_far.apart others other old from in omega (arith, far, longer)

@@ -1,16 +1,14 @@
 -- Binary search among targets in their order.
-use Rattle.std.proofs.Common.{◌≡◌, ◌⊎◌, inl, inr, true, false, ℕ, ◌+◌, ◌*◌, ◌/◌, ◌^◌, ◌<◌, ◌≤◌}
-use Rattle.std.proofs.Common.{List, length, refl, sym, ap, ◌∙◌, subst, arith}
-use Rattle.std.proofs.lemmas.Cmp.{nat_list_cmp_total}
+use Rattle.std.proofs.Common.{◌≡◌, ◌⊎◌, inl, inr, true, false, ℕ, ◌+◌, ◌*◌, ◌/◌, ◌^◌, ◌<◌, ◌≤◌, List, length, refl, sym}
+use Rattle.std.proofs.Common.{ap, ◌∙◌, subst, arith, true≢false, eq-or-lt_of_le, lt_of_not-le, mul_assoc}
+use Rattle.std.proofs.Common.{mul-le-mul_left, mul-le-mul_right, pow-suc, nat_cmp, is_eq, is_lt, slice_index_or}
+use Rattle.std.proofs.lemmas.Cmp.{nat_list_cmp_total, tied_itself}
 use Rattle.std.proofs.lemmas.List.{get_or_default}
 use Rattle.std.proofs.lemmas.Map.Lookups.{exact_bytes}
-use Rattle.std.proofs.Math.Bool.{true≢false}
 use Rattle.std.proofs.Math.Decide.{dec_le}
-use Rattle.std.proofs.Math.Nat.{eq-or-lt_of_le, lt_of_not-le, mul_assoc, mul-le-mul_left, mul-le-mul_right}
-use Rattle.std.proofs.Math.Nat.{pow-le-pow_right, pow-suc}
+use Rattle.std.proofs.Math.Nat.{pow-le-pow_right}
 use Rattle.std.specs.Cmp.Lexicographic.{slice_cmp}
-use Rattle.std.specs.Ordering.{nat_cmp, is_eq, is_lt, ordering_reverse}
-use Rattle.std.specs.Prelude.{slice_index_or}
+use Rattle.std.specs.Ordering.{ordering_reverse}
 use Rattle.std.specs.declared.cmp.Ordering.{Ordering}
 use Rattle.octseq_dns_compress.specs.Key.{key_of, key_cmp, AreTargets, HasKeyAt, HasNoKey}
 use Rattle.octseq_dns_compress.specs.declared.table.Target.{Target}
@@ -34,17 +32,16 @@ module _ (octets : List ℕ) (targets : List Target) (key : List ℕ) (sorted : 
       → reported ≡ key_cmp octets (slice_index_or targets mid d) key → is_lt reported ≡ true
       → (k : ℕ) (e : Target) → k < mid + 1 → key_cmp octets (slice_index_or targets k e) key ≡ Ordering.Less
   before_more mid d reported inside is lt k e before = at_most (eq-or-lt_of_le (omega (arith, before))) where
-    less : key_cmp octets (slice_index_or targets mid d) key ≡ Ordering.Less
-    less = sym is ∙ less_reported reported lt
+    less : key_cmp octets (slice_index_or targets mid e) key ≡ Ordering.Less
+    less = subst (λ t. key_cmp octets t key ≡ Ordering.Less) (get_or_default targets mid d e inside)
+        (sym is ∙ less_reported reported lt)
 
     at_most : (k ≡ mid) ⊎ (k < mid) → key_cmp octets (slice_index_or targets k e) key ≡ Ordering.Less
     at_most (inl same) =
-        subst (λ t. key_cmp octets t key ≡ Ordering.Less)
-        (get_or_default targets mid d e inside ∙ ap (λ k. slice_index_or targets k e) (sym same)) less
+        subst (λ t. key_cmp octets t key ≡ Ordering.Less) (ap (λ k. slice_index_or targets k e) (sym same)) less
     at_most (inr below) =
-        let there = subst (λ t. key_cmp octets t key ≡ Ordering.Less) (get_or_default targets mid d e inside) less in
         nat_list_cmp_total.trans (key_of octets (slice_index_or targets k e))
-        (key_of octets (slice_index_or targets mid e)) key (sorted.less k mid e below inside) there
+        (key_of octets (slice_index_or targets mid e)) key (sorted.less k mid e below inside) less
 
   -- and what is after a target that is after the key is after it too
   pub after_more : (mid : ℕ) (d : Target) (reported : Ordering) → mid < length targets
@@ -87,14 +84,6 @@ few_halves ticks left some few = lt_or_ge (dec_le 15 ticks) where
 
 -- ---- keys that are there
 
--- a key compares as equal to itself
-same_key : (key : List ℕ) → slice_cmp nat_cmp key key ≡ Ordering.Equal
-same_key key = alike (slice_cmp nat_cmp key key) (nat_list_cmp_total.antisymm key key) where
-  alike : (reported : Ordering) → reported ≡ ordering_reverse reported → reported ≡ Ordering.Equal
-  alike Ordering.Less same = absurd (true≢false (ap is_lt same))
-  alike Ordering.Equal same = refl
-  alike Ordering.Greater same = absurd (true≢false (sym (ap is_lt same)))
-
 pub key_there : (octets : List ℕ) (targets : List Target) (key : List ℕ) (index : ℕ) (d : Target)
     → index < length targets → key_cmp octets (slice_index_or targets index d) key ≡ Ordering.Equal
     → HasKeyAt octets targets key index
@@ -107,7 +96,8 @@ key_there octets targets key index d within reported = record {
 pub key_equal : (octets : List ℕ) (targets : List Target) (key : List ℕ) (index : ℕ) (d : Target)
     → HasKeyAt octets targets key index → key_cmp octets (slice_index_or targets index d) key ≡ Ordering.Equal
 key_equal octets targets key index d has =
-    subst (λ k. slice_cmp nat_cmp k key ≡ Ordering.Equal) (sym (has.is d)) (same_key key)
+    subst (λ k. slice_cmp nat_cmp k key ≡ Ordering.Equal) (sym (has.is d))
+    (tied_itself nat_list_cmp_total key)
 
 -- no target has a key that some targets come before, and all others after
 pub nowhere : (octets : List ℕ) (targets : List Target) (key : List ℕ) (position : ℕ)
@@ -115,20 +105,16 @@ pub nowhere : (octets : List ℕ) (targets : List Target) (key : List ℕ) (posi
     → ((k : ℕ) (d : Target) → position ≤ k → k < length targets
     → key_cmp octets (slice_index_or targets k d) key ≡ Ordering.Greater)
     → HasNoKey octets targets key
-nowhere octets targets key position before after index has = below (lt_or_ge (dec_le position index)) where
+nowhere octets targets key position before after index has = by (dec_le position index) where
   d : Target
   d = record { at = 0; next = 0; pointers = 0; digest = 0 }
 
   equal : key_cmp octets (slice_index_or targets index d) key ≡ Ordering.Equal
   equal = key_equal octets targets key index d has
 
-  lt_or_ge : Dec (position ≤ index) → (index < position) ⊎ (position ≤ index)
-  lt_or_ge (yes from) = inr from
-  lt_or_ge (no less) = inl (lt_of_not-le less)
-
-  below : (index < position) ⊎ (position ≤ index) → ⊥
-  below (inl less) = true≢false (sym (ap is_lt (before index d less)) ∙ ap is_lt equal)
-  below (inr from) = true≢false (sym (ap is_eq equal) ∙ ap is_eq (after index d from has.within))
+  by : Dec (position ≤ index) → ⊥
+  by (yes from) = true≢false (sym (ap is_eq equal) ∙ ap is_eq (after index d from has.within))
+  by (no less) = true≢false (sym (ap is_lt (before index d (lt_of_not-le less))) ∙ ap is_lt equal)
 
 -- at least half of what was left is left, which bounds the number of turns from below
 pub halves_left : (ticks more left less total : ℕ) → more ≡ ticks + 1 → left + 2 ≤ 2 * (less + 2)

@@ -1,18 +1,17 @@
 -- A name that was written is read as such, and so are the names that pointers may lead to after it.
-use Rattle.std.specs.Prelude.{if◌then◌else◌}
-use Rattle.std.proofs.Common.{◌≡◌, ◌⊎◌, inl, inr, Bool, true, false, ℕ, ◌+◌, ◌-◌, ◌<◌, ◌≤◌, Option, Some, None, List}
-use Rattle.std.proofs.Common.{[], ◌∷◌, ◌++◌, length, drop, replicate, is_some, refl, sym, ap, ◌∙◌, subst, arith}
-use Rattle.std.proofs.Common.{append_assoc, length-append, length-drop}
+use Rattle.std.proofs.Common.{if◌then◌else◌, ◌≡◌, ◌⊎◌, inl, inr, Bool, true, false, ℕ, ◌+◌, ◌-◌, ◌<◌, ◌≤◌, Option, Some}
+use Rattle.std.proofs.Common.{None, List, [], ◌∷◌, ◌++◌, length, drop, replicate, is_some, refl, sym, ap, ◌∙◌, subst}
+use Rattle.std.proofs.Common.{arith, append_assoc, length-append, length-drop, drop_at, drop-drop, take_all}
 use Rattle.std.proofs.Math.Seq.{drop-append_seam}
-use Rattle.std.proofs.lemmas.List.{drop_at, drop-append-le, drop-drop, length-replicate, take_all}
+use Rattle.std.proofs.lemmas.List.{drop-append-le, length-replicate}
 use Rattle.std.proofs.lemmas.Slice.{drop-append-drop}
 use Rattle.std.specs.FinMap.{get, empty, insert, get-empty}
 use Rattle.std.specs.Option.{option_or}
 use Rattle.octseq.specs.Window.{Window, rest, at, whole}
 use Rattle.octseq_dns_compress.specs.Fits.{NameFits}
-use Rattle.octseq_dns_compress.specs.FoundNames.{get_new, get_other, one_place, same_or_other, some_or_none}
-use Rattle.octseq_dns_compress.specs.Names.{Names, Place, labels_cmp, last_place, name_octets, pointers_from}
-use Rattle.octseq_dns_compress.specs.Names.{is_kept, with_labels, names_with}
+use Rattle.octseq_dns_compress.specs.FoundNames.{put_cases, some_or_none}
+use Rattle.octseq_dns_compress.specs.Names.{Names, Place, labels_cmp, last_place, name_octets, pointers_from, is_kept}
+use Rattle.octseq_dns_compress.specs.Names.{with_labels, names_with}
 use Rattle.octseq_dns_compress.specs.LabelsThere.{AreAt, AreNamed}
 use Rattle.octseq_dns_compress.proofs.KeptNames.{kept_parts}
 use Rattle.octseq_dns_compress.proofs.Pieces.{octets_by, octets_new, name_next}
@@ -177,13 +176,10 @@ named_put octets names labels place named are near few = record {
   each : (P : List (List ℕ) → Place → Type 0) → P labels place
       → ((others : List (List ℕ)) (other : Place) → get names others ≡ Some other → P others other)
       → (others : List (List ℕ)) (other : Place) → get (insert names labels place) others ≡ Some other → P others other
-  each P new old others other found = by_name (same_or_other others labels) where
-    by_name : (others ≡ labels) ⊎ ¬ (others ≡ labels) → P others other
-    by_name (inl same) =
-        let one = one_place place other
-        (sym (get_new names labels place) ∙ ap (get (insert names labels place)) (sym same) ∙ found) in
-        subst (λ p. P others p) one (subst (λ l. P l place) (sym same) new)
-    by_name (inr apart) = old others other (sym (get_other names labels others place apart) ∙ found)
+  each P new old others other found = by_name (put_cases names labels place others other found) where
+    by_name : ((others ≡ labels) × (other ≡ place)) ⊎ (get names others ≡ Some other) → P others other
+    by_name (inl (same, one)) = subst (P others) (sym one) (subst (λ l. P l place) (sym same) new)
+    by_name (inr found) = old others other found
 
 named_kept : (octets : List ℕ) (most : ℕ) (names : Names) (label : List ℕ) (labels : List (List ℕ)) (place : Place)
     (kept : Bool) → is_kept most names labels place ≡ kept → AreNamed octets names

@@ -1,6 +1,4 @@
-pub mod Added
 pub mod Composes
-pub mod Composing
 pub mod FieldNames
 pub mod Fields
 pub mod FieldSizes
@@ -15,9 +13,7 @@ pub mod Limits
 pub mod MoreNames
 pub mod Over
 pub mod Pieces
-pub mod PlainForm
 pub mod PlainLabels
-pub mod Places
 pub mod Searched
 pub mod LabelsThere
 pub mod Steps

@@ -1,12 +1,11 @@
 -- Messages that change: octets and targets are added, and what was there stays; or all from an offset on is removed.
-use Rattle.std.specs.Prelude.{nat_lt, cond, slice_index_or}
-use Rattle.std.proofs.Common.{◌≡◌, Bool, true, false, ℕ, suc, ◌+◌, ◌<◌, ◌≤◌, Option, List, [], ◌∷◌, ◌++◌, length, replicate}
-use Rattle.std.proofs.Common.{take, refl, sym, ap, ◌∙◌, subst, arith, Result}
-use Rattle.std.proofs.lemmas.Bool.{lt-leb, lt-ltb, le-ltb, ltb-false}
-use Rattle.std.proofs.lemmas.List.{length-take, take-append-le, take-take, take_all}
+use Rattle.std.proofs.Common.{nat_lt, cond, slice_index_or, ◌≡◌, Bool, true, false, ℕ, suc, ◌+◌, ◌<◌, ◌≤◌, Option, List}
+use Rattle.std.proofs.Common.{[], ◌∷◌, ◌++◌, length, replicate, take, refl, sym, ap, ◌∙◌, subst, arith, Result, lt-ltb}
+use Rattle.std.proofs.Common.{le-ltb, ltb-false, length-take, take-take, take_all, All}
+use Rattle.std.proofs.lemmas.Bool.{lt-leb}
+use Rattle.std.proofs.lemmas.List.{take-append-le}
 use Rattle.std.proofs.lemmas.List.Elements.{All-cons, All-head, All-nil, All-tail, All-weaker}
 use Rattle.std.specs.FinMap.{empty}
-use Rattle.std.specs.List.{All}
 use Rattle.octseq.specs.Appends.{Appends}
 use Rattle.octseq.specs.declared.AppendError.{AppendError}
 use Rattle.octseq_dns_compress.specs.Agrees.{Agrees}
@@ -15,9 +14,8 @@ use Rattle.octseq_dns_compress.specs.Composed.{before}
 use Rattle.octseq_dns_compress.specs.Known.{Known}
 use Rattle.octseq_dns_compress.specs.Sound.{Message, IsSound, state_of, message_once}
 use Rattle.octseq_dns_compress.specs.declared.table.Target.{Target}
-use Rattle.octseq_dns_compress.proofs.Grown.{known_targets, none_known}
+use Rattle.octseq_dns_compress.proofs.Grown.{known_targets, none_known, IsAlike, alike_stays, known_alike, octet_stays}
 use Rattle.octseq_dns_compress.proofs.Fields.{one_state}
-use Rattle.octseq_dns_compress.proofs.Grown.{IsAlike, alike_stays, known_alike, octet_stays}
 use Rattle.octseq_dns_compress.proofs.Steps.{Grows, appended_grows, grown_length}
 
 -- ---- targets before an offset

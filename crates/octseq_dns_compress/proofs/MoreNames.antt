@@ -1,18 +1,98 @@
--- Targets of names, and one more of each.
-use Rattle.std.specs.Prelude.{slice_index_or, IsTrue, cond}
-use Rattle.std.proofs.Common.{◌≡◌, ◌⊎◌, inl, inr, ℕ, ◌+◌, ◌<◌, ◌≤◌, Some, None, List, [], ◌∷◌, length, drop, refl, sym}
-use Rattle.std.proofs.Common.{ap, ◌∙◌, subst, arith, is_some}
-use Rattle.std.proofs.lemmas.List.Edits.{get_or-insert_at, length-insert}
+-- Another target, in its place among others.
+use Rattle.std.proofs.Common.{slice_index_or, ◌≡◌, ℕ, zero, suc, ◌+◌, ◌<◌, ◌≤◌, List, [], ◌∷◌, length, take, drop, ap}
+use Rattle.std.proofs.Common.{◌∙◌, refl, arith, lt_of_not-le, All, AllPairs, insert, IsTrue, cond, ◌⊎◌, inl, inr, Some}
+use Rattle.std.proofs.Common.{None, sym, subst, is_some}
+use Rattle.std.proofs.Math.Decide.{dec_le}
+use Rattle.std.proofs.lemmas.Cmp.{nat_list_cmp_total}
+use Rattle.std.proofs.lemmas.List.Edits.{get_or-insert_below, get_or-insert_above, length-insert, get_or-insert_at}
+use Rattle.std.proofs.lemmas.List.Elements.{All-append, All-cons, All-drop, All-take}
+use Rattle.std.proofs.lemmas.List.Kept.{AllPairs-cons}
+use Rattle.std.specs.Ordering.{ordering_reverse}
+use Rattle.std.specs.declared.cmp.Ordering.{Ordering}
+use Rattle.octseq_dns_compress.specs.Key.{label_at, digest_of, key_of, key_cmp, IsWhole, AreTargets, IsPosition}
+use Rattle.octseq_dns_compress.specs.Key.{HasNoKey, key}
+use Rattle.octseq_dns_compress.proofs.Keys.{key_there}
+use Rattle.octseq_dns_compress.specs.declared.table.Target.{Target}
 use Rattle.std.specs.FinMap.{get, len, insert as put, len-insert}
-use Rattle.std.specs.List.{insert}
 use Rattle.octseq_dns_compress.specs.Agrees.{Agrees, IsOfName, HasTarget, place_of, target_of}
 use Rattle.octseq_dns_compress.specs.FoundNames.{labels_total, get_new, get_other, alike_there, some_or_none}
-use Rattle.octseq_dns_compress.specs.FoundNames.{place_there, same_or_other, one_place}
-use Rattle.octseq_dns_compress.specs.Key.{label_at, digest_of, key, key_of, IsWhole, IsPosition, HasNoKey}
+use Rattle.octseq_dns_compress.specs.FoundNames.{place_there, put_cases}
 use Rattle.octseq_dns_compress.specs.Known.{name_key, found}
 use Rattle.octseq_dns_compress.specs.Names.{Names, Place, at_or_zero, is_there, prefixed}
-use Rattle.octseq_dns_compress.specs.declared.table.Target.{Target}
-use Rattle.octseq_dns_compress.proofs.Added.{all_insert, still_in, targets_added}
+
+-- what holds of the old targets and of the new one holds of all
+pub all_insert : (P : Target → Type 0) (position : ℕ) (targets : List Target) (target : Target) → All P targets
+    → P target → All P (insert targets position target)
+all_insert P position targets target all one =
+    All-append P (take position targets) (target ∷ drop position targets) (All-take P position targets all)
+    (All-cons P target (drop position targets) one (All-drop P position targets all))
+
+-- so does what holds of a target and each one after it
+pairs_insert : (R : Target → Target → Type 0) (position : ℕ) (targets : List Target) (target : Target)
+    → position ≤ length targets → AllPairs R targets
+    → ((k : ℕ) (d : Target) → k < position → R (slice_index_or targets k d) target)
+    → ((k : ℕ) (d : Target) → position ≤ k → k < length targets → R target (slice_index_or targets k d))
+    → AllPairs R (insert targets position target)
+pairs_insert R zero targets target within pairs low high =
+    AllPairs-cons R target targets (λ k d inside. high k d (omega arith) inside) pairs
+pairs_insert R (suc position) [] target within pairs low high = absurd (omega (arith, within))
+pairs_insert R (suc position) (t ∷ targets) target within pairs low high =
+    AllPairs-cons R t (insert targets position target)
+    (all_insert (R t) position targets target (λ k d inside. pairs zero (suc k) d (omega arith) (omega (arith, inside)))
+    (low zero t (omega arith)))
+    (pairs_insert R position targets target (omega (arith, within))
+    (λ i j d less inside. pairs (suc i) (suc j) d (omega (arith, less)) (omega (arith, inside)))
+    (λ k d less. low (suc k) d (omega (arith, less)))
+    (λ k d from inside. high (suc k) d (omega (arith, from)) (omega (arith, inside))))
+
+-- an old target is still there
+pub still_in : (targets : List Target) (position : ℕ) (target : Target) (index : ℕ) → position ≤ length targets
+    → index < length targets → (i : ℕ) × (i < length (insert targets position target))
+    × ((d : Target) → slice_index_or (insert targets position target) i d ≡ slice_index_or targets index d)
+still_in targets position target index within inside = by (dec_le position index) where
+  long : length (insert targets position target) ≡ length targets + 1
+  long = length-insert targets position target within
+
+  by : Dec (position ≤ index) → (i : ℕ) × (i < length (insert targets position target))
+      × ((d : Target) → slice_index_or (insert targets position target) i d ≡ slice_index_or targets index d)
+  by (yes from) = (
+    index + 1,
+    omega (arith, long, inside),
+    λ d. get_or-insert_above targets position target d index from within,
+  )
+  by (no less) = (
+    index,
+    omega (arith, long, inside),
+    λ d. get_or-insert_below targets position target d index (lt_of_not-le less) within,
+  )
+
+module _ (octets : List ℕ) (targets : List Target) (target : Target) (position : ℕ)
+    (are : AreTargets octets targets) (whole : IsWhole octets target.at) (near : target.at ≤ 16383)
+    (digested : target.digest ≡ digest_of (label_at octets target.at)) (few : target.pointers ≤ 126)
+    (is : IsPosition octets targets (key_of octets target) position)
+    (none : HasNoKey octets targets (key_of octets target)) where
+  comes_after : (k : ℕ) (d : Target) (reported : Ordering) → position ≤ k → k < length targets
+      → key_cmp octets (slice_index_or targets k d) (key_of octets target) ≡ reported
+      → key_cmp octets target (key_of octets (slice_index_or targets k d)) ≡ Ordering.Less
+  comes_after k d Ordering.Less from inside reported = absurd (is.after k d from inside reported)
+  comes_after k d Ordering.Equal from inside reported =
+      absurd (none k (key_there octets targets (key_of octets target) k d inside reported))
+  comes_after k d Ordering.Greater from inside reported =
+      nat_list_cmp_total.antisymm (key_of octets target) (key_of octets (slice_index_or targets k d))
+      ∙ ap ordering_reverse reported
+
+  pub targets_added : AreTargets octets (insert targets position target)
+  targets_added = record {
+    whole = all_insert (λ t. IsWhole octets t.at) position targets target are.whole whole;
+    near = all_insert (λ t. t.at ≤ 16383) position targets target are.near near;
+    digested = all_insert (λ t. t.digest ≡ digest_of (label_at octets t.at)) position targets target are.digested
+        digested;
+    few = all_insert (λ t. t.pointers ≤ 126) position targets target are.few few;
+    less = pairs_insert (λ s t. key_cmp octets s (key_of octets t) ≡ Ordering.Less) position targets target is.within
+        are.less is.before (λ k d from inside. comes_after k d _ from inside refl);
+  }
+
+-- ---- names with another
 
 -- A name that isn't there may be kept: its first label is at its place, which a pointer can express and no other name
 -- has, and what follows is there.
@@ -29,7 +109,7 @@ pub record MayBeKept (octets : List ℕ) (names : Names) (label : List ℕ) (res
 
 module _ (octets : List ℕ) (targets : List Target) (names : Names) (agrees : Agrees octets targets names)
     (label : List ℕ) (rest : List (List ℕ)) (place : Place) (may : MayBeKept octets names label rest place) where
-  all_names : Names
+  abbrev all_names : Names
   all_names = put names (label ∷ rest) place
 
   apart : (labels : List (List ℕ)) → IsTrue (is_there names labels) → ¬ (labels ≡ label ∷ rest)
@@ -39,7 +119,6 @@ module _ (octets : List ℕ) (targets : List Target) (names : Names) (agrees : A
       some_or_none (get names (l ∷ labels)) found.0 found.1 (ap (get names) same ∙ may.new)
 
   get_stays : (labels : List (List ℕ)) → IsTrue (is_there names labels) → get all_names labels ≡ get names labels
-  unfolding all_names
   get_stays labels there = get_other names (label ∷ rest) labels place (apart labels there)
 
   target_stays : (l : List ℕ) (labels : List (List ℕ)) (p : Place) → IsTrue (is_there names labels)
@@ -51,11 +130,10 @@ module _ (octets : List ℕ) (targets : List Target) (names : Names) (agrees : A
   there_stays : (labels : List (List ℕ)) → IsTrue (is_there names labels) → IsTrue (is_there all_names labels)
   there_stays labels there = alike_there all_names names labels (get_stays labels there) ∙ there
 
-  target : Target
+  abbrev target : Target
   target = target_of names label rest place
 
   key_is : key_of octets target ≡ name_key names label rest
-  unfolding target
   key_is = ap (key (place_of names rest)) may.label_is
 
   -- no target has its key
@@ -66,7 +144,7 @@ module _ (octets : List ℕ) (targets : List Target) (names : Names) (agrees : A
       some_or_none (get names (label ∷ rest)) found.0 found.1 may.new
 
   module _ (position : ℕ) (is : IsPosition octets targets (name_key names label rest) position) where
-    all_targets : List Target
+    abbrev all_targets : List Target
     all_targets = insert targets position target
 
     at_position : IsPosition octets targets (key_of octets target) position
@@ -77,7 +155,6 @@ module _ (octets : List ℕ) (targets : List Target) (names : Names) (agrees : A
 
     held_added : (index : ℕ) (d : Target) → index < length all_targets
         → IsOfName all_names (slice_index_or all_targets index d)
-    unfolding all_targets all_names target
     held_added =
         all_insert (IsOfName all_names) position targets target
         (λ index d within.
@@ -99,7 +176,6 @@ module _ (octets : List ℕ) (targets : List Target) (names : Names) (agrees : A
         })
 
     new_has : HasTarget octets all_targets all_names label rest place
-    unfolding all_targets target
     new_has = record {
       label_is = may.label_is;
       whole = may.whole;
@@ -113,7 +189,6 @@ module _ (octets : List ℕ) (targets : List Target) (names : Names) (agrees : A
 
     old_has : (l : List ℕ) (r : List (List ℕ)) (p : Place) → HasTarget octets targets names l r p
         → HasTarget octets all_targets all_names l r p
-    unfolding all_targets target
     old_has l r p has =
         let still = still_in targets position target has.index is.within has.within in
         record {
@@ -128,47 +203,30 @@ module _ (octets : List ℕ) (targets : List Target) (names : Names) (agrees : A
 
     all_added : (l : List ℕ) (r : List (List ℕ)) (p : Place) → get all_names (l ∷ r) ≡ Some p
         → HasTarget octets all_targets all_names l r p
-    unfolding all_names
-    all_added l r p found = by_name (same_or_other (l ∷ r) (label ∷ rest)) where
-      by_name : ((l ∷ r) ≡ (label ∷ rest)) ⊎ ¬ ((l ∷ r) ≡ (label ∷ rest)) → HasTarget octets all_targets all_names l r p
-      by_name (inl same) =
-          let one : p ≡ place = one_place p place
-          (sym found ∙ ap (get (put names (label ∷ rest) place)) same ∙ get_new names (label ∷ rest) place) in
+    all_added l r p found = by_name (put_cases names (label ∷ rest) place (l ∷ r) p found) where
+      by_name : (((l ∷ r) ≡ (label ∷ rest)) × (p ≡ place)) ⊎ (get names (l ∷ r) ≡ Some p)
+          → HasTarget octets all_targets all_names l r p
+      by_name (inl (same, one)) =
           subst (λ p. HasTarget octets all_targets all_names l r p) (sym one)
           (subst (λ l. HasTarget octets all_targets all_names l r place)
           (sym (ap (λ xs. slice_index_or xs 0 []) same))
           (subst (λ r. HasTarget octets all_targets all_names label r place) (sym (ap (drop 1) same)) new_has))
-      by_name (inr other) =
-          old_has l r p (agrees.all l r p (sym (get_other names (label ∷ rest) (l ∷ r) place other) ∙ found))
+      by_name (inr found) = old_has l r p (agrees.all l r p found)
 
     once_added : (labels others : List (List ℕ)) (p o : Place) → get all_names labels ≡ Some p
         → get all_names others ≡ Some o → p.at ≡ o.at → labels ≡ others
-    unfolding all_names
     once_added labels others p o one two at =
-        by_name (same_or_other labels (label ∷ rest)) (same_or_other others (label ∷ rest)) where
-          new_place : (q : List (List ℕ)) (x : Place) → q ≡ label ∷ rest
-              → get (put names (label ∷ rest) place) q ≡ Some x → x.at ≡ place.at
-          new_place q x same found =
-              ap (λ x. x.at) (one_place x place
-              (sym found ∙ ap (get (put names (label ∷ rest) place)) same ∙ get_new names (label ∷ rest) place))
-
-          old_place : (q : List (List ℕ)) (x : Place) → ¬ (q ≡ label ∷ rest)
-              → get (put names (label ∷ rest) place) q ≡ Some x → get names q ≡ Some x
-          old_place q x other found = sym (get_other names (label ∷ rest) q place other) ∙ found
-
-          by_name : (labels ≡ label ∷ rest) ⊎ ¬ (labels ≡ label ∷ rest)
-              → (others ≡ label ∷ rest) ⊎ ¬ (others ≡ label ∷ rest) → labels ≡ others
-          by_name (inl same) (inl other) = same ∙ sym other
-          by_name (inl same) (inr other) =
-              absurd (may.fresh others o (old_place others o other two) (sym at ∙ new_place labels p same one))
-          by_name (inr same) (inl other) =
-              absurd (may.fresh labels p (old_place labels p same one) (at ∙ new_place others o other two))
-          by_name (inr same) (inr other) =
-              agrees.once labels others p o (old_place labels p same one) (old_place others o other two) at
+        by_name (put_cases names (label ∷ rest) place labels p one) (put_cases names (label ∷ rest) place others o two)
+      where
+        by_name : ((labels ≡ label ∷ rest) × (p ≡ place)) ⊎ (get names labels ≡ Some p)
+            → ((others ≡ label ∷ rest) × (o ≡ place)) ⊎ (get names others ≡ Some o) → labels ≡ others
+        by_name (inl one) (inl other) = one.0 ∙ sym other.0
+        by_name (inl one) (inr found) = absurd (may.fresh others o found (sym at ∙ ap (λ x. x.at) one.1))
+        by_name (inr found) (inl other) = absurd (may.fresh labels p found (at ∙ ap (λ x. x.at) other.1))
+        by_name (inr one) (inr other) = agrees.once labels others p o one other at
 
     pub agrees_added : Agrees octets (insert targets position (target_of names label rest place))
         (put names (label ∷ rest) place)
-    unfolding all_targets all_names target
     agrees_added = record {
       targets_are = targets_added octets targets target position agrees.targets_are may.whole may.near
           (sym (ap digest_of may.label_is)) may.few

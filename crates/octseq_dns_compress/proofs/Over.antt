@@ -1,15 +1,13 @@
 -- Targets in a message some of whose octets are overwritten: labels before and after them stay.
-use Rattle.std.specs.Prelude.{slice_index_or, nat_lt}
-use Rattle.std.proofs.lemmas.Bool.{ltb-false, ltb-true}
-use Rattle.std.proofs.Common.{Bool, true, false, refl}
-use Rattle.std.proofs.Common.{◌≡◌, ℕ, ◌+◌, ◌-◌, ◌<◌, ◌≤◌, ◌⊎◌, inl, inr, List, ◌++◌, length, take, drop, ap, ◌∙◌, sym}
-use Rattle.std.proofs.Common.{subst, arith, append_assoc, length-append, length-drop}
+use Rattle.std.proofs.Common.{slice_index_or, nat_lt, ltb-false, ltb-true, Bool, true, false, refl, ◌≡◌, ℕ, ◌+◌, ◌-◌}
+use Rattle.std.proofs.Common.{◌<◌, ◌≤◌, ◌⊎◌, inl, inr, List, ◌++◌, length, take, drop, ap, ◌∙◌, sym, subst, arith}
+use Rattle.std.proofs.Common.{append_assoc, length-append, length-drop, get_or-drop, length-take, take-append-drop}
+use Rattle.std.proofs.Common.{take-take, All}
 use Rattle.std.proofs.Math.Seq.{take-append-add}
-use Rattle.std.proofs.lemmas.List.{get_or-drop, length-take, take-append-drop, take-append-le, take-take, drop-take}
+use Rattle.std.proofs.lemmas.List.{take-append-le, drop-take}
 use Rattle.std.proofs.lemmas.Slice.{drop-append-drop}
 use Rattle.std.proofs.Math.Logic.{∥∥₁_elim}
 use Rattle.std.specs.Coded.{le_prop}
-use Rattle.std.specs.List.{All}
 use Rattle.octseq_dns_compress.specs.Apart.{AreApart}
 use Rattle.octseq_dns_compress.specs.Composed.{Composed}
 use Rattle.octseq_dns_compress.specs.Key.{label_at, IsWhole}

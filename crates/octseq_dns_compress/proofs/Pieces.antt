@@ -1,15 +1,13 @@
 -- Reading a name that was written with the names that pointers may lead to.
-use Rattle.std.specs.Prelude.{if◌then◌else◌}
-use Rattle.std.proofs.lemmas.Bool.{ne_eqb}
-use Rattle.std.proofs.Common.{◌≡◌, ℕ, suc, ◌+◌, ◌/◌, ◌%◌, ◌<◌, ◌≤◌, Option, Some, None, List, [], ◌∷◌, ◌++◌}
-use Rattle.std.proofs.Common.{length, length-append, append_assoc, is_some, refl, sym, ap, ◌∙◌, subst, arith}
+use Rattle.std.proofs.Common.{if◌then◌else◌, ne_eqb, ◌≡◌, ℕ, suc, ◌+◌, ◌/◌, ◌%◌, ◌<◌, ◌≤◌, Option, Some, None, List, []}
+use Rattle.std.proofs.Common.{◌∷◌, ◌++◌, length, length-append, append_assoc, is_some, refl, sym, ap, ◌∙◌, subst, arith}
 use Rattle.std.specs.FinMap.{get}
 use Rattle.std.specs.Option.{option_or}
 use Rattle.octseq.specs.Integer.{be}
 use Rattle.octseq.specs.Window.{Window, rest, next, past, at}
 use Rattle.octseq.proofs.WindowsAfter.{front_comes_next}
-use Rattle.octseq_dns_compress.specs.Names.{Names, Place, at_or_zero, ended, first_labels, last_place, unrooted, name_octets}
-use Rattle.octseq_dns_compress.specs.Names.{pointers_from}
+use Rattle.octseq_dns_compress.specs.Names.{Names, Place, at_or_zero, ended, first_labels, last_place, unrooted}
+use Rattle.octseq_dns_compress.specs.Names.{name_octets, pointers_from}
 use Rattle.octseq_dns_name.specs.Name.{HasRoot, HasLabel, HasPointer, HasLabels, octet}
 use Rattle.octseq.proofs.Written.{be_one}
 use Rattle.octseq_dns_name.specs.Wire.{AreLabels}

@@ -1,15 +1,23 @@
 -- Labels with their length octets, and their offsets.
-use Rattle.std.specs.Prelude.{slice_index_or}
-use Rattle.std.proofs.Common.{◌≡◌, ℕ, zero, suc, ◌+◌, ◌-◌, ◌<◌, ◌≤◌, List, [], ◌∷◌, ◌++◌, length, take, drop, refl}
-use Rattle.std.proofs.Common.{sym, ap, subst}
-use Rattle.std.proofs.Common.{◌∙◌, arith, append_assoc, length-append}
-use Rattle.std.proofs.lemmas.List.{drop-drop, drop_more, flat_map_more, get_or-map, length-drop, length-map, length-take}
-use Rattle.std.proofs.lemmas.List.{take_more, take-take}
-use Rattle.std.proofs.Math.Seq.{take-add, take-append_seam, drop-append_seam, get_or-append_seam}
-use Rattle.octseq_dns_name.specs.Name.{wire_length}
+use Rattle.std.proofs.Common.{slice_index_or, ◌≡◌, ℕ, zero, suc, ◌+◌, ◌-◌, ◌<◌, ◌≤◌, List, [], ◌∷◌, ◌++◌, length, take}
+use Rattle.std.proofs.Common.{drop, refl, sym, ap, subst, ◌∙◌, arith, append_assoc, length-append, drop-drop}
+use Rattle.std.proofs.Common.{length-drop, length-take, take-take, take-add, slice_set}
+use Rattle.std.proofs.lemmas.List.{drop_more, flat_map_more, get_or-map, length-map, take_more, map-append}
+use Rattle.std.proofs.lemmas.List.{take_more_set}
+use Rattle.std.proofs.Math.Seq.{take-append_seam, drop-append_seam, get_or-append_seam}
+use Rattle.octseq_dns_name.specs.Name.{wire_length, HasLabel, octet}
 use Rattle.octseq_dns_compress.specs.Key.{label_at, IsWhole}
 use Rattle.octseq_dns_compress.specs.Names.{label_no, prefixed, unrooted}
 use Rattle.octseq_dns_compress.specs.PlainName.{label_of, labels_at, AreWhole}
+use Rattle.std.proofs.lemmas.List.Elements.{All-append}
+use Rattle.octseq.specs.declared.AsOctets.{Ghosts}
+use Rattle.octseq.specs.declared.parse.Parser.{Parser}
+use Rattle.octseq.specs.Integer.{be}
+use Rattle.octseq.specs.Parser.{sequence, window}
+use Rattle.octseq.specs.Part.{part}
+use Rattle.octseq.specs.Window.{Window, rest, at}
+use Rattle.octseq.proofs.Written.{be_one}
+use Rattle.octseq_dns_name.specs.NextLabel.{NextLabel}
 
 -- the octets are those of the first labels, followed by those of the others
 pub front_and_rest : (index : ℕ) (labels : List (List ℕ))
@@ -161,3 +169,82 @@ module _ (octets starts : List ℕ) (start end index : ℕ) (front : List ℕ) (
   run_inside =
       let size = length-map starts (label_of octets) in
       subst (IsWhole octets) here (whole index 0 (omega (arith, inside, size)))
+
+-- ---- labels that are left of a name
+
+-- The octet before a label's octets is its length, and the label is whole.
+pub record IsPlace (w place on : Window) : Type 0 where
+  pub octets : on.octets ≡ w.octets
+  pub end : on.end ≡ w.end
+  pub after : 1 ≤ place.position
+  pub whole : IsWhole w.octets (place.position - 1)
+  pub label_is : label_of w.octets (place.position - 1) ≡ rest place
+  pub some : 1 ≤ length (rest place)
+
+-- an octet that is there
+octet_is : (w : Window) → w.position < length w.octets → octet w ≡ slice_index_or w.octets w.position 0
+octet_is w within =
+    let p = w.position in
+    let one : p + 1 - p ≡ 1 = omega arith in
+    ap be (ap (λ n. take n (drop p w.octets)) one ∙ ap (take 1) (drop_more w.octets p 0 within))
+    ∙ be_one (slice_index_or w.octets p 0)
+
+-- so is the octet before a label that is here
+here_is : (w on : Window) (l : List ℕ) → w.end ≤ length w.octets → HasLabel w l on → IsPlace w (part 1 w) on
+here_is w on l within has =
+    let p = w.position in
+    let same : p + 1 - 1 ≡ p = omega arith in
+    let room = has.room in
+    let long = has.whole in
+    let some = has.some in
+    let len = octet_is w (omega (arith, room, within)) in
+    let whole : IsWhole w.octets p = omega (arith, long, len, within, room) in
+    let taken : p + 1 + octet w - (p + 1) ≡ slice_index_or w.octets p 0 = omega (arith, len) in
+    let is : label_of w.octets p ≡ rest (part 1 w) =
+    label_of_taken w.octets p whole ∙ ap (λ n. take n (drop (p + 1) w.octets)) (sym taken) in
+    let size = length-take (p + 1 + octet w - (p + 1)) (drop (p + 1) w.octets) in
+    let left = length-drop (p + 1) w.octets in
+    record {
+      octets = ap (λ v. v.octets) has.after;
+      end = ap (λ v. v.end) has.after;
+      after = omega arith;
+      whole = subst (IsWhole w.octets) (sym same) whole;
+      label_is = ap (label_of w.octets) same ∙ is;
+      some = omega (arith, size, left, taken, whole, len, some);
+    }
+
+-- and before the next label, wherever it is
+pub next_place : (start : ℕ) (w place on : Window) (began : ℕ) → w.end ≤ length w.octets
+    → NextLabel start w place began on → IsPlace w place on
+next_place start w place on began within (NextLabel.here {l = l} has is) =
+    subst (λ place. IsPlace w place on) (sym is) (here_is w on l within has)
+next_place start w place on began within (NextLabel.pointed {to = to} has more) =
+    let it = next_place to (at to w) place on began within more in
+    record { octets = it.octets; end = it.end; after = it.after; whole = it.whole; label_is = it.label_is; some = it.some }
+
+-- one more offset is known
+module _ (octets starts : List ℕ) (count place : ℕ) (within : count < length starts) where
+  more_set : take (count + 1) (slice_set starts count place) ≡ take count starts ++ place ∷ []
+  more_set = take_more_set starts count place within
+
+  pub more_whole : AreWhole octets (take count starts) → IsWhole octets place
+      → AreWhole octets (take (count + 1) (slice_set starts count place))
+  more_whole all one = subst (AreWhole octets) (sym more_set)
+      (All-append (IsWhole octets) (take count starts) (place ∷ []) all only) where
+        only : AreWhole octets (place ∷ [])
+        only zero d inside = one
+        only (suc k) d inside = absurd (omega (arith, inside))
+
+  pub more_labels : (label : List ℕ) (left all : List (List ℕ)) → label_of octets place ≡ label
+      → labels_at octets (take count starts) ++ (label ∷ left) ≡ all
+      → labels_at octets (take (count + 1) (slice_set starts count place)) ++ left ≡ all
+  more_labels label left all is are =
+      ap (λ s. labels_at octets s ++ left) more_set
+      ∙ ap (λ labels. labels ++ left) (map-append (label_of octets) (take count starts) (place ∷ []))
+      ∙ append_assoc (labels_at octets (take count starts)) (label_of octets place ∷ []) left
+      ∙ ap (λ l. labels_at octets (take count starts) ++ (l ∷ left)) is ∙ are
+
+-- a name is read from the octets of its window
+pub source_is : {R : Type 0} {g : Ghosts R} (octets : List ℕ) (source : R) (parser : Parser R g) (w : Window)
+    → octets ≡ g.content source → source ≡ sequence parser → window parser ≡ w → octets ≡ w.octets
+source_is {g = g} octets source parser w is from at = is ∙ ap g.content from ∙ ap (λ w. w.octets) at

@@ -1,9 +1,7 @@
 -- Searching for the labels of a name, the last one first.
-use Rattle.std.specs.Prelude.{slice_index_or, IsTrue, if◌then◌else◌}
-use Rattle.std.proofs.Common.{◌≡◌, ℕ, zero, suc, ◌+◌, ◌-◌, ◌<◌, ◌≤◌, None, List, [], ◌∷◌, length, take, drop, refl, sym}
-use Rattle.std.proofs.Common.{ap, ◌∙◌, subst, arith, is_some}
-use Rattle.std.proofs.Math.Bool.{true≢false}
-use Rattle.std.proofs.lemmas.List.{drop-drop, length-drop}
+use Rattle.std.proofs.Common.{slice_index_or, IsTrue, if◌then◌else◌, ◌≡◌, ℕ, zero, suc, ◌+◌, ◌-◌, ◌<◌, ◌≤◌, None, List}
+use Rattle.std.proofs.Common.{[], ◌∷◌, length, take, drop, refl, sym, ap, ◌∙◌, subst, arith, is_some, true≢false}
+use Rattle.std.proofs.Common.{drop-drop, length-drop}
 use Rattle.std.specs.FinMap.{get}
 use Rattle.std.specs.Option.{option_or}
 use Rattle.octseq_dns_compress.specs.Agrees.{Agrees}
@@ -11,7 +9,8 @@ use Rattle.octseq_dns_compress.specs.Ending.{Ends}
 use Rattle.octseq_dns_compress.specs.FoundNames.{place_there, none_found}
 use Rattle.octseq_dns_compress.specs.Key.{key, HasKeyAt, HasNoKey}
 use Rattle.octseq_dns_compress.specs.Known.{found, missing}
-use Rattle.octseq_dns_compress.specs.Names.{Names, at_or_zero, is_there, first_labels, label_no, last_place, pointers_from, prefixed}
+use Rattle.octseq_dns_compress.specs.Names.{Names, at_or_zero, is_there, first_labels, label_no, last_place}
+use Rattle.octseq_dns_compress.specs.Names.{pointers_from, prefixed}
 use Rattle.octseq_dns_compress.specs.declared.table.Target.{Target}
 use Rattle.octseq_dns_compress.proofs.PlainLabels.{one_left}
 

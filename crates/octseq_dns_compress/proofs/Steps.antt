@@ -1,6 +1,6 @@
 -- Octets that come after others.
-use Rattle.std.proofs.Common.{◌≡◌, ℕ, ◌≤◌, Bool, Option, Ok, Err, List, [], ◌++◌, length, length-append, sym}
-use Rattle.std.proofs.Common.{ap, ◌∙◌, arith, append-nil, Result}
+use Rattle.std.proofs.Common.{◌≡◌, ℕ, ◌≤◌, Bool, Option, Ok, Err, List, [], ◌++◌, length, length-append, sym, ap, ◌∙◌}
+use Rattle.std.proofs.Common.{arith, append-nil, Result}
 use Rattle.octseq.specs.Appends.{Appends}
 use Rattle.octseq.specs.declared.AppendError.{AppendError}
 

@@ -1,7 +1,6 @@
 -- Labels that are apart from the two octets before an offset.
-use Rattle.std.specs.Prelude.{ℕ, ◌+◌, ◌<◌, ◌≤◌, List, slice_index_or}
+use Rattle.std.specs.Prelude.{ℕ, ◌+◌, ◌<◌, ◌≤◌, List, slice_index_or, All}
 use Rattle.std.specs.Coded.{le_prop}
-use Rattle.std.specs.List.{All}
 use Rattle.octseq_dns_compress.specs.declared.table.Target.{Target}
 
 -- the label of a target ends before the two octets before an offset, or begins after them

@@ -1,6 +1,5 @@
 -- A message that is being composed, as contracts see it.
-use Rattle.std.specs.Prelude.{◌≡◌, ℕ, Option, Some, None, List, length, min, nat_lt, Result, OnOk}
-use Rattle.std.specs.List.{filter}
+use Rattle.std.specs.Prelude.{◌≡◌, ℕ, Option, Some, None, List, length, min, nat_lt, Result, OnOk, filter}
 use Rattle.octseq.specs.Limit.{IsPast, IsWithin}
 use Rattle.octseq.specs.Refusal.{IsShort, IsMemory, append_error}
 use Rattle.octseq.specs.declared.AppendError.{AppendError}

@@ -3,7 +3,8 @@ use Rattle.std.specs.Prelude.{◌≡◌, ℕ, ◌-◌, ◌<◌, None, List, ◌�
 use Rattle.std.specs.FinMap.{get}
 use Rattle.octseq_dns_compress.specs.Agrees.{place_of}
 use Rattle.octseq_dns_compress.specs.Key.{key, IsPosition}
-use Rattle.octseq_dns_compress.specs.Names.{Names, is_there, first_labels, label_no, last_place, pointers_from, prefixed}
+use Rattle.octseq_dns_compress.specs.Names.{Names, is_there, first_labels, label_no, last_place, pointers_from}
+use Rattle.octseq_dns_compress.specs.Names.{prefixed}
 use Rattle.octseq_dns_compress.specs.declared.search.Ending.{Ending}
 use Rattle.octseq_dns_compress.specs.declared.table.Target.{Target}
 

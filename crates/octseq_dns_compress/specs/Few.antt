@@ -1,6 +1,5 @@
 -- Tables hold at most one target for each offset that a pointer can express.
-use Rattle.std.specs.Prelude.{ℕ, ◌≤◌, min}
-use Rattle.std.proofs.Common.{arith}
+use Rattle.std.proofs.Common.{ℕ, ◌≤◌, min, arith}
 
 pub array_few : (n : ℕ) → min n 16384 ≤ 16384
 array_few n = omega arith

@@ -1,8 +1,6 @@
 -- Looking up labels among names that are kept.
-use Rattle.std.specs.Prelude.{◌≡◌, ℕ, Bool, true, false, cond, Option, Some, None, List, [], ◌∷◌, refl, IsTrue}
-use Rattle.std.specs.Prelude.{is_some}
-use Rattle.std.proofs.Common.{◌⊎◌, inl, inr, sym, ap, ◌∙◌}
-use Rattle.std.proofs.Math.Bool.{true≢false}
+use Rattle.std.proofs.Common.{◌≡◌, ℕ, Bool, true, false, cond, Option, Some, None, List, [], ◌∷◌, refl, IsTrue, is_some}
+use Rattle.std.proofs.Common.{◌⊎◌, inl, inr, sym, ap, ◌∙◌, true≢false}
 use Rattle.std.proofs.lemmas.Cmp.{lists_total, nat_list_cmp_total, eq_by_cmp_equiv}
 use Rattle.std.specs.Cmp.{IsTotalOrder, Equal-is}
 use Rattle.std.specs.FinMap.{get, insert, get-insert, IsAntisymmetric, slice_cmp-IsAntisymmetric}
@@ -81,18 +79,26 @@ pub some_or_none : (a : Option Place) (place : Place) → a ≡ Some place → �
 some_or_none a place some none = true≢false (ap is_some (sym some ∙ none))
 
 -- labels are equal or they differ
-pub same_or_other : (labels others : List (List ℕ)) → (labels ≡ others) ⊎ ¬ (labels ≡ others)
+same_or_other : (labels others : List (List ℕ)) → (labels ≡ others) ⊎ ¬ (labels ≡ others)
 same_or_other labels others = by_test (eq_by_cmp labels_cmp labels others) refl where
   by_test : (reported : Bool) → eq_by_cmp labels_cmp labels others ≡ reported → (labels ≡ others) ⊎ ¬ (labels ≡ others)
   by_test true is = inl (labels_alike labels others ((Equal-is (labels_cmp labels others)).0 is))
   by_test false is = inr (λ same. true≢false
       (sym (ap (eq_by_cmp labels_cmp labels) (sym same) ∙ (eq_by_cmp_equiv labels_total).refl labels) ∙ is))
 
--- the place that was found, or a given one
-place_or : Place → Option Place → Place
-place_or other (Some place) = place
-place_or other None = other
+-- what is found after a name is inserted is that name, or was found before
+pub put_cases : (names : Names) (labels : List (List ℕ)) (place : Place) (others : List (List ℕ)) (other : Place)
+    → get (insert names labels place) others ≡ Some other
+    → ((others ≡ labels) × (other ≡ place)) ⊎ (get names others ≡ Some other)
+put_cases names labels place others other found = by_name (same_or_other others labels) where
+  place_or : Option Place → Place
+  place_or (Some place) = place
+  place_or None = other
 
-pub one_place : (place other : Place) → Some place ≡ Some other → place ≡ other
-unfolding place_or
-one_place place other same = ap (place_or place) same
+  by_name : (others ≡ labels) ⊎ ¬ (others ≡ labels)
+      → ((others ≡ labels) × (other ≡ place)) ⊎ (get names others ≡ Some other)
+  by_name (inl same) = inl (
+    same,
+    ap place_or (sym found ∙ ap (get (insert names labels place)) same ∙ get_new names labels place),
+  )
+  by_name (inr apart) = inr (sym (get_other names labels others place apart) ∙ found)

@@ -1,14 +1,13 @@
 -- The names that targets belong to. A name is found by its key, so there is only one table of these names.
-use Rattle.std.specs.Prelude.{◌≡◌, ℕ, Some, None, List, [], ◌∷◌, length, drop, slice_index_or}
-use Rattle.std.specs.Prelude.{IsTrue, refl}
-use Rattle.std.proofs.Common.{sym, ap, ◌∙◌, subst, arith}
+use Rattle.std.proofs.Common.{◌≡◌, ℕ, Some, None, List, [], ◌∷◌, length, drop, slice_index_or, IsTrue, refl, sym, ap}
+use Rattle.std.proofs.Common.{◌∙◌, subst, arith}
 use Rattle.std.proofs.Math.Logic.{∥∥₁_prop, ∥∥₁_elim}
 use Rattle.std.specs.Coded.{Coded, Coded-set, coded_list, coded_ℕ, coded×, code_by}
 use Rattle.std.specs.FinMap.{get, code, same_map}
 use mathlib.Core.HLevel.{Σ_prop_path}
 use Rattle.octseq_dns_compress.specs.Agrees.{Agrees, HasTarget, place_of, target_of}
-use Rattle.octseq_dns_compress.specs.FoundNames.{labels_total, labels_alike, alike_there, place_there}
-use Rattle.octseq_dns_compress.specs.FoundNames.{found_alike, none_found}
+use Rattle.octseq_dns_compress.specs.FoundNames.{labels_total, labels_alike, alike_there, place_there, found_alike}
+use Rattle.octseq_dns_compress.specs.FoundNames.{none_found}
 use Rattle.octseq_dns_compress.specs.Key.{key, key_of, HasKeyAt, HasNoKey}
 use Rattle.octseq_dns_compress.specs.Names.{Names, Place, at_or_zero, is_there, prefixed}
 use Rattle.octseq_dns_compress.specs.declared.table.Target.{Target}

@@ -1,7 +1,6 @@
 -- Labels by their offsets.
-use Rattle.std.specs.Prelude.{ℕ, List, map, drop}
+use Rattle.std.specs.Prelude.{ℕ, List, map, drop, All}
 use Rattle.std.specs.Coded.{le_prop}
-use Rattle.std.specs.List.{All}
 use Rattle.octseq_dns_compress.specs.Key.{label_at, IsWhole}
 
 -- the octets of the label at an offset, without its length octet

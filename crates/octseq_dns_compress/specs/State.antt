@@ -1,6 +1,5 @@
 -- What a message becomes when fields, entries of fields, or lists of entries are appended.
-use Rattle.std.specs.Prelude.{ℕ, ◌+◌, Option, Some, None, List, [], ◌∷◌, ◌++◌, length, drop, refl}
-use Rattle.std.specs.List.{sum_by}
+use Rattle.std.specs.Prelude.{ℕ, ◌+◌, Option, Some, None, List, [], ◌∷◌, ◌++◌, length, drop, refl, sum_by}
 use Rattle.std.specs.Coded.{Coded, code_by, coded×, coded_list, coded_ℕ}
 use Rattle.octseq.specs.Part.{part_of}
 use Rattle.octseq_dns_compress.specs.Known.{names_code}

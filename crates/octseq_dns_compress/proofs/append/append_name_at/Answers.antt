@@ -1,11 +1,9 @@
-use Rattle.std.proofs.Common.{◌++◌, ap, ◌∙◌, length, length-append, take, arith}
-use Rattle.std.proofs.lemmas.List.{length-take}
+use Rattle.std.proofs.Common.{◌++◌, ap, ◌∙◌, length, length-append, take, arith, length-take}
 use Rattle.octseq_dns_compress.specs.Names.{ended, unrooted}
 use Rattle.octseq_dns_compress.specs.PlainNames.{plain_labels}
-use Rattle.octseq_dns_compress.proofs.Composing.{ending_of, name_refused, name_appended, name_taken_back}
+use Rattle.octseq_dns_compress.proofs.Composes.{ending_of, name_refused, name_appended, name_taken_back}
 use Rattle.octseq_dns_compress.proofs.Grown.{known_targets}
-use Rattle.octseq_dns_compress.proofs.Places.{source_is}
-use Rattle.octseq_dns_compress.proofs.PlainLabels.{unrooted_longer}
+use Rattle.octseq_dns_compress.proofs.PlainLabels.{source_is, unrooted_longer}
 use Rattle.octseq_dns_compress.proofs.append.append_name_at.Goals as goal
 
 pub search-ending-requires-clause-targets : goal.search-ending-requires-clause-targets

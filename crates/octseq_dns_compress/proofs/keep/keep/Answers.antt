@@ -1,15 +1,12 @@
-use Rattle.std.proofs.Common.{◌≤◌, ◌<◌, ◌-◌, ap, ◌∙◌, refl, sym, length, arith}
-use Rattle.std.proofs.Math.Bool.{true≢false}
-use Rattle.std.specs.Prelude.{nat_lt}
-use Rattle.std.specs.List.{filter}
+use Rattle.std.proofs.Common.{◌≤◌, ◌<◌, ◌-◌, ap, ◌∙◌, refl, sym, length, arith, true≢false, nat_lt, filter}
 use Rattle.std.proofs.lemmas.List.Edits.{length-insert}
 use Rattle.octseq_dns_compress.specs.Key.{digest_of}
 use Rattle.octseq_dns_compress.specs.PlainNames.{plain_labels}
 use Rattle.octseq_dns_compress.proofs.Keeping.{none_before, kept_none, kept_yet, kept_at, kept_far, kept_full, kept_all}
 use Rattle.octseq_dns_compress.proofs.PlainLabels.{last_label}
-use Rattle.octseq_dns_compress.proofs.keep.keep.Goals as goal
 use Rattle.octseq_dns_compress.proofs.keep.keep.Goals.{then-at-gt-PLACE_MAX-via-then-at-gt-PLACE_MAX}
 use Rattle.octseq_dns_compress.proofs.keep.keep.Goals.{then-at-gt-PLACE_MAX-via-else-at-gt-PLACE_MAX+then-is_full}
+use Rattle.octseq_dns_compress.proofs.keep.keep.Goals as goal
 
 pub returns-then-ending-gt-POINTERS_MAX-clause-kept : goal.returns-then-ending-gt-POINTERS_MAX-clause-kept
 returns-then-ending-gt-POINTERS_MAX-clause-kept g c octets names agrees ends written =
@@ -54,17 +51,14 @@ returns-then-at-gt-PLACE_MAX-clause-kept g c octets names agrees ends written =
     let begin = last_label (plain_labels c.args.name.now) c.labels.left c.label-label.result.now some
     (let within = so_far.within in let all = c.requires.written in omega (arith, within, all)) c.label-label.ensures in
     let end = so_far.end in
-    let size = ap length c.label-label.ensures in
     let at = c.labels.end - length c.label-label.result.now in
     elim c.then-at-gt-PLACE_MAX.branch [
       | then-at-gt-PLACE_MAX-via-then-at-gt-PLACE_MAX w ↦
           kept_far g.T.Compressor.most agrees ends c.requires.written written kept some so_far.within at
-          (omega (arith, begin, end))
-          (omega (arith, begin, end, size)) w.if-at-gt-PLACE_MAX.true
+          (omega (arith, begin, end)) w.if-at-gt-PLACE_MAX.true
       | then-at-gt-PLACE_MAX-via-else-at-gt-PLACE_MAX+then-is_full w ↦
           kept_full g.T.Compressor.most agrees ends c.requires.written written kept some so_far.within at
-          (omega (arith, begin, end))
-          (omega (arith, begin, end, size)) (w.if-is_full.ensures.0 refl)
+          (omega (arith, begin, end)) (w.if-is_full.ensures.0 refl)
     ]
 
 pub labels-preserved : goal.labels-preserved
@@ -83,7 +77,6 @@ labels-preserved g c =
     (omega (arith, c.labels-test.true)) (let all = c.requires.written in omega (arith, within, all))
     c.label-label.ensures in
     let end = so_far.end in
-    let size = ap length c.label-label.ensures in
     let few_pointers = c.if-ending-gt-POINTERS_MAX.false in
     let near = c.if-at-gt-PLACE_MAX.false in
     record {
@@ -101,7 +94,7 @@ labels-preserved g c =
           kept_at g.T.Compressor.most agrees ends c.requires.written written
           (so_far.kept octets names agrees ends written)
           (omega (arith, c.labels-test.true)) within (c.labels.end - length c.label-label.result.now)
-          (omega (arith, begin, end)) (omega (arith, begin, end, size)) (g.T.Compressor.held c.insert.new.self) _
+          (omega (arith, begin, end)) (g.T.Compressor.held c.insert.new.self) _
           (c.digest.ensures ∙ ap digest_of c.label-label.ensures) end
           inserted (omega (arith, near)) (omega (arith, few_pointers)) room;
     }

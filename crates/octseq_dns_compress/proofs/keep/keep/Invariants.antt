@@ -1,7 +1,5 @@
 -- The labels after those that are left are kept.
-use Rattle.std.specs.Prelude.{nat_lt}
-use Rattle.std.specs.List.{filter}
-use Rattle.std.proofs.Common.{◌≡◌, ◌≤◌, ◌+◌, ℕ, List, length, drop, take}
+use Rattle.std.proofs.Common.{nat_lt, filter, ◌≡◌, ◌≤◌, ◌+◌, ℕ, List, length, drop, take}
 use Rattle.octseq_dns_compress.specs.Agrees.{Agrees}
 use Rattle.octseq_dns_compress.specs.Ending.{IsEnding}
 use Rattle.octseq_dns_compress.specs.Names.{Names, unrooted, with_labels}

@@ -1,6 +1,5 @@
-use Rattle.std.proofs.Common.{◌≡◌, ◌+◌, ◌-◌, ◌*◌, ap, ◌∙◌, sym, length, arith, slice_index_or}
-use Rattle.std.proofs.lemmas.Bool.{lt-ltb, le-ltb}
-use Rattle.std.specs.Prelude.{if◌then◌else◌}
+use Rattle.std.proofs.Common.{◌≡◌, ◌+◌, ◌-◌, ◌*◌, ap, ◌∙◌, sym, length, arith, slice_index_or, lt-ltb, le-ltb}
+use Rattle.std.proofs.Common.{if◌then◌else◌}
 use Rattle.octseq_dns_compress.specs.Key.{digest_of}
 use Rattle.octseq_dns_compress.proofs.search.digest.Goals as goal
 

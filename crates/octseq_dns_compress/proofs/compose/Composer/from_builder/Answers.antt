@@ -1,5 +1,4 @@
-use Rattle.std.specs.Prelude.{replicate}
-use Rattle.std.proofs.Common.{◌++◌, ap, ◌∙◌}
+use Rattle.std.proofs.Common.{replicate, ◌++◌, ap, ◌∙◌}
 use Rattle.octseq_dns_compress.proofs.Messages.{none_first, sound_none, state_none}
 use Rattle.octseq_dns_compress.proofs.compose.Composer.from_builder.Goals as goal
 
