@@ -6,14 +6,12 @@ ghost use Rattle.octseq.specs.Refusal.{IsMemory, append_error};
 ghost use Rattle.octseq_dns_compress.specs.Composed.{message_limit};
 ghost use Rattle.octseq_dns_compress.specs.Fits.{NameFits};
 ghost use Rattle.octseq_dns_compress.specs.Named.{AppendsName};
-ghost use Rattle.octseq_dns_compress.specs.PlainName.{AreWhole, labels_at};
 ghost use Rattle.octseq_dns_compress.specs.Sound.{Message};
-ghost use Rattle.octseq_dns_name.specs.Name.{wire_length};
-ghost use Rattle.octseq_dns_name.specs.Read.{labels_of, place_of};
+ghost use Rattle.octseq_dns_name.specs.Read.{labels_of};
 
 use crate::encode::append_encoded;
 use crate::keep::keep;
-use crate::plain::{LABELS_MAX, PlainName, place_labels};
+use crate::plain::{LABELS_FEW, PlainName, starts_of};
 use crate::search::search;
 use crate::table::Compressor;
 use octseq::builder::AsOctetsMut;
@@ -25,9 +23,6 @@ use std::alloc::AllocError;
 
 /// The greatest length of a message: RFC 1035, 4.2.2.
 const MESSAGE_MAX: usize = 65535;
-
-/// Most names have no more labels: room for their offsets takes no time to make.
-const LABELS_FEW: usize = 8;
 
 /// Appends a slice to a message, within its limit.
 #[inline(always)]
@@ -95,74 +90,6 @@ pub(crate) fn write_over<B: AsOctetsMut>(octets: &mut B, at: usize, slice: &[u8]
     octets.as_mut()[at..at + slice.len()].copy_from_slice(slice);
 }
 
-/// Appends a name whose labels are at these offsets and have `len` octets with their length octets, and keeps its
-/// labels in the table. An error leaves both unchanged.
-fn append_name_at<B: OctetsBuilder + Truncate, T: Compressor, R: AsOctets + Copy>(
-    octets: &mut B,
-    table: &mut T,
-    name: &ParsedName<R>,
-    starts: &[usize],
-    len: usize,
-    turns: &mut Turns,
-) -> Result<(), AppendError>
-    requires whole { AreWhole (place_of name.now).octets starts.now }
-    requires labels { labels_at (place_of name.now).octets starts.now ≡ labels_of name.now }
-    requires len { len + 1 ≡ wire_length (labels_of name.now) }
-    requires message { Message T.most (B.content octets.old) (T.held table.old) }
-    ensures named { (old : Message T.most (B.content octets.old) (T.held table.old))
-        → AppendsName (message_limit B.limit) result (labels_of name.now) old (B.content octets.new)
-        (T.held table.new) }
-    ensures fits { NameFits (labels_of name.now) }
-    ensures memory { IsMemory append_error result → (B.asks ≡ true) ⊎ (T.asks ≡ true) }
-    ensures borrows { B.borrows octets.new ≡ B.borrows octets.old }
-    ensures on { turns.old ≤ turns.new }
-    ensures turns { turns.new ≤ turns.old + 17 * length (labels_of name.now) }
-    ensures least { OnOk result (turns.old + length (labels_of name.now) + length (B.content octets.old)
-        ≤ turns.new + length (B.content octets.new)) }
-{
-    a_name_has_labels(name);
-    let parser = name.parser();
-    let source = parser.octets_ref();
-    let plain = PlainName::new(source.as_ref(), starts, len, name);
-    let ending = search(octets.as_ref(), table.as_slice(), &plain, turns);
-    let start = octets.len();
-    if let Err(error) = append_encoded(octets, &plain, ending) {
-        return Err(error);
-    }
-    if let Err(AllocError) = keep(table, &plain, ending, start, turns) {
-        octets.truncate(start);
-        table.keep_before(start);
-        return Err(AppendError::Memory);
-    }
-    Ok(())
-}
-
-/// As [`append_name`], with room for any number of labels.
-fn append_long_name<B: OctetsBuilder + Truncate, T: Compressor, R: AsOctets + Copy>(
-    octets: &mut B,
-    table: &mut T,
-    name: &ParsedName<R>,
-    turns: &mut Turns,
-) -> Result<(), AppendError>
-    requires message { Message T.most (B.content octets.old) (T.held table.old) }
-    ensures named { (old : Message T.most (B.content octets.old) (T.held table.old))
-        → AppendsName (message_limit B.limit) result (labels_of name.now) old (B.content octets.new)
-        (T.held table.new) }
-    ensures fits { NameFits (labels_of name.now) }
-    ensures memory { IsMemory append_error result → (B.asks ≡ true) ⊎ (T.asks ≡ true) }
-    ensures borrows { B.borrows octets.new ≡ B.borrows octets.old }
-    ensures on { turns.old ≤ turns.new }
-    ensures turns { turns.new ≤ turns.old + 17 * length (labels_of name.now) }
-    ensures least { OnOk result (turns.old + length (labels_of name.now) + length (B.content octets.old)
-        ≤ turns.new + length (B.content octets.new)) }
-{
-    let mut starts = [0; LABELS_MAX];
-    match place_labels(&mut starts, name) {
-        Some((count, len)) => append_name_at(octets, table, name, &starts[..count], len, turns),
-        None => unreachable!(),
-    }
-}
-
 /// Appends a name to a message, and keeps its labels in the table. An error leaves both unchanged.
 pub(crate) fn append_name<B: OctetsBuilder + Truncate, T: Compressor, R: AsOctets + Copy>(
     octets: &mut B,
@@ -182,9 +109,21 @@ pub(crate) fn append_name<B: OctetsBuilder + Truncate, T: Compressor, R: AsOctet
     ensures least { OnOk result (turns.old + length (labels_of name.now) + length (B.content octets.old)
         ≤ turns.new + length (B.content octets.new)) }
 {
-    let mut starts = [0; LABELS_FEW];
-    match place_labels(&mut starts, name) {
-        Some((count, len)) => append_name_at(octets, table, name, &starts[..count], len, turns),
-        None => append_long_name(octets, table, name, turns),
+    a_name_has_labels(name);
+    let (mut few, mut many) = ([0; LABELS_FEW], None);
+    let (starts, len) = starts_of(&mut few, &mut many, name);
+    let parser = name.parser();
+    let source = parser.octets_ref();
+    let plain = PlainName::new(source.as_ref(), starts, len, name);
+    let ending = search(octets.as_ref(), table.as_slice(), &plain, turns);
+    let start = octets.len();
+    if let Err(error) = append_encoded(octets, &plain, ending) {
+        return Err(error);
     }
+    if let Err(AllocError) = keep(table, &plain, ending, start, turns) {
+        octets.truncate(start);
+        table.keep_before(start);
+        return Err(AppendError::Memory);
+    }
+    Ok(())
 }

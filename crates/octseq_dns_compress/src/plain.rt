@@ -9,7 +9,10 @@ use octseq::AsOctets;
 use octseq_dns_name::ParsedName;
 
 /// The greatest number of labels of a name: of its 255 octets, each label takes at least two, and the root takes one.
-pub(crate) const LABELS_MAX: usize = 127;
+const LABELS_MAX: usize = 127;
+
+/// Most names have no more labels: room for their offsets takes little time to make.
+pub(crate) const LABELS_FEW: usize = 8;
 
 /// The greatest number of octets of the labels of a name, with their length octets.
 const UNROOTED_MAX: usize = 254;
@@ -102,9 +105,30 @@ impl<'a> PlainName<'a> {
     }
 }
 
+/// Returns the offset of each label of a name, and the number of their octets with their length octets. Only a name with
+/// many labels needs the second array, which is made then.
+pub(crate) fn starts_of<'a, R: AsOctets + Copy>(
+    few: &'a mut [usize; LABELS_FEW],
+    many: &'a mut Option<[usize; LABELS_MAX]>,
+    name: &ParsedName<R>,
+) -> (&'a [usize], usize)
+    ensures whole { AreWhole (place_of name.now).octets result.0.now }
+    ensures labels { labels_at (place_of name.now).octets result.0.now ≡ labels_of name.now }
+    ensures len { result.1 + 1 ≡ wire_length (labels_of name.now) }
+{
+    if let Some((count, len)) = place_labels(few, name) {
+        return (&few[..count], len);
+    }
+    let many = many.insert([0; LABELS_MAX]);
+    match place_labels(many, name) {
+        Some((count, len)) => (&many[..count], len),
+        None => unreachable!(),
+    }
+}
+
 /// Writes the offset of each label of a name. Returns their number, and that of their octets with their length octets,
 /// or `None` if there is no room for them all.
-pub(crate) fn place_labels<const N: usize, R: AsOctets + Copy>(
+fn place_labels<const N: usize, R: AsOctets + Copy>(
     starts: &mut [usize; N],
     name: &ParsedName<R>,
 ) -> Option<(usize, usize)>

@@ -4,7 +4,7 @@ use Rattle.octseq_dns_compress.specs.PlainNames.{plain_labels}
 use Rattle.octseq_dns_compress.proofs.Composes.{ending_of, name_refused, name_appended, name_taken_back}
 use Rattle.octseq_dns_compress.proofs.Grown.{known_targets}
 use Rattle.octseq_dns_compress.proofs.PlainLabels.{source_is, unrooted_longer}
-use Rattle.octseq_dns_compress.proofs.append.append_name_at.Goals as goal
+use Rattle.octseq_dns_compress.proofs.append.append_name.Goals as goal
 
 pub search-ending-requires-clause-targets : goal.search-ending-requires-clause-targets
 search-ending-requires-clause-targets g c =
