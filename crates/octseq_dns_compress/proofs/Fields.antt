@@ -115,9 +115,6 @@ fields_alike most s t (field ∷ fields) names long =
 -- ---- another header
 
 module _ (header : List ℕ) (twelve : length header ≡ 12) where
-  another : State → State
-  another s = with_header s header
-
   pub headed_length : (s : State) → 12 ≤ length s.octets → length (with_header s header).octets ≡ length s.octets
   headed_length s late =
       let all = length-append header (drop 12 s.octets) in
