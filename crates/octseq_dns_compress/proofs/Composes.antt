@@ -80,15 +80,6 @@ is_written octets targets names agrees labels written start back begin header = 
 
 -- ---- appending a name
 
--- a search in equal octets and targets has the same result
-pub ending_of : (octets content : List ℕ) (targets held : List Target) (labels : List (List ℕ)) (end : Ending)
-    → octets ≡ content → targets ≡ held
-    → ((names : Names) → Agrees octets targets names → IsEnding octets targets names labels end)
-    → (names : Names) → Agrees content held names → IsEnding content held names labels end
-ending_of octets content targets held labels end same alike is =
-    subst (λ o. (names : Names) → Agrees o held names → IsEnding o held names labels end) same
-    (subst (λ t. (names : Names) → Agrees octets t names → IsEnding octets t names labels end) alike is)
-
 module _ {most : ℕ} {octets : List ℕ} {held : List Target} (old : Message most octets held)
     (labels : List (List ℕ)) (end : Ending)
     (is : (names : Names) → Agrees octets held names → IsEnding octets held names labels end) where

@@ -117,9 +117,7 @@ module _ (most : ℕ) {octets : List ℕ} {held : List Target} {names : Names} {
   pub kept_yet : (end older : ℕ) → older ≡ length held → ending.position ≤ length held
       → KeptSoFar octets held (now ending.written) labels start end older ending.written ending.next ending.position
   kept_yet end older all inside =
-      subst (λ names. KeptSoFar octets held names labels start end older ending.written ending.next ending.position)
-      (sym now_none)
-      (record {
+      rw now_none (record {
         agrees = agrees;
         there = ends.ends.there;
         next_is = ends.ends.next_is;
@@ -170,8 +168,7 @@ module _ (most : ℕ) {octets : List ℕ} {held : List Target} {names : Names} {
           (record { at = at; next = next; pointers = ending.pointers; digest = n })) digested in
           let names_are = now_is left some few_left at same true (kept_from most (now left) (drop left labels) here_place near
           few (omega (arith, count, room)) so_far.there) in
-          subst (λ (both : List Target × Names). KeptSoFar octets both.0 both.1 labels start at older (left - 1) at (older + 1))
-          (λ i. (sym target_is i, sym names_are i))
+          rw (target_is, names_are)
           (so_far_kept at ending.pointers so_far some (omega (arith, few_left, within))
           (still_new (left - 1) (omega (arith, some)))
           (label_here written (left - 1) less within at same) (whole_here written (left - 1) less within at same)

@@ -165,11 +165,8 @@ module _ {octets : List ℕ} {held : List Target} {now : Names} {labels : List (
 
   agrees_kept : Agrees octets (insert held position target) (put now (label ∷ rest) place)
   agrees_kept =
-      subst (λ n. Agrees octets (insert held position
-      (record { at = at; next = n; pointers = pointers; digest = digest_of (prefixed label) }))
-      (put now (label ∷ rest) place)) (sym so_far.next_is)
-      (agrees_added octets held now so_far.agrees label rest place may position
-      (subst (λ n. IsPosition octets held (key n (prefixed label)) position) so_far.next_is (so_far.here some)))
+      rw so_far.next_is (agrees_added octets held now so_far.agrees label rest place may position
+      (rw so_far.next_is at so_far.here some))
 
   later : IsFirst held start older next position
       ⊎ ((position ≡ older + 1) × (next ≡ end) × IsLater held start older next)

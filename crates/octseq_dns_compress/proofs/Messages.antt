@@ -106,11 +106,7 @@ data_apart {octets = octets} {new = new} {targets = targets} more place known gr
 -- equal octets and targets have the same names
 abbrev pub known_same : {old new : List ℕ} {held kept : List Target} → new ≡ old → kept ≡ held → Known old held
     → Known new kept
-known_same {old = old} {kept = kept} same alike known = (
-  known.0,
-  subst (λ octets. ∥ Agrees octets kept known.0 ∥₁) (sym same)
-      (subst (λ targets. ∥ Agrees old targets known.0 ∥₁) (sym alike) known.1),
-)
+known_same same alike known = (known.0, rw (same, alike) known.1)
 
 module _ {most : ℕ} {octets : List ℕ} {held : List Target} (was : Message most octets held) where
   abbrev pub message_same : {new : List ℕ} {kept : List Target} → new ≡ octets → kept ≡ held → Message most new kept

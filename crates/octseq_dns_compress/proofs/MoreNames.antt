@@ -207,10 +207,7 @@ module _ (octets : List ℕ) (targets : List Target) (names : Names) (agrees : A
       by_name : (((l ∷ r) ≡ (label ∷ rest)) × (p ≡ place)) ⊎ (get names (l ∷ r) ≡ Some p)
           → HasTarget octets all_targets all_names l r p
       by_name (inl (same, one)) =
-          subst (λ p. HasTarget octets all_targets all_names l r p) (sym one)
-          (subst (λ l. HasTarget octets all_targets all_names l r place)
-          (sym (ap (λ xs. slice_index_or xs 0 []) same))
-          (subst (λ r. HasTarget octets all_targets all_names label r place) (sym (ap (drop 1) same)) new_has))
+          rw (one, ap (λ xs. slice_index_or xs 0 []) same, ap (drop 1) same) new_has
       by_name (inr found) = old_has l r p (agrees.all l r p found)
 
     once_added : (labels others : List (List ℕ)) (p o : Place) → get all_names labels ≡ Some p

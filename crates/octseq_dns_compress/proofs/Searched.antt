@@ -86,10 +86,9 @@ module _ (octets : List ℕ) (targets : List Target) (names : Names) (agrees : A
       → Ends names (drop (written - 1) labels) (slice_index_or targets index d).at
       ((slice_index_or targets index d).pointers + 1)
   ends_at index d has =
-      subst (λ all. Ends names all (slice_index_or targets index d).at ((slice_index_or targets index d).pointers + 1))
-      (sym (one_left labels written some within))
+      rw (one_left labels written some within)
       (ends_before names agrees (label_no labels (written - 1)) (drop written labels) next pointers index d ends
-      (subst (λ o. HasKeyAt octets targets (key next o) index) is has))
+      (rw is at has))
 
   -- or no target has its key, so neither it nor a label before it is there
   pub none_at : HasNoKey octets targets (key next read) → (k : ℕ) → k < written → get names (drop k labels) ≡ None
@@ -97,4 +96,4 @@ module _ (octets : List ℕ) (targets : List Target) (names : Names) (agrees : A
       all_new names agrees labels (written - 1) k (omega (arith, less)) (omega (arith, some, within))
       (ap (get names) (one_left labels written some within)
       ∙ none_before names agrees (label_no labels (written - 1)) (drop written labels) next pointers ends
-      (subst (λ o. HasNoKey octets targets (key next o)) is none))
+      (rw is at none))
