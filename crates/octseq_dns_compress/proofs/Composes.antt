@@ -11,18 +11,11 @@ use Rattle.octseq.specs.Appends.{Appends}
 use Rattle.octseq.specs.Limit.{IsPast, IsWithin}
 use Rattle.octseq.specs.Refusal.{IsShort, append_error, IsMemory}
 use Rattle.octseq.specs.declared.AppendError.{AppendError}
-use Rattle.octseq_dns_compress.specs.Agrees.{Agrees}
-use Rattle.octseq_dns_compress.specs.Composed.{before, Composed, Composes}
-use Rattle.octseq_dns_compress.specs.Ending.{IsEnding}
-use Rattle.octseq_dns_compress.specs.Key.{key, IsWhole, key_cmp, AreTargets, IsPosition}
-use Rattle.octseq_dns_compress.specs.Named.{AppendsName}
-use Rattle.octseq_dns_compress.specs.Names.{Names, Place, at_or_zero, ended, unrooted, name_octets, first_labels}
-use Rattle.octseq_dns_compress.specs.Names.{label_no, names_with, prefixed}
-use Rattle.octseq_dns_compress.specs.Sound.{Message, state_of, IsSound, composed, message_once}
-use Rattle.octseq_dns_compress.specs.State.{with_name, State, Field, with_octets, with_fields}
-use Rattle.octseq_dns_compress.specs.Written.{IsWritten}
-use Rattle.octseq_dns_compress.specs.declared.search.Ending.{Ending}
-use Rattle.octseq_dns_compress.specs.declared.table.Target.{Target}
+use Rattle.octseq_dns_compress.proofs.Words.{Agrees, before, Composed, Composes, IsEnding, key, IsWhole, key_cmp}
+use Rattle.octseq_dns_compress.proofs.Words.{AreTargets, IsPosition, AppendsName, Names, Place, at_or_zero, ended}
+use Rattle.octseq_dns_compress.proofs.Words.{unrooted, name_octets, first_labels, label_no, names_with, prefixed}
+use Rattle.octseq_dns_compress.proofs.Words.{Message, state_of, IsSound, composed, message_once, with_name, State}
+use Rattle.octseq_dns_compress.proofs.Words.{Field, with_octets, with_fields, IsWritten, Ending, Target}
 use Rattle.octseq_dns_compress.proofs.Fields.{one_state, fields_grow}
 use Rattle.octseq_dns_compress.proofs.Grown.{agrees_grown, key_stays}
 use Rattle.octseq_dns_compress.proofs.Messages.{before_all, message_same, begun_grown, names_grown}

@@ -6,10 +6,8 @@ use Rattle.std.specs.List.{AllByRecursion}
 use Rattle.octseq.specs.Integer.{octets_be}
 use Rattle.octseq.specs.Part.{part_of}
 use Rattle.octseq.proofs.Written.{length_be}
-use Rattle.octseq_dns_compress.specs.Fits.{FitsField}
-use Rattle.octseq_dns_compress.specs.LabelsThere.{AreNamed, IsWellNamed}
-use Rattle.octseq_dns_compress.specs.State.{State, Field, Entry, with_octets, with_field, with_fields, with_counted}
-use Rattle.octseq_dns_compress.specs.State.{with_data, with_entry}
+use Rattle.octseq_dns_compress.proofs.Words.{FitsField, AreNamed, IsWellNamed, State, Field, Entry, with_octets}
+use Rattle.octseq_dns_compress.proofs.Words.{with_field, with_fields, with_counted, with_data, with_entry}
 use Rattle.octseq_dns_compress.proofs.Fields.{field_grows, fields_alike, one_state}
 use Rattle.octseq_dns_compress.proofs.Steps.{grown_length}
 use Rattle.octseq_dns_compress.proofs.LabelsThere.{named_grows, named_with}

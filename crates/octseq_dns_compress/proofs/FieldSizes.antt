@@ -2,16 +2,15 @@
 use Rattle.std.proofs.Common.{if◌then◌else◌, ◌/◌, ◌%◌, ◌==◌, ◌≡◌, Bool, true, false, ℕ, ◌+◌, ◌≤◌, Option, Some, None}
 use Rattle.std.proofs.Common.{List, [], ◌∷◌, ◌++◌, length, refl, sym, ap, ◌∙◌, arith, length-append}
 use Rattle.std.specs.FinMap.{get, empty, get-empty}
-use Rattle.octseq_dns_compress.specs.Names.{Names, Place, labels_cmp, ended, name_octets, last_place, pointers_from}
-use Rattle.octseq_dns_compress.specs.Names.{with_labels, names_with}
+use Rattle.octseq_dns_compress.proofs.Words.{Names, Place, labels_cmp, ended, name_octets, last_place, pointers_from}
+use Rattle.octseq_dns_compress.proofs.Words.{with_labels, names_with, State, Field, Entry, with_octets, with_field}
+use Rattle.octseq_dns_compress.proofs.Words.{with_fields, with_data, with_entry, with_entries}
 use Rattle.octseq_dns_compress.proofs.KeptNames.{unkept, with_one}
 use Rattle.octseq_dns_compress.proofs.Pieces.{octets_by, octets_new}
 use Rattle.octseq_dns_name.specs.Name.{wire_length}
 use Rattle.octseq_dns_name.specs.NameFormat.{wire_more}
 use Rattle.octseq_dns_name.specs.Wire.{wire}
 use Rattle.octseq_dns_name.proofs.Names.{wire_some}
-use Rattle.octseq_dns_compress.specs.State.{State, Field, Entry, with_octets, with_field, with_fields, with_data}
-use Rattle.octseq_dns_compress.specs.State.{with_entry, with_entries}
 use Rattle.octseq_dns_compress.proofs.Fields.{counted_length}
 use Rattle.octseq_dns_name.proofs.Wires.{wire_has}
 

@@ -5,11 +5,8 @@ use Rattle.std.proofs.Math.Seq.{drop-append_seam}
 use Rattle.std.specs.List.{AllByRecursion}
 use Rattle.octseq.specs.Window.{Window, left, next, at, whole}
 use Rattle.octseq.proofs.WindowsAfter.{front_comes_next}
-use Rattle.octseq_dns_compress.specs.Fields.{AreFields}
-use Rattle.octseq_dns_compress.specs.Fits.{FitsField}
-use Rattle.octseq_dns_compress.specs.Names.{name_octets}
-use Rattle.octseq_dns_compress.specs.LabelsThere.{IsWellNamed}
-use Rattle.octseq_dns_compress.specs.State.{State, Field, with_field, with_fields}
+use Rattle.octseq_dns_compress.proofs.Words.{AreFields, FitsField, name_octets, IsWellNamed, State, Field, with_field}
+use Rattle.octseq_dns_compress.proofs.Words.{with_fields}
 use Rattle.octseq_dns_compress.proofs.FieldNames.{field_named}
 use Rattle.octseq_dns_compress.proofs.Fields.{fields_grow}
 use Rattle.octseq_dns_compress.proofs.LabelsThere.{all_of, all_grown, rest_at, name_is_read}

@@ -7,11 +7,8 @@ use Rattle.std.proofs.lemmas.List.{drop-append-le, take-append-le}
 use Rattle.std.specs.Cmp.Lexicographic.{slice_cmp}
 use Rattle.std.specs.Coded.{Coded-set, coded_bool, coded_ℕ, le_prop}
 use Rattle.std.specs.FinMap.{empty, get-empty, len-empty}
-use Rattle.octseq_dns_compress.specs.Agrees.{Agrees}
-use Rattle.octseq_dns_compress.specs.Key.{label_at, digest_of, key, key_of, key_cmp, IsWhole, AreTargets}
-use Rattle.octseq_dns_compress.specs.Known.{Known}
-use Rattle.octseq_dns_compress.specs.Names.{Names, Place, labels_cmp}
-use Rattle.octseq_dns_compress.specs.declared.table.Target.{Target}
+use Rattle.octseq_dns_compress.proofs.Words.{Agrees, label_at, digest_of, key, key_of, key_cmp, IsWhole, AreTargets}
+use Rattle.octseq_dns_compress.proofs.Words.{Known, Names, Place, labels_cmp, Target}
 use Rattle.octseq_dns_compress.proofs.Keys.{less_reported}
 
 -- two messages have the same label at an offset

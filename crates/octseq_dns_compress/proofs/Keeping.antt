@@ -5,15 +5,9 @@ use Rattle.std.proofs.Common.{take-append-drop, true≢false, length-drop, inser
 use Rattle.std.proofs.lemmas.Bool.{lt-leb}
 use Rattle.std.proofs.lemmas.List.Elements.{filter-append}
 use Rattle.std.specs.FinMap.{get, insert as put}
-use Rattle.octseq_dns_compress.specs.Agrees.{Agrees, place_of}
-use Rattle.octseq_dns_compress.specs.Ending.{IsEnding}
-use Rattle.octseq_dns_compress.specs.FoundNames.{place_there}
-use Rattle.octseq_dns_compress.specs.Key.{digest_of}
-use Rattle.octseq_dns_compress.specs.Names.{Names, Place, at_or_zero, is_there, is_kept, label_no, last_place, prefixed}
-use Rattle.octseq_dns_compress.specs.Names.{pointers_from, with_labels, names_with}
-use Rattle.octseq_dns_compress.specs.Written.{IsWritten}
-use Rattle.octseq_dns_compress.specs.declared.search.Ending.{Ending}
-use Rattle.octseq_dns_compress.specs.declared.table.Target.{Target}
+use Rattle.octseq_dns_compress.proofs.Words.{Agrees, place_of, IsEnding, place_there, digest_of, Names, Place}
+use Rattle.octseq_dns_compress.proofs.Words.{at_or_zero, is_there, is_kept, label_no, last_place, prefixed}
+use Rattle.octseq_dns_compress.proofs.Words.{pointers_from, with_labels, names_with, IsWritten, Ending, Target}
 use Rattle.octseq_dns_compress.proofs.KeptNames.{absent, kept_from, unkept, with_known, with_one, with_other}
 use Rattle.octseq_dns_compress.proofs.KeptSoFar.{KeptSoFar, place_after, so_far_kept, whole_here, label_here}
 use Rattle.octseq_dns_compress.proofs.PlainLabels.{last_label, one_left}

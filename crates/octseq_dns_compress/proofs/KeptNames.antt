@@ -4,8 +4,7 @@ use Rattle.std.proofs.Common.{◌≤◌, None, List, [], ◌∷◌, length, leng
 use Rattle.std.proofs.Common.{◌∙◌, arith, is_some, le-leb, leb-true, lt-ltb, ltb-true}
 use Rattle.std.proofs.lemmas.Bool.{and_from, and_parts, false_from_ne_true}
 use Rattle.std.specs.FinMap.{get, len, insert, contains_key}
-use Rattle.octseq_dns_compress.specs.FoundNames.{get_other}
-use Rattle.octseq_dns_compress.specs.Names.{Names, Place, is_there, is_kept, with_labels, unrooted}
+use Rattle.octseq_dns_compress.proofs.Words.{get_other, Names, Place, is_there, is_kept, with_labels, unrooted}
 
 -- labels that aren't found, and aren't the root, aren't there
 pub absent : (names : Names) (labels : List (List ℕ)) → 0 < length labels → get names labels ≡ None

@@ -11,12 +11,9 @@ use Rattle.std.specs.Cmp.Lexicographic.{slice_cmp}
 use Rattle.std.specs.FinMap.{get, insert as put}
 use Rattle.std.specs.Ordering.{ordering_then}
 use Rattle.std.specs.declared.cmp.Ordering.{Ordering}
-use Rattle.octseq_dns_compress.specs.Agrees.{Agrees, place_of}
-use Rattle.octseq_dns_compress.specs.FoundNames.{get_new, put_cases}
-use Rattle.octseq_dns_compress.specs.Key.{label_at, digest_of, with_digest, key, key_cmp, IsWhole, IsPosition}
-use Rattle.octseq_dns_compress.specs.Names.{Names, Place, at_or_zero, is_there, label_no, prefixed, unrooted}
-use Rattle.octseq_dns_compress.specs.Written.{IsWritten}
-use Rattle.octseq_dns_compress.specs.declared.table.Target.{Target}
+use Rattle.octseq_dns_compress.proofs.Words.{Agrees, place_of, get_new, put_cases, label_at, digest_of, with_digest}
+use Rattle.octseq_dns_compress.proofs.Words.{key, key_cmp, IsWhole, IsPosition, Names, Place, at_or_zero, is_there}
+use Rattle.octseq_dns_compress.proofs.Words.{label_no, prefixed, unrooted, IsWritten, Target}
 use Rattle.octseq_dns_compress.proofs.MoreNames.{all_insert, MayBeKept, agrees_added}
 use Rattle.octseq_dns_compress.proofs.PlainLabels.{front_and_rest, length_there, whole_there, label_there, one_left}
 

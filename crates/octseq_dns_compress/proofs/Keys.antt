@@ -10,8 +10,7 @@ use Rattle.std.proofs.Math.Nat.{pow-le-pow_right}
 use Rattle.std.specs.Cmp.Lexicographic.{slice_cmp}
 use Rattle.std.specs.Ordering.{ordering_reverse}
 use Rattle.std.specs.declared.cmp.Ordering.{Ordering}
-use Rattle.octseq_dns_compress.specs.Key.{key_of, key_cmp, AreTargets, HasKeyAt, HasNoKey}
-use Rattle.octseq_dns_compress.specs.declared.table.Target.{Target}
+use Rattle.octseq_dns_compress.proofs.Words.{key_of, key_cmp, AreTargets, HasKeyAt, HasNoKey, Target}
 
 pub greater_reported : (reported : Ordering) → is_lt reported ≡ false → is_eq reported ≡ false → reported ≡ Ordering.Greater
 greater_reported Ordering.Less other differ = absurd (true≢false other)

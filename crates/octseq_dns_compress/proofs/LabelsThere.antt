@@ -8,11 +8,9 @@ use Rattle.std.proofs.lemmas.Slice.{drop-append-drop}
 use Rattle.std.specs.FinMap.{get, empty, insert, get-empty}
 use Rattle.std.specs.Option.{option_or}
 use Rattle.octseq.specs.Window.{Window, rest, at, whole}
-use Rattle.octseq_dns_compress.specs.Fits.{NameFits}
-use Rattle.octseq_dns_compress.specs.FoundNames.{put_cases, some_or_none}
-use Rattle.octseq_dns_compress.specs.Names.{Names, Place, labels_cmp, last_place, name_octets, pointers_from, is_kept}
-use Rattle.octseq_dns_compress.specs.Names.{with_labels, names_with}
-use Rattle.octseq_dns_compress.specs.LabelsThere.{AreAt, AreNamed}
+use Rattle.octseq_dns_compress.proofs.Words.{NameFits, put_cases, some_or_none, Names, Place, labels_cmp, last_place}
+use Rattle.octseq_dns_compress.proofs.Words.{name_octets, pointers_from, is_kept, with_labels, names_with, AreAt}
+use Rattle.octseq_dns_compress.proofs.Words.{AreNamed}
 use Rattle.octseq_dns_compress.proofs.KeptNames.{kept_parts}
 use Rattle.octseq_dns_compress.proofs.Pieces.{octets_by, octets_new, name_next}
 use Rattle.octseq_dns_compress.proofs.Steps.{Grows}

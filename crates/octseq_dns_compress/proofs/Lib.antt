@@ -16,3 +16,4 @@ pub mod PlainLabels
 pub mod Searched
 pub mod LabelsThere
 pub mod Steps
+pub mod Words

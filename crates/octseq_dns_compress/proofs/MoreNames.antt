@@ -9,16 +9,12 @@ use Rattle.std.proofs.lemmas.List.Elements.{All-append, All-cons, All-drop, All-
 use Rattle.std.proofs.lemmas.List.Kept.{AllPairs-cons}
 use Rattle.std.specs.Ordering.{ordering_reverse}
 use Rattle.std.specs.declared.cmp.Ordering.{Ordering}
-use Rattle.octseq_dns_compress.specs.Key.{label_at, digest_of, key_of, key_cmp, IsWhole, AreTargets, IsPosition}
-use Rattle.octseq_dns_compress.specs.Key.{HasNoKey, key}
+use Rattle.octseq_dns_compress.proofs.Words.{label_at, digest_of, key_of, key_cmp, IsWhole, AreTargets, IsPosition}
+use Rattle.octseq_dns_compress.proofs.Words.{HasNoKey, key, Target, Agrees, IsOfName, HasTarget, place_of, target_of}
+use Rattle.octseq_dns_compress.proofs.Words.{labels_total, get_new, get_other, alike_there, some_or_none, place_there}
+use Rattle.octseq_dns_compress.proofs.Words.{put_cases, name_key, found, Names, Place, at_or_zero, is_there, prefixed}
 use Rattle.octseq_dns_compress.proofs.Keys.{key_there}
-use Rattle.octseq_dns_compress.specs.declared.table.Target.{Target}
 use Rattle.std.specs.FinMap.{get, len, insert as put, len-insert}
-use Rattle.octseq_dns_compress.specs.Agrees.{Agrees, IsOfName, HasTarget, place_of, target_of}
-use Rattle.octseq_dns_compress.specs.FoundNames.{labels_total, get_new, get_other, alike_there, some_or_none}
-use Rattle.octseq_dns_compress.specs.FoundNames.{place_there, put_cases}
-use Rattle.octseq_dns_compress.specs.Known.{name_key, found}
-use Rattle.octseq_dns_compress.specs.Names.{Names, Place, at_or_zero, is_there, prefixed}
 
 -- what holds of the old targets and of the new one holds of all
 pub all_insert : (P : Target → Type 0) (position : ℕ) (targets : List Target) (target : Target) → All P targets

@@ -8,12 +8,8 @@ use Rattle.std.proofs.lemmas.List.{take-append-le, drop-take}
 use Rattle.std.proofs.lemmas.Slice.{drop-append-drop}
 use Rattle.std.proofs.Math.Logic.{∥∥₁_elim}
 use Rattle.std.specs.Coded.{le_prop}
-use Rattle.octseq_dns_compress.specs.Apart.{AreApart}
-use Rattle.octseq_dns_compress.specs.Composed.{Composed}
-use Rattle.octseq_dns_compress.specs.Key.{label_at, IsWhole}
-use Rattle.octseq_dns_compress.specs.declared.table.Target.{Target}
-use Rattle.octseq_dns_compress.specs.Sound.{Message, IsSound, composed, state_of}
-use Rattle.octseq_dns_compress.specs.State.{with_header}
+use Rattle.octseq_dns_compress.proofs.Words.{AreApart, Composed, label_at, IsWhole, Target, Message, IsSound, composed}
+use Rattle.octseq_dns_compress.proofs.Words.{state_of, with_header}
 use Rattle.octseq_dns_compress.proofs.Fields.{one_state}
 use Rattle.octseq_dns_compress.proofs.Grown.{IsAlike, octet_stays, label_stays}
 use Rattle.octseq_dns_compress.proofs.Messages.{message_alike, message_same, names_alike, none_apart}

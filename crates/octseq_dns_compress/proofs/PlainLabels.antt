@@ -6,9 +6,8 @@ use Rattle.std.proofs.lemmas.List.{drop_more, flat_map_more, get_or-map, length-
 use Rattle.std.proofs.lemmas.List.{take_more_set}
 use Rattle.std.proofs.Math.Seq.{take-append_seam, drop-append_seam, get_or-append_seam}
 use Rattle.octseq_dns_name.specs.Name.{wire_length, HasLabel, octet}
-use Rattle.octseq_dns_compress.specs.Key.{label_at, IsWhole}
-use Rattle.octseq_dns_compress.specs.Names.{label_no, prefixed, unrooted}
-use Rattle.octseq_dns_compress.specs.PlainName.{label_of, labels_at, AreWhole}
+use Rattle.octseq_dns_compress.proofs.Words.{label_at, IsWhole, label_no, prefixed, unrooted, label_of, labels_at}
+use Rattle.octseq_dns_compress.proofs.Words.{AreWhole}
 use Rattle.std.proofs.lemmas.List.Elements.{All-append}
 use Rattle.octseq.specs.declared.AsOctets.{Ghosts}
 use Rattle.octseq.specs.declared.parse.Parser.{Parser}

@@ -4,14 +4,9 @@ use Rattle.std.proofs.Common.{[], ◌∷◌, length, take, drop, refl, sym, ap, 
 use Rattle.std.proofs.Common.{drop-drop, length-drop}
 use Rattle.std.specs.FinMap.{get}
 use Rattle.std.specs.Option.{option_or}
-use Rattle.octseq_dns_compress.specs.Agrees.{Agrees}
-use Rattle.octseq_dns_compress.specs.Ending.{Ends}
-use Rattle.octseq_dns_compress.specs.FoundNames.{place_there, none_found}
-use Rattle.octseq_dns_compress.specs.Key.{key, HasKeyAt, HasNoKey}
-use Rattle.octseq_dns_compress.specs.Known.{found, missing}
-use Rattle.octseq_dns_compress.specs.Names.{Names, at_or_zero, is_there, first_labels, label_no, last_place}
-use Rattle.octseq_dns_compress.specs.Names.{pointers_from, prefixed}
-use Rattle.octseq_dns_compress.specs.declared.table.Target.{Target}
+use Rattle.octseq_dns_compress.proofs.Words.{Agrees, Ends, place_there, none_found, key, HasKeyAt, HasNoKey, found}
+use Rattle.octseq_dns_compress.proofs.Words.{missing, Names, at_or_zero, is_there, first_labels, label_no, last_place}
+use Rattle.octseq_dns_compress.proofs.Words.{pointers_from, prefixed, Target}
 use Rattle.octseq_dns_compress.proofs.PlainLabels.{one_left}
 
 module _ {octets : List ℕ} {targets : List Target} (names : Names) (agrees : Agrees octets targets names) where

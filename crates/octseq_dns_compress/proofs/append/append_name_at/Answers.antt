@@ -1,6 +1,5 @@
 use Rattle.std.proofs.Common.{◌++◌, ap, ◌∙◌, length, length-append, take, arith, length-take}
-use Rattle.octseq_dns_compress.specs.Names.{ended, unrooted}
-use Rattle.octseq_dns_compress.specs.PlainNames.{plain_labels}
+use Rattle.octseq_dns_compress.proofs.Words.{ended, unrooted, plain_labels}
 use Rattle.octseq_dns_compress.proofs.Composes.{name_refused, name_appended, name_taken_back}
 use Rattle.octseq_dns_compress.proofs.Grown.{known_targets}
 use Rattle.octseq_dns_compress.proofs.PlainLabels.{source_is, unrooted_longer}

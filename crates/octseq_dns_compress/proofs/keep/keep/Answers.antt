@@ -1,7 +1,6 @@
 use Rattle.std.proofs.Common.{◌≤◌, ◌<◌, ◌-◌, ap, ◌∙◌, refl, sym, length, arith, true≢false, nat_lt, filter}
 use Rattle.std.proofs.lemmas.List.Edits.{length-insert}
-use Rattle.octseq_dns_compress.specs.Key.{digest_of}
-use Rattle.octseq_dns_compress.specs.PlainNames.{plain_labels}
+use Rattle.octseq_dns_compress.proofs.Words.{digest_of, plain_labels}
 use Rattle.octseq_dns_compress.proofs.Keeping.{none_before, kept_none, kept_yet, kept_at, kept_far, kept_full, kept_all}
 use Rattle.octseq_dns_compress.proofs.PlainLabels.{last_label}
 use Rattle.octseq_dns_compress.proofs.keep.keep.Goals.{then-at-gt-PLACE_MAX-via-then-at-gt-PLACE_MAX}

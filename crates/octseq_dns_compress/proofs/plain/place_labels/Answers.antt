@@ -2,8 +2,7 @@ use Rattle.std.proofs.Common.{◌≡◌, ◌<◌, ◌-◌, ◌++◌, ap, ◌∙�
 use Rattle.octseq_dns_name.specs.Name.{wire_length}
 use Rattle.octseq_dns_name.specs.NextLabel.{ahead_of}
 use Rattle.octseq_dns_name.specs.Read.{label_place, labels_left, labels_of, place_of}
-use Rattle.octseq_dns_compress.specs.Key.{IsWhole}
-use Rattle.octseq_dns_compress.specs.PlainName.{label_of, labels_at}
+use Rattle.octseq_dns_compress.proofs.Words.{IsWhole, label_of, labels_at}
 use Rattle.octseq_dns_compress.proofs.PlainLabels.{next_place, more_whole, more_labels}
 use Rattle.octseq_dns_compress.proofs.plain.place_labels.Goals as goal
 

@@ -1,7 +1,5 @@
 use Rattle.std.proofs.Common.{◌∷◌, refl, subst, arith}
-use Rattle.octseq_dns_compress.specs.Key.{key, IsPosition}
-use Rattle.octseq_dns_compress.specs.PlainNames.{plain_labels}
-use Rattle.octseq_dns_compress.specs.declared.table.Target.{Target}
+use Rattle.octseq_dns_compress.proofs.Words.{key, IsPosition, plain_labels, Target}
 use Rattle.octseq_dns_compress.proofs.PlainLabels.{last_label}
 use Rattle.octseq_dns_compress.proofs.Searched.{ends_at, none_at, ending_is}
 use Rattle.octseq_dns_compress.proofs.search.search.Goals as goal

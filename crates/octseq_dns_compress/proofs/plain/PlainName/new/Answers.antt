@@ -1,7 +1,6 @@
 use Rattle.std.proofs.Common.{ap, sym, ◌∙◌, length, arith, subst}
 use Rattle.octseq_dns_name.specs.Read.{labels_of}
-use Rattle.octseq_dns_compress.specs.Names.{unrooted}
-use Rattle.octseq_dns_compress.specs.PlainName.{AreWhole, labels_at}
+use Rattle.octseq_dns_compress.proofs.Words.{unrooted, AreWhole, labels_at}
 use Rattle.octseq_dns_compress.proofs.PlainLabels.{wire_of_unrooted}
 use Rattle.octseq_dns_compress.proofs.plain.PlainName.new.Goals as goal
 

@@ -1,7 +1,6 @@
 use Rattle.std.proofs.Common.{◌≡◌, ◌+◌, ◌-◌, ◌<◌, ◌++◌, ap, ◌∙◌, sym, length, take, drop, refl, arith, slice_index_or}
 use Rattle.std.proofs.Common.{append-nil}
-use Rattle.octseq_dns_compress.specs.Names.{unrooted}
-use Rattle.octseq_dns_compress.specs.PlainNames.{plain_labels}
+use Rattle.octseq_dns_compress.proofs.Words.{unrooted, plain_labels}
 use Rattle.octseq_dns_compress.proofs.PlainLabels.{run_inside, run_more}
 use Rattle.octseq_dns_compress.proofs.plain.PlainName.run.Goals as goal
 
