@@ -18,7 +18,7 @@ use Rattle.octseq_dns_compress.proofs.Words.{Message, state_of, IsSound, compose
 use Rattle.octseq_dns_compress.proofs.Words.{Field, with_octets, with_fields, IsWritten, Ending, Target}
 use Rattle.octseq_dns_compress.proofs.Fields.{one_state, fields_grow}
 use Rattle.octseq_dns_compress.proofs.Grown.{agrees_grown, key_stays}
-use Rattle.octseq_dns_compress.proofs.Messages.{before_all, message_same, begun_grown, names_grown}
+use Rattle.octseq_dns_compress.proofs.Messages.{before_all, begun_grown, message_grown, message_same, state_is}
 use Rattle.std.proofs.lemmas.Result.{on_err_weaker, on_ok_weaker}
 use Rattle.octseq_dns_compress.proofs.Steps.{Grows, appended_grows, grown_length}
 use Rattle.octseq.proofs.Limits.{past_more}
@@ -172,18 +172,18 @@ on_ok_both (Err e) both one other = tt
 module _ {limit : Option ℕ} {asks : Bool} {most : ℕ} {octets more new : List ℕ} {held : List Target}
     {entry_start data_start : ℕ} (was : IsSound most octets held entry_start data_start)
     (result : Result (Unit {0}) AppendError) (appends : Appends limit asks result more octets new) where
+  abbrev grows : Grows octets new
+  grows = appended_grows result appends
+
   pub ok_appended : (now : Message most new held) → OnOk result (state_of now ≡ with_octets (state_of was.now) more)
-  ok_appended now =
-      on_ok_weaker result (λ same. one_state same (names_grown was.now (appended_grows result appends) now)) appends.ok
+  ok_appended now = on_ok_weaker result (state_is now (message_grown was.now grows now.short)) appends.ok
 
   pub err_appended : (now : Message most new held) → OnErr result (state_of now ≡ state_of was.now)
-  err_appended now =
-      on_err_weaker result (λ same. one_state same (names_grown was.now (appended_grows result appends) now))
-      appends.err
+  err_appended now = on_err_weaker result (state_is now (message_grown was.now grows now.short)) appends.err
 
   pub begun_appended : {place : ℕ} (is : IsSound most new held entry_start place)
       → state_of is.begun ≡ state_of was.begun
-  begun_appended is = begun_grown was (appended_grows result appends) (before_all was.now.known) is
+  begun_appended is = begun_grown was grows (before_all was.now.known) is
 
   pub composes_appended : {B T : Type 0} {b c : B} {t u : T} (is : IsSound most new held entry_start data_start)
       → OnOk result (IsWithin limit (length new))

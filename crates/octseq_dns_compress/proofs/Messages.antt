@@ -104,6 +104,12 @@ abbrev pub known_same : {old new : List ℕ} {held kept : List Target} → new �
     → Known new kept
 known_same same alike known = (known.0, rw (same, alike) known.1)
 
+-- of equal octets, two messages with the same targets have the same state
+pub state_is : {most : ℕ} {octets new : List ℕ} {held : List Target} (now made : Message most new held) → new ≡ octets
+    → state_of now ≡ record { octets = octets; names = made.known.0 }
+state_is {most = most} {new = new} {held = held} now made same =
+    ap state_of (message_once most new held now made) ∙ one_state same refl
+
 module _ {most : ℕ} {octets : List ℕ} {held : List Target} (was : Message most octets held) where
   abbrev pub message_same : {new : List ℕ} {kept : List Target} → new ≡ octets → kept ≡ held → Message most new kept
   message_same same alike = record {
@@ -115,8 +121,7 @@ module _ {most : ℕ} {octets : List ℕ} {held : List Target} (was : Message mo
 
   pub state_same : {new : List ℕ} {kept : List Target} (now : Message most new kept) → new ≡ octets → kept ≡ held
       → state_of now ≡ state_of was
-  state_same {new = new} {kept = kept} now same alike =
-      ap state_of (message_once most new kept now (message_same same alike)) ∙ one_state same refl
+  state_same now same alike = state_is now (message_same same alike) same
 
   -- the names stay if the labels do
   abbrev pub message_alike : (new : List ℕ) → length octets ≤ length new → length new ≤ 65535
@@ -128,11 +133,6 @@ module _ {most : ℕ} {octets : List ℕ} {held : List Target} (was : Message mo
     short = short;
   }
 
-  pub names_alike : (new : List ℕ) → length octets ≤ length new → All (λ t. IsAlike octets new t.at) held
-      → (now : Message most new held) → now.known.0 ≡ was.known.0
-  names_alike new longer alike now =
-      ap (λ message. message.known.0) (message_once most new held now (message_alike new longer now.short alike))
-
   -- as they do after more octets
   pub stay : {new : List ℕ} → Grows octets new → All (λ t. IsAlike octets new t.at) held
   stay grows i d within =
@@ -142,9 +142,6 @@ module _ {most : ℕ} {octets : List ℕ} {held : List Target} (was : Message mo
 
   abbrev pub message_grown : {new : List ℕ} → Grows octets new → length new ≤ 65535 → Message most new held
   message_grown {new = new} grows short = message_alike new (grown_length octets new grows) short (stay grows)
-
-  pub names_grown : {new : List ℕ} → Grows octets new → (now : Message most new held) → now.known.0 ≡ was.known.0
-  names_grown {new = new} grows now = names_alike new (grown_length octets new grows) (stay grows) now
 
 -- nothing but a header of zeros
 abbrev none_there : {most : ℕ} {octets : List ℕ} {held : List Target} → held ≡ [] → length octets ≡ 12
@@ -160,8 +157,7 @@ none_there {octets = octets} {held = held} none twelve =
 
 pub state_none : {most : ℕ} {octets : List ℕ} {held : List Target} → held ≡ [] → octets ≡ replicate 12 0
     → (now : Message most octets held) → state_of now ≡ record { octets = replicate 12 0; names = empty }
-state_none {most = most} {octets = octets} {held = held} none is now =
-    ap state_of (message_once most octets held now (none_there none (ap length is))) ∙ one_state is refl
+state_none none is now = state_is now (none_there none (ap length is)) is
 
 -- ---- messages with an entry and data
 

@@ -8,11 +8,11 @@ use Rattle.std.proofs.lemmas.List.{take-append-le, drop-take}
 use Rattle.std.proofs.lemmas.Slice.{drop-append-drop}
 use Rattle.std.proofs.Math.Logic.{∥∥₁_elim}
 use Rattle.std.specs.Coded.{le_prop}
-use Rattle.octseq_dns_compress.proofs.Words.{AreApart, Composed, label_at, IsWhole, Target, Message, IsSound, composed}
+use Rattle.octseq_dns_compress.proofs.Words.{before, Composed, label_at, IsWhole, Target, Message, IsSound, composed}
 use Rattle.octseq_dns_compress.proofs.Words.{state_of, with_header}
 use Rattle.octseq_dns_compress.proofs.Fields.{one_state}
-use Rattle.octseq_dns_compress.proofs.Grown.{IsAlike, octet_stays, label_stays}
-use Rattle.octseq_dns_compress.proofs.Messages.{message_alike, message_same, names_alike, none_apart}
+use Rattle.octseq_dns_compress.proofs.Grown.{IsAlike, alike_stays, octet_stays}
+use Rattle.octseq_dns_compress.proofs.Messages.{message_alike, message_same, none_apart, sound_from, state_is}
 
 -- octets, overwritten from an offset on
 abbrev pub put_over : List ℕ → ℕ → List ℕ → List ℕ
@@ -21,16 +21,6 @@ put_over octets at put = take at octets ++ (put ++ drop (at + length put) octets
 -- a label is before what is overwritten, or after it
 abbrev pub IsClear : List ℕ → ℕ → ℕ → ℕ → Type 0
 IsClear octets from to at = (at + (1 + slice_index_or octets at 0) ≤ from) ⊎ (to ≤ at)
-
--- with the same front
-alike_front : (front x y : List ℕ) (at : ℕ) → at + (1 + slice_index_or (front ++ x) at 0) ≤ length front
-    → IsAlike (front ++ x) (front ++ y) at
-alike_front front x y at within =
-    let less : at < length front = omega (arith, within) in
-    let one = octet_stays front x at less in
-    let other = octet_stays front y at less in
-    let whole : IsWhole front at = omega (arith, within, one) in
-    (other ∙ sym one, label_stays front y at whole ∙ sym (label_stays front x at whole))
 
 -- with the same back
 alike_back : (old new : List ℕ) (at : ℕ) → drop at new ≡ drop at old → IsAlike old new at
@@ -62,12 +52,15 @@ module _ (octets put : List ℕ) (at : ℕ) (room : at + length put ≤ length o
   over_alike : (place : ℕ) → IsClear octets at (at + length put) place
       → IsAlike octets (put_over octets at put) place
   over_alike place (inl before) =
+      let first = take at octets in
       let front = length-take at octets in
-      let apart : take at octets ++ drop at octets ≡ octets = take-append-drop at octets in
-      subst (λ o. IsAlike o (put_over octets at put) place) apart
-      (alike_front (take at octets) (drop at octets) (put ++ drop (at + length put) octets) place
-      (subst (λ o. place + (1 + slice_index_or o place 0) ≤ length (take at octets)) (sym apart)
-      (omega (arith, before, front, room))))
+      let apart : first ++ drop at octets ≡ octets = take-append-drop at octets in
+      let octet = ap (λ o. slice_index_or o place 0) (sym apart)
+      ∙ octet_stays first (drop at octets) place (omega (arith, before, front, room)) in
+      let whole : IsWhole first place = omega (arith, before, front, room, octet) in
+      let old = rw apart at (alike_stays first (drop at octets) place whole) in
+      let new = alike_stays first (put ++ drop (at + length put) octets) place whole in
+      (new.0 ∙ sym old.0, new.1 ∙ sym old.1)
   over_alike place (inr after) = alike_back octets (put_over octets at put) place (over_drop place after)
 
 -- a message some of whose octets are overwritten, clear of the labels
@@ -77,28 +70,34 @@ module _ {most : ℕ} {octets new : List ℕ} {held : List Target} (was : Messag
   over_long : length new ≡ length octets
   over_long = ap length new_is ∙ over_length octets put at room
 
-  over_longer : length octets ≤ length new
-  over_longer = let long = over_long in omega (arith, long)
-
-  over_short : length new ≤ 65535
-  over_short = let long = over_long in let short = was.short in omega (arith, long, short)
-
   stay_alike : All (λ t. IsAlike octets new t.at) held
   stay_alike i d within =
       let place = (slice_index_or held i d).at in
-      subst (λ o. IsAlike octets o place) (sym new_is) (over_alike octets put at room place (clear i d within))
+      rw new_is (over_alike octets put at room place (clear i d within))
 
-  message_over : Message most new held
-  message_over = message_alike was new over_longer over_short stay_alike
+  abbrev message_over : Message most new held
+  message_over =
+      let long = over_long in
+      let short = was.short in
+      message_alike was new (omega (arith, long)) (omega (arith, long, short)) stay_alike
 
-  pub names_over : (now : Message most new held) → now.known.0 ≡ was.known.0
-  names_over now = names_alike was new over_longer stay_alike now
-
-  over_apart : (place : ℕ) → AreApart octets place held → AreApart new place held
-  over_apart place apart i d within near =
-      let ends = apart i d within near in
-      let same = (stay_alike i d within).0 in
-      omega (arith, ends, same)
+  -- and so is what holds of it with an entry and data, if the part before the entry still is a message
+  sound_over : {entry_start data_start : ℕ} → IsSound most octets held entry_start data_start
+      → Message most (take entry_start new) (before entry_start held) → IsSound most new held entry_start data_start
+  sound_over sound begun =
+      let long = over_long in
+      let within = sound.within in
+      let data_within = sound.data_within in
+      record {
+        now = message_over;
+        begun = begun;
+        within = omega (arith, long, within);
+        data_within = omega (arith, long, data_within);
+        apart = λ i d within near.
+            let ends = sound.apart i d within near in
+            let same = (stay_alike i d within).0 in
+            omega (arith, ends, same);
+      }
 
 -- ---- a header
 
@@ -133,13 +132,13 @@ module _ {most : ℕ} {octets new : List ℕ} {held : List Target} (was : Messag
       omega (arith, late, same)) in
       inr (omega (arith, after, twelve))
 
-  message_headed : Message most new held
+  abbrev message_headed : Message most new held
   message_headed = message_over was 0 header room new_is clear
 
   pub state_headed : (now : Message most new held) → state_of now ≡ with_header (state_of was) header
   state_headed now =
       let end : 0 + length header ≡ 12 = omega (arith, twelve) in
-      one_state (new_is ∙ ap (λ n. header ++ drop n octets) end) (names_over was 0 header room new_is clear now)
+      state_is now message_headed (new_is ∙ ap (λ n. header ++ drop n octets) end)
 
 module _ {most : ℕ} {octets new : List ℕ} {held : List Target} {entry_start data_start : ℕ}
     (was : IsSound most octets held entry_start data_start) (header : List ℕ) (twelve : length header ≡ 12)
@@ -152,18 +151,8 @@ module _ {most : ℕ} {octets new : List ℕ} {held : List Target} {entry_start 
 
   pub sound_headed : IsSound most new held entry_start data_start
   sound_headed =
-      let long = over_long was.now 0 header (room was.now header twelve new_is) new_is
-      (clear was.now header twelve new_is) in
-      let within = was.within in
-      let data_within = was.data_within in
-      record {
-        now = message_headed was.now header twelve new_is;
-        begun = message_headed was.begun header twelve begun_headed;
-        within = omega (arith, long, within);
-        data_within = omega (arith, long, data_within);
-        apart = over_apart was.now 0 header (room was.now header twelve new_is) new_is
-            (clear was.now header twelve new_is) data_start was.apart;
-      }
+      sound_over was.now 0 header (room was.now header twelve new_is) new_is (clear was.now header twelve new_is) was
+      (message_headed was.begun header twelve begun_headed)
 
 -- ---- the length of data
 
@@ -204,7 +193,8 @@ module _ {most : ℕ} {octets new : List ℕ} {held : List Target} {entry_start 
         let past = ltb-false (slice_index_or held i d).at data_start is in inr (omega (arith, past, two, late))
 
   pub count_names : (now : Message most new held) → now.known.0 ≡ was.now.known.0
-  count_names = names_over was.now (data_start - 2) count count_room new_is count_clear
+  count_names now = ap (λ s. s.names)
+      (state_is now (message_over was.now (data_start - 2) count count_room new_is count_clear) refl)
 
   pub count_begun : take entry_start new ≡ take entry_start octets
   count_begun =
@@ -213,11 +203,6 @@ module _ {most : ℕ} {octets new : List ℕ} {held : List Target} {entry_start 
       ∙ take_before octets count (data_start - 2) entry_start (omega (arith, late)) (omega (arith, within))
 
   pub sound_counted : IsSound most new held entry_start 0
-  sound_counted = record {
-    now = message_over was.now (data_start - 2) count count_room new_is count_clear;
-    begun = message_same was.begun count_begun refl;
-    within = let long = over_long was.now (data_start - 2) count count_room new_is count_clear in
-        let within = was.within in omega (arith, long, within);
-    data_within = omega arith;
-    apart = none_apart new held;
-  }
+  sound_counted =
+      sound_from (sound_over was.now (data_start - 2) count count_room new_is count_clear was
+      (message_same was.begun count_begun refl)) 0 (omega arith) (none_apart new held)
