@@ -1,10 +1,9 @@
 -- The names after labels are written, of which the last ones are kept first.
-use Rattle.std.proofs.Common.{IsTrue, if◌then◌else◌, nat_le, nat_lt, ◌≡◌, Bool, true, false, ℕ, zero, suc, ◌+◌, ◌<◌}
-use Rattle.std.proofs.Common.{◌≤◌, None, List, [], ◌∷◌, length, length-append, length-drop, take, drop, refl, sym, ap}
-use Rattle.std.proofs.Common.{◌∙◌, arith, is_some, le-leb, leb-true, lt-ltb, ltb-true}
+use Rattle.std.proofs.Common.{IsTrue, if◌then◌else◌, nat_le, nat_lt, ◌≡◌, Bool, true, false, ℕ, ◌+◌, ◌<◌, ◌≤◌, None}
+use Rattle.std.proofs.Common.{List, [], ◌∷◌, length, refl, ap, ◌∙◌, arith, is_some, le-leb, leb-true, lt-ltb, ltb-true}
 use Rattle.std.proofs.lemmas.Bool.{and_from, and_parts, false_from_ne_true}
 use Rattle.std.specs.FinMap.{get, len, insert, contains_key}
-use Rattle.octseq_dns_compress.proofs.Words.{get_other, Names, Place, is_there, is_kept, with_labels, unrooted}
+use Rattle.octseq_dns_compress.proofs.Words.{get_other, Names, Place, is_there, is_kept, with_labels}
 
 -- labels that aren't found, and aren't the root, aren't there
 pub absent : (names : Names) (labels : List (List ℕ)) → 0 < length labels → get names labels ≡ None

@@ -8,8 +8,8 @@ use Rattle.std.proofs.lemmas.List.Elements.{All-cons, All-head, All-nil, All-tai
 use Rattle.std.specs.FinMap.{empty}
 use Rattle.octseq.specs.Appends.{Appends}
 use Rattle.octseq.specs.declared.AppendError.{AppendError}
-use Rattle.octseq_dns_compress.proofs.Words.{Agrees, IsApart, AreApart, before, Known, Message, IsSound, state_of}
-use Rattle.octseq_dns_compress.proofs.Words.{message_once, Target}
+use Rattle.octseq_dns_compress.proofs.Words.{IsApart, AreApart, before, Known, Message, IsSound, state_of, message_once}
+use Rattle.octseq_dns_compress.proofs.Words.{Target}
 use Rattle.octseq_dns_compress.proofs.Grown.{known_targets, none_known, IsAlike, alike_stays, known_alike, octet_stays}
 use Rattle.octseq_dns_compress.proofs.Fields.{one_state}
 use Rattle.octseq_dns_compress.proofs.Steps.{Grows, appended_grows, grown_length}

@@ -1,8 +1,7 @@
 -- Targets in a message some of whose octets are overwritten: labels before and after them stay.
 use Rattle.std.proofs.Common.{slice_index_or, nat_lt, ltb-false, ltb-true, Bool, true, false, refl, ◌≡◌, ℕ, ◌+◌, ◌-◌}
-use Rattle.std.proofs.Common.{◌<◌, ◌≤◌, ◌⊎◌, inl, inr, List, ◌++◌, length, take, drop, ap, ◌∙◌, sym, subst, arith}
-use Rattle.std.proofs.Common.{append_assoc, length-append, length-drop, get_or-drop, length-take, take-append-drop}
-use Rattle.std.proofs.Common.{take-take, All}
+use Rattle.std.proofs.Common.{◌≤◌, ◌⊎◌, inl, inr, List, ◌++◌, length, take, drop, ap, ◌∙◌, sym, arith, append_assoc}
+use Rattle.std.proofs.Common.{length-append, length-drop, get_or-drop, length-take, take-append-drop, take-take, All}
 use Rattle.std.proofs.Math.Seq.{take-append-add}
 use Rattle.std.proofs.lemmas.List.{take-append-le, drop-take}
 use Rattle.std.proofs.lemmas.Slice.{drop-append-drop}
@@ -10,7 +9,6 @@ use Rattle.std.proofs.Math.Logic.{∥∥₁_elim}
 use Rattle.std.specs.Coded.{le_prop}
 use Rattle.octseq_dns_compress.proofs.Words.{before, Composed, label_at, IsWhole, Target, Message, IsSound, composed}
 use Rattle.octseq_dns_compress.proofs.Words.{state_of, with_header}
-use Rattle.octseq_dns_compress.proofs.Fields.{one_state}
 use Rattle.octseq_dns_compress.proofs.Grown.{IsAlike, alike_stays, octet_stays}
 use Rattle.octseq_dns_compress.proofs.Messages.{message_alike, message_same, none_apart, sound_from, state_is}
 

@@ -1,4 +1,4 @@
-use Rattle.std.proofs.Common.{◌+◌, ◌++◌, ap, ◌∙◌, sym, length, length-append, take, arith, append_assoc}
+use Rattle.std.proofs.Common.{◌++◌, ap, ◌∙◌, sym, length, length-append, take, arith, append_assoc}
 use Rattle.octseq_dns_compress.proofs.Words.{unrooted, plain_labels}
 use Rattle.octseq.proofs.Limits.{past_more, within_not_past}
 use Rattle.octseq_dns_compress.proofs.PlainLabels.{fewer_shorter}

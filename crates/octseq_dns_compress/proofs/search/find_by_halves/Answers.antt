@@ -1,4 +1,4 @@
-use Rattle.std.proofs.Common.{sym, ◌∙◌, ◌+◌, ◌-◌, ◌/◌, ◌<◌, ◌∷◌, length, arith, rules}
+use Rattle.std.proofs.Common.{sym, ◌∙◌, ◌+◌, ◌-◌, ◌/◌, ◌<◌, length, arith, rules}
 use Rattle.std.specs.Cmp.{Equal-is}
 use Rattle.octseq_dns_compress.specs.Key.{key}
 use Rattle.octseq_dns_compress.proofs.Keys.{before_more, after_more, greater_not_less, halved, halves_left, few_halves}

@@ -1,4 +1,4 @@
-use Rattle.std.proofs.Common.{◌∷◌, sym, ◌∙◌}
+use Rattle.std.proofs.Common.{sym, ◌∙◌}
 use Rattle.std.specs.Cmp.{Equal-is}
 use Rattle.octseq_dns_compress.specs.Key.{key}
 use Rattle.octseq_dns_compress.proofs.Keys.{key_there, key_equal}

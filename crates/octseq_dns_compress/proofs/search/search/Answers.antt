@@ -1,4 +1,4 @@
-use Rattle.std.proofs.Common.{◌∷◌, refl, subst, arith}
+use Rattle.std.proofs.Common.{refl, subst, arith}
 use Rattle.octseq_dns_compress.proofs.Words.{key, IsPosition, plain_labels, Target}
 use Rattle.octseq_dns_compress.proofs.PlainLabels.{last_label}
 use Rattle.octseq_dns_compress.proofs.Searched.{ends_at, none_at, ending_is}
