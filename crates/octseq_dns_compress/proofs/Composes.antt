@@ -81,10 +81,7 @@ module _ {most : ℕ} {octets : List ℕ} {held : List Target} (old : Message mo
   octets_known =
       ∥∥₁_elim old.known.1 (Coded-set (coded_list coded_ℕ) (unrooted (take end.written labels) ++ ended end.next)
       (name_octets old.known.0 labels)) (λ agrees.
-      let ends = is old.known.0 agrees in
-      ap (λ first. unrooted first ++ ended end.next) ends.first
-      ∙ ap (λ n. unrooted (first_labels old.known.0 labels) ++ ended n)
-      (ends.ends.next_is ∙ ap at_or_zero ends.last))
+      let ends = is old.known.0 agrees in rw (ends.first, ends.ends.next_is, ends.last))
 
   size : length octets + length (unrooted (take end.written labels) ++ ended end.next)
       ≡ length (with_name most (state_of old) labels).octets

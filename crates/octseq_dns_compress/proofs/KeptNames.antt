@@ -1,5 +1,5 @@
 -- The names after labels are written, of which the last ones are kept first.
-use Rattle.std.proofs.Common.{IsTrue, if◌then◌else◌, nat_le, nat_lt, ◌≡◌, Bool, true, false, ℕ, ◌+◌, ◌<◌, ◌≤◌, None}
+use Rattle.std.proofs.Common.{rules, tests, IsTrue, if◌then◌else◌, nat_le, nat_lt, ◌≡◌, Bool, true, false, ℕ, ◌+◌, ◌<◌, ◌≤◌, None}
 use Rattle.std.proofs.Common.{List, [], ◌∷◌, length, refl, ap, ◌∙◌, arith, is_some, le-leb, leb-true, lt-ltb, ltb-true}
 use Rattle.std.proofs.lemmas.Bool.{and_from, and_parts, false_from_ne_true}
 use Rattle.std.specs.FinMap.{get, len, insert, contains_key}
@@ -28,9 +28,7 @@ module _ (most : ℕ) (names : Names) (rest : List (List ℕ)) (place : Place) w
 
   pub kept_from : place.at ≤ 16383 → place.pointers ≤ 126 → len names < most → IsTrue (is_there names rest)
       → IsTrue (is_kept most names rest place)
-  kept_from near few room there =
-      and_from _ _ (le-leb place.at 16383 near)
-      (and_from _ _ (le-leb place.pointers 126 few) (and_from _ _ (lt-ltb (len names) most room) there))
+  kept_from near few room there = search (rules, tests)
 
   pub unkept : (place.at ≤ 16383 → place.pointers ≤ 126 → len names < most → ¬ IsTrue (is_there names rest))
       → is_kept most names rest place ≡ false

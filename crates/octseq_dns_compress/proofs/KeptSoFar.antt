@@ -15,7 +15,7 @@ use Rattle.octseq_dns_compress.proofs.Words.{Agrees, place_of, get_new, put_case
 use Rattle.octseq_dns_compress.proofs.Words.{key, key_cmp, IsWhole, IsPosition, Names, Place, at_or_zero, is_there}
 use Rattle.octseq_dns_compress.proofs.Words.{label_no, prefixed, unrooted, IsWritten, Target}
 use Rattle.octseq_dns_compress.proofs.MoreNames.{all_insert, MayBeKept, agrees_added}
-use Rattle.octseq_dns_compress.proofs.PlainLabels.{front_and_rest, length_there, whole_there, label_there, one_left}
+use Rattle.octseq_dns_compress.proofs.PlainLabels.{front_and_rest, whole_there, label_there, one_left}
 
 -- the offset of the label after this many
 abbrev pub place_after : ℕ → List (List ℕ) → ℕ → ℕ
@@ -26,14 +26,13 @@ place_after start labels count = start + length (unrooted (take count labels))
 module _ {octets : List ℕ} {names : Names} {start : ℕ} {labels : List (List ℕ)} {written : ℕ}
     (is : IsWritten octets names start labels written) (v : ℕ) (less : v < written) (within : written ≤ length labels)
     (at : ℕ) (same : at ≡ place_after start labels v) where
-  front : List ℕ
+  abbrev front : List ℕ
   front = is.front ++ unrooted (take v labels)
 
-  back : List ℕ
+  abbrev back : List ℕ
   back = unrooted (drop (v + 1) (take written labels)) ++ is.back
 
   split_here : octets ≡ front ++ (prefixed (label_no labels v) ++ back)
-  unfolding front back
   split_here =
       let first = take written labels in
       let a = unrooted (take v labels) in
@@ -50,24 +49,15 @@ module _ {octets : List ℕ} {names : Names} {start : ℕ} {labels : List (List 
       ∙ sym (append_assoc is.front a (b ++ (c ++ is.back)))
 
   at_is : at ≡ length front
-  unfolding front
   at_is =
       let long = length-append is.front (unrooted (take v labels)) in
       let begin = is.start_is in omega (arith, long, begin, same)
 
   pub whole_here : IsWhole octets at
-  whole_here =
-      let len = length_there octets front (label_no labels v) back split_here in
-      let whole = whole_there octets front (label_no labels v) back split_here in
-      subst (IsWhole octets) (sym at_is) (omega (arith, len, whole))
+  whole_here = whole_there octets front (label_no labels v) back at split_here at_is
 
   pub label_here : label_at octets at ≡ prefixed (label_no labels v)
-  unfolding label_at
-  label_here =
-      ap (label_at octets) at_is
-      ∙ ap (λ n. take (1 + n) (drop (length front) octets))
-      (length_there octets front (label_no labels v) back split_here)
-      ∙ label_there octets front (label_no labels v) back split_here
+  label_here = label_there octets front (label_no labels v) back at split_here at_is
 
 -- ---- the names so far
 

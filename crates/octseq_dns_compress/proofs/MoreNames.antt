@@ -143,12 +143,6 @@ module _ (octets : List ℕ) (targets : List Target) (names : Names) (agrees : A
     abbrev all_targets : List Target
     all_targets = insert targets position target
 
-    at_position : IsPosition octets targets (key_of octets target) position
-    at_position = subst (λ key. IsPosition octets targets key position) (sym key_is) is
-
-    none_there : HasNoKey octets targets (key_of octets target)
-    none_there = subst (HasNoKey octets targets) (sym key_is) none
-
     held_added : (index : ℕ) (d : Target) → index < length all_targets
         → IsOfName all_names (slice_index_or all_targets index d)
     held_added =
@@ -223,7 +217,7 @@ module _ (octets : List ℕ) (targets : List Target) (names : Names) (agrees : A
     agrees_added = record {
       targets_are = targets_added octets targets target position agrees.targets_are may.whole may.near
           (sym (ap digest_of may.label_is)) may.few
-          at_position none_there;
+          (rw key_is is) (rw key_is none);
       count = length-insert targets position target is.within ∙ ap (λ n. n + 1) agrees.count
           ∙ sym (len-insert labels_total names (label ∷ rest) place
           ∙ ap (λ there. cond there (len names) (len names + 1)) (ap is_some may.new));

@@ -34,24 +34,24 @@ wire_of_unrooted (label ∷ labels) =
     let more = wire_of_unrooted labels in
     let long = length-append label (unrooted labels) in omega (arith, more, long)
 
-module _ (octets front label back : List ℕ) (is : octets ≡ front ++ (length label ∷ label ++ back)) where
-  -- the length octet of a label
-  pub length_there : slice_index_or octets (length front) 0 ≡ length label
-  length_there = ap (λ o. slice_index_or o (length front) 0) is ∙ get_or-append_seam front (length label) (label ++
-      back) 0
+-- a label with its length octet, between others
+module _ (octets front label back : List ℕ) (at : ℕ) (is : octets ≡ front ++ (prefixed label ++ back))
+    (here : at ≡ length front) where
+  length_there : slice_index_or octets at 0 ≡ length label
+  length_there = rw (here, is) (get_or-append_seam front (length label) (label ++ back) 0)
 
-  -- the label is whole
-  pub whole_there : length front + (1 + length label) ≤ length octets
+  pub whole_there : IsWhole octets at
   whole_there =
-      let all = ap length is ∙ length-append front (length label ∷ label ++ back) in
-      let more = length-append label back in omega (arith, all, more)
+      let len = length_there in
+      let all = ap length is ∙ length-append front (prefixed label ++ back) in
+      let more = length-append label back in omega (arith, len, all, more, here)
 
-  pub label_there : take (1 + length label) (drop (length front) octets) ≡ length label ∷ label
+  pub label_there : label_at octets at ≡ prefixed label
+  unfolding label_at
   label_there =
-      let more : 1 + length label ≡ length (length label ∷ label) = omega arith in
-      ap (λ o. take (1 + length label) (drop (length front) o)) is
-      ∙ ap (take (1 + length label)) (drop-append_seam front (length label ∷ label ++ back))
-      ∙ ap (λ n. take n ((length label ∷ label) ++ back)) more ∙ take-append_seam (length label ∷ label) back
+      let more : 1 + length label ≡ length (prefixed label) = omega arith in
+      ap (λ n. take (1 + n) (drop at octets)) length_there
+      ∙ rw (more, here, is, drop-append_seam front (prefixed label ++ back)) (take-append_seam (prefixed label) back)
 
 -- labels with their length octets have at least one octet each
 pub unrooted_longer : (labels : List (List ℕ)) → length labels ≤ length (unrooted labels)
@@ -94,17 +94,11 @@ label_read octets starts index whole within =
     ∙ ap prefixed (sym (get_or-map (label_of octets) starts index 0 [] inside))
 
 -- one more of the first labels adds its octets and its length octet
-module _ (labels : List (List ℕ)) (count : ℕ) (within : count < length labels) where
-  pub one_label_more : unrooted (take (count + 1) labels)
-      ≡ unrooted (take count labels) ++ prefixed (label_no labels count)
-  one_label_more =
-      ap (λ labels. unrooted labels) (take_more labels count [] within)
-      ∙ sym (flat_map_more prefixed [] (take count labels) (label_no labels count))
-
-  pub one_label_longer : length (unrooted (take (count + 1) labels))
-      ≡ length (unrooted (take count labels)) + length (prefixed (label_no labels count))
-  one_label_longer =
-      ap length one_label_more ∙ length-append (unrooted (take count labels)) (prefixed (label_no labels count))
+one_label_more : (labels : List (List ℕ)) (count : ℕ) → count < length labels
+    → unrooted (take (count + 1) labels) ≡ unrooted (take count labels) ++ prefixed (label_no labels count)
+one_label_more labels count within =
+    ap (λ labels. unrooted labels) (take_more labels count [] within)
+    ∙ sym (flat_map_more prefixed [] (take count labels) (label_no labels count))
 
 -- so the last of the first labels adds its own
 pub last_label : (labels : List (List ℕ)) (count : ℕ) (read : List ℕ) → 0 < count → count ≤ length labels
@@ -113,7 +107,8 @@ pub last_label : (labels : List (List ℕ)) (count : ℕ) (read : List ℕ) → 
 last_label labels count read some within is =
     let same : count ≡ count - 1 + 1 = omega (arith, some) in
     ap (λ n. length (unrooted (take n labels))) same
-    ∙ one_label_longer labels (count - 1) (omega (arith, some, within))
+    ∙ ap length (one_label_more labels (count - 1) (omega (arith, some, within)))
+    ∙ length-append (unrooted (take (count - 1) labels)) (prefixed (label_no labels (count - 1)))
     ∙ ap (λ o. length (unrooted (take (count - 1) labels)) + length o) (sym is)
 
 -- what is left of a name from its last label on

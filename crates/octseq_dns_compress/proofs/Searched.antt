@@ -10,25 +10,6 @@ use Rattle.octseq_dns_compress.proofs.Words.{pointers_from, prefixed, Target}
 use Rattle.octseq_dns_compress.proofs.PlainLabels.{one_left}
 
 module _ {octets : List ℕ} {targets : List Target} (names : Names) (agrees : Agrees octets targets names) where
-  -- one more label is there
-  pub ends_before : (label : List ℕ) (rest : List (List ℕ)) (next pointers index : ℕ) (d : Target)
-      → Ends names rest next pointers → HasKeyAt octets targets (key next (prefixed label)) index
-      → Ends names (label ∷ rest) (slice_index_or targets index d).at ((slice_index_or targets index d).pointers + 1)
-  ends_before label rest next pointers index d ends has =
-      let key = subst (λ n. HasKeyAt octets targets (key n (prefixed label)) index) ends.next_is has in
-      let it = found agrees label rest index d ends.there key in
-      record {
-        there = ap is_some it.1;
-        next_is = ap (λ t. t.at) it.2 ∙ sym (ap at_or_zero it.1);
-        pointers_are = ap (λ t. t.pointers + 1) it.2 ∙ sym (ap pointers_from it.1);
-      }
-
-  -- or it isn't
-  pub none_before : (label : List ℕ) (rest : List (List ℕ)) (next pointers : ℕ) → Ends names rest next pointers
-      → HasNoKey octets targets (key next (prefixed label)) → get names (label ∷ rest) ≡ None
-  none_before label rest next pointers ends none =
-      missing agrees label rest (subst (λ n. HasNoKey octets targets (key n (prefixed label))) ends.next_is none)
-
   -- labels whose suffix isn't there aren't there
   not_there : (labels : List (List ℕ)) (k : ℕ) → k < length labels → get names (drop k labels) ≡ None
       → get names labels ≡ None
@@ -81,14 +62,17 @@ module _ (octets : List ℕ) (targets : List Target) (names : Names) (agrees : A
       → Ends names (drop (written - 1) labels) (slice_index_or targets index d).at
       ((slice_index_or targets index d).pointers + 1)
   ends_at index d has =
-      rw (one_left labels written some within)
-      (ends_before names agrees (label_no labels (written - 1)) (drop written labels) next pointers index d ends
-      (rw is at has))
+      let it = found agrees (label_no labels (written - 1)) (drop written labels) index d ends.there
+      (rw (is, ends.next_is) at has) in
+      rw (one_left labels written some within) (record {
+        there = ap is_some it.1;
+        next_is = ap (λ t. t.at) it.2 ∙ sym (ap at_or_zero it.1);
+        pointers_are = ap (λ t. t.pointers + 1) it.2 ∙ sym (ap pointers_from it.1);
+      })
 
   -- or no target has its key, so neither it nor a label before it is there
   pub none_at : HasNoKey octets targets (key next read) → (k : ℕ) → k < written → get names (drop k labels) ≡ None
   none_at none k less =
       all_new names agrees labels (written - 1) k (omega (arith, less)) (omega (arith, some, within))
-      (ap (get names) (one_left labels written some within)
-      ∙ none_before names agrees (label_no labels (written - 1)) (drop written labels) next pointers ends
-      (rw is at none))
+      (rw (one_left labels written some within)
+      (missing agrees (label_no labels (written - 1)) (drop written labels) (rw (is, ends.next_is) at none)))
