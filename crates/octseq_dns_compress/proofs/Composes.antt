@@ -145,8 +145,7 @@ module _ {most : ℕ} {octets : List ℕ} {held : List Target} (old : Message mo
         → AppendsName limit (Err AppendError.Memory) labels old undone left
     name_taken_back undone left undone_is left_is =
         let more = unrooted (take end.written labels) ++ ended end.next in
-        let back = undone_is ∙ ap (λ n. take n new) begin ∙ ap (take (length octets)) appends.ok
-        ∙ take-append_seam octets more in
+        let back = undone_is ∙ rw (begin, appends.ok) (take-append_seam octets more) in
         let alike = left_is ∙ ap (λ n. before n kept) begin ∙ still_held begin kept same in
         record {
           now = message_same old back alike;

@@ -137,11 +137,8 @@ module _ (header : List ℕ) (twelve : length header ≡ 12) where
       → count_put (with_header s header) (with_header after header) ≡ with_header (count_put s after) header
   headed_count s after late =
       let n = length s.octets + 2 in
-      let same = ap (λ n. drop (n + 2) (header ++ drop 12 after.octets)) (headed_length s late)
-      ∙ drop-append-drop 12 after.octets header n (omega (arith, late)) twelve in
-      let octets = ap (λ o. (header ++ drop 12 s.octets) ++ part_of 2 o) same
-      ∙ headed_more s (part_of 2 (drop n after.octets)) late in
-      one_state octets refl
+      one_state (rw (headed_length s late, drop-append-drop 12 after.octets header n (omega (arith, late)) twelve)
+      (headed_more s (part_of 2 (drop n after.octets)) late)) refl
 
   headed_counted : (most : ℕ) (s : State) (fields : List Field) → 12 ≤ length s.octets
       → with_counted most (with_header s header) fields ≡ with_header (with_counted most s fields) header
@@ -204,9 +201,4 @@ module _ (most : ℕ) (s : State) (fields : List Field) where
       let same : end - 2 ≡ length s.octets = omega arith in
       ap (λ n. take n all) same ∙ ap (take (length s.octets)) grows.1 ∙ take-append_seam s.octets grows.0 in
       one_state
-      (is ∙ ap (λ a. take (place - 2) a.octets ++ (octets_be 2 (length a.octets - place) ++ drop place a.octets))
-      after_is
-      ∙ ap (λ n. take (n - 2) all ++ (octets_be 2 (length all - n) ++ drop n all)) place_is
-      ∙ ap (λ o. o ++ (octets_be 2 (length all - end) ++ drop end all)) front
-      ∙ ap (λ n. s.octets ++ (octets_be 2 n ++ drop end all)) (sym (length-drop end all)))
-      (names_are ∙ ap (λ a. a.names) after_is)
+      (is ∙ rw (after_is, place_is, front, ← length-drop end all)) (names_are ∙ ap (λ a. a.names) after_is)

@@ -54,8 +54,6 @@ fields_are_read most s (field ∷ fields) sound fit header after long =
     let octets = (with_fields most then fields).octets in
     let grows = fields_grow most then fields in
     let same = all_grown header then.octets octets after grows then_named.headed in
-    subst (λ all. AreFields (at (length s.octets) (whole all)) (field ∷ fields) (at (length octets) (whole all))) same
-    (field_is_read most s field sound fit.0 header (grows.0 ++ after) long fields
+    rw (← same) (field_is_read most s field sound fit.0 header (grows.0 ++ after) long fields
     (at (length octets) (whole (all_of header then.octets (grows.0 ++ after))))
-    (subst (λ all. AreFields (at (length then.octets) (whole all)) fields (at (length octets) (whole all))) (sym same)
-    (fields_are_read most then fields then_named fit.1 header after long)))
+    (rw same (fields_are_read most then fields then_named fit.1 header after long)))

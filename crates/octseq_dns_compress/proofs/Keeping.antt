@@ -16,13 +16,11 @@ use Rattle.octseq_dns_compress.proofs.PlainLabels.{last_label, one_left}
 pub none_before : (start : ℕ) (held : List Target) (position : ℕ) (target : Target) → start ≤ target.at
     → filter (λ t. nat_lt t.at start) (insert held position target) ≡ filter (λ t. nat_lt t.at start) held
 none_before start held position target late =
-    filter-append (λ t. nat_lt t.at start) (take position held) (target ∷ drop position held)
-    ∙ ap (λ b. filter (λ t. nat_lt t.at start) (take position held)
-    ++ cond b (target ∷ filter (λ t. nat_lt t.at start) (drop position held))
-    (filter (λ t. nat_lt t.at start) (drop position held)))
-    (lt-leb (suc target.at) start (omega (arith, late)))
-    ∙ sym (filter-append (λ t. nat_lt t.at start) (take position held) (drop position held))
-    ∙ ap (filter (λ t. nat_lt t.at start)) (take-append-drop position held)
+    let p = λ (t : Target). nat_lt t.at start in
+    let front = take position held in
+    let back = drop position held in
+    filter-append p front (target ∷ back) ∙ rw (lt-leb (suc target.at) start (omega (arith, late)))
+    (sym (filter-append p front back) ∙ ap (filter p) (take-append-drop position held))
 
 module _ (most : ℕ) {octets : List ℕ} {held : List Target} {names : Names} {labels : List (List ℕ)} {start : ℕ}
     {ending : Ending} (agrees : Agrees octets held names) (ends : IsEnding octets held names labels ending)

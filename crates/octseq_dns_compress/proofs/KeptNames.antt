@@ -16,15 +16,7 @@ absent names (label ∷ labels) some none = ap is_some none
 module _ (most : ℕ) (names : Names) (rest : List (List ℕ)) (place : Place) where
   pub kept_parts : IsTrue (is_kept most names rest place)
       → (place.at ≤ 16383) × (place.pointers ≤ 126) × (len names < most) × IsTrue (is_there names rest)
-  kept_parts kept =
-      let one = and_parts (nat_le place.at 16383) _ kept in
-      let two = and_parts (nat_le place.pointers 126) _ one.1 in
-      let three = and_parts (nat_lt (len names) most) _ two.1 in (
-        leb-true place.at 16383 one.0,
-        leb-true place.pointers 126 two.0,
-        ltb-true (len names) most three.0,
-        three.1,
-      )
+  kept_parts kept = search (rules, tests)
 
   pub kept_from : place.at ≤ 16383 → place.pointers ≤ 126 → len names < most → IsTrue (is_there names rest)
       → IsTrue (is_kept most names rest place)
@@ -61,11 +53,7 @@ module _ (most pointers : ℕ) (names : Names) where
   pub with_known : (start : ℕ) (labels : List (List ℕ)) → IsTrue (is_there names labels)
       → with_labels most pointers names start labels ≡ names
   with_known start [] there = refl
-  with_known start (label ∷ labels) there =
-      ap (λ known. if known then names
-      else (let more = with_labels most pointers names (start + (1 + length label)) labels in
-      let place : Place = record { at = start; pointers = pointers } in
-      if is_kept most more labels place then insert more (label ∷ labels) place else more)) there
+  with_known start (label ∷ labels) there = rw there
 
   -- another label is kept, or isn't
   pub with_one : (start : ℕ) (label : List ℕ) (labels : List (List ℕ)) (more : Names) (kept : Bool)
@@ -74,10 +62,4 @@ module _ (most pointers : ℕ) (names : Names) where
       → is_kept most more labels (record { at = start; pointers = pointers }) ≡ kept
       → with_labels most pointers names start (label ∷ labels)
       ≡ (if kept then insert more (label ∷ labels) (record { at = start; pointers = pointers }) else more)
-  with_one start label labels more kept is none kept_is =
-      let place : Place = record { at = start; pointers = pointers } in
-      let mine = with_labels most pointers names (start + (1 + length label)) labels in
-      ap (λ known. if known then names
-      else (if is_kept most mine labels place then insert mine (label ∷ labels) place else mine)) (ap is_some none)
-      ∙ ap (λ m. if is_kept most m labels place then insert m (label ∷ labels) place else m) is
-      ∙ ap (λ kept. if kept then insert more (label ∷ labels) place else more) kept_is
+  with_one start label labels more kept is none kept_is = rw (ap is_some none, is, kept_is)

@@ -40,13 +40,9 @@ module _ {octets : List ℕ} {names : Names} {start : ℕ} {labels : List (List 
       let c = unrooted (drop (v + 1) first) in
       let taken = length-take written labels in
       let here = drop_more first v [] (omega (arith, less, within, taken)) in
-      is.octets_are
-      ∙ ap (λ o. is.front ++ (o ++ is.back)) (front_and_rest v first
-      ∙ ap (λ l. unrooted l ++ unrooted (drop v first)) (take-take v written labels (omega (arith, less)))
-      ∙ ap (λ l. a ++ unrooted l) here
-      ∙ ap (λ l. a ++ (prefixed l ++ c)) (get_or-take written labels v [] less))
-      ∙ ap (λ o. is.front ++ o) (append_assoc a (b ++ c) is.back ∙ ap (λ o. a ++ o) (append_assoc b c is.back))
-      ∙ sym (append_assoc is.front a (b ++ (c ++ is.back)))
+      let parts : unrooted first ≡ a ++ (b ++ c) =
+      front_and_rest v first ∙ rw (take-take v written labels (omega (arith, less)), here, get_or-take written labels v [] less) in
+      is.octets_are ∙ ap (λ o. is.front ++ (o ++ is.back)) parts ∙ simp append_assoc
 
   at_is : at ≡ length front
   at_is =

@@ -1,5 +1,5 @@
 -- Messages that change: octets and targets are added, and what was there stays; or all from an offset on is removed.
-use Rattle.std.proofs.Common.{nat_lt, cond, slice_index_or, ◌≡◌, Bool, true, false, ℕ, suc, ◌+◌, ◌<◌, ◌≤◌, Option, List}
+use Rattle.std.proofs.Common.{tests, nat_lt, cond, slice_index_or, ◌≡◌, Bool, true, false, ℕ, suc, ◌+◌, ◌<◌, ◌≤◌, Option, List}
 use Rattle.std.proofs.Common.{[], ◌∷◌, ◌++◌, length, replicate, take, refl, sym, ap, ◌∙◌, subst, arith, Result, lt-ltb}
 use Rattle.std.proofs.Common.{le-ltb, ltb-false, length-take, take-take, take_all, All}
 use Rattle.std.proofs.lemmas.Bool.{lt-leb}
@@ -20,16 +20,7 @@ use Rattle.octseq_dns_compress.proofs.Steps.{Grows, appended_grows, grown_length
 before_twice : (near far : ℕ) → near ≤ far → (targets : List Target)
     → before near (before far targets) ≡ before near targets
 before_twice near far less [] = refl
-before_twice near far less (target ∷ targets) =
-    by_test (nat_lt target.at far) refl (before_twice near far less targets) where
-      by_test : (reported : Bool) → nat_lt target.at far ≡ reported → before near (before far targets) ≡ before near targets
-          → before near (cond reported (target ∷ before far targets) (before far targets))
-          ≡ before near (target ∷ targets)
-      by_test true is more = ap (λ more. cond (nat_lt target.at near) (target ∷ more) more) more
-      by_test false is more =
-          let past = ltb-false target.at far is in
-          more ∙ sym (ap (λ reported. cond reported (target ∷ before near targets) (before near targets))
-          (le-ltb target.at near (omega (arith, past, less))))
+before_twice near far less (target ∷ targets) = grind (arith, tests, before_twice near far less targets)
 
 -- what holds of the targets before an offset, and of all others, holds of all
 all_by_before : (place : ℕ) (P : Target → Type 0) → ((t : Target) → place ≤ t.at → P t) → (targets : List Target)
@@ -50,9 +41,12 @@ all_by_before place P past (target ∷ targets) each =
 filtered : (place : ℕ) (targets : List Target) → All (λ t. t.at < place) targets → before place targets ≡ targets
 filtered place [] each = refl
 filtered place (target ∷ targets) each =
-    ap (λ b. cond b (target ∷ before place targets) (before place targets))
-    (lt-ltb target.at place (All-head (λ t. t.at < place) target targets each))
-    ∙ ap (λ more. target ∷ more) (filtered place targets (All-tail (λ t. t.at < place) target targets each))
+    grind (
+      arith,
+      tests,
+      All-head (λ t. t.at < place) target targets each,
+      filtered place targets (All-tail (λ t. t.at < place) target targets each),
+    )
 
 -- as all are before the end
 pub before_all : {octets : List ℕ} {targets : List Target} → Known octets targets
@@ -64,9 +58,7 @@ before_all {octets = octets} {targets = targets} known =
 -- and no target is before offset 0
 pub none_first : (targets : List Target) → before 0 targets ≡ []
 none_first [] = refl
-none_first (target ∷ targets) =
-    ap (λ b. cond b (target ∷ before 0 targets) (before 0 targets))
-    (lt-leb (suc target.at) 0 (omega arith)) ∙ none_first targets
+none_first (target ∷ targets) = grind (arith, tests, none_first targets)
 
 -- ---- labels apart from the two octets before data
 

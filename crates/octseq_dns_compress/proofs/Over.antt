@@ -107,12 +107,7 @@ take_headed octets header start late =
     let more = start - n in
     let zero : 0 + n ≡ n = omega arith in
     let both : start ≡ n + more = omega (arith, late) in
-    ap (λ m. take start (header ++ drop m octets)) zero
-    ∙ ap (λ m. take m (header ++ drop n octets)) both
-    ∙ take-append-add header (drop n octets) more
-    ∙ ap (λ o. header ++ o) (sym (drop-take n more octets))
-    ∙ ap (λ m. header ++ drop n (take m octets)) (sym both)
-    ∙ ap (λ m. header ++ drop m (take start octets)) (sym zero)
+    rw (zero, both, take-append-add header (drop n octets) more, drop-take n more octets)
 
 module _ {most : ℕ} {octets new : List ℕ} {held : List Target} (was : Message most octets held) (header : List ℕ)
     (twelve : length header ≡ 12) (new_is : new ≡ put_over octets 0 header) where

@@ -8,7 +8,7 @@ use Rattle.std.proofs.Math.Seq.{take-append_seam, drop-append_seam, get_or-appen
 use Rattle.octseq_dns_name.specs.Name.{wire_length, HasLabel, octet}
 use Rattle.octseq_dns_compress.proofs.Words.{label_at, IsWhole, label_no, prefixed, unrooted, label_of, labels_at}
 use Rattle.octseq_dns_compress.proofs.Words.{AreWhole}
-use Rattle.std.proofs.lemmas.List.Elements.{All-append}
+use Rattle.std.proofs.lemmas.List.Elements.{All-push}
 use Rattle.octseq.specs.declared.AsOctets.{Ghosts}
 use Rattle.octseq.specs.declared.parse.Parser.{Parser}
 use Rattle.octseq.specs.Integer.{be}
@@ -70,7 +70,7 @@ module _ (octets : List ℕ) (at : ℕ) (whole : IsWhole octets at) where
   label_taken =
       let len = slice_index_or octets at 0 in
       let one : 1 + len ≡ suc len = omega arith in
-      ap (λ n. take n (drop at octets)) one ∙ ap (take (suc len)) (drop_more octets at 0 (omega (arith, whole)))
+      rw (one, drop_more octets at 0 (omega (arith, whole)))
 
   pub label_of_taken : label_of octets at ≡ take (slice_index_or octets at 0) (drop (at + 1) octets)
   label_of_taken = ap (drop 1) label_taken
@@ -142,21 +142,21 @@ module _ (octets starts : List ℕ) (start end index : ℕ) (front : List ℕ) (
       let len = 1 + slice_index_or octets end 0 in
       let on : start + (end - start) ≡ end = omega (arith, ordered) in
       let all : end - start + len ≡ end + len - start = omega (arith, ordered) in
-      let label : prefixed (label_no (labels_at octets starts) index) ≡ take len (drop (end - start) (drop start octets)) =
-      sym (label_read octets starts index whole inside) ∙ ap (label_at octets) here
-      ∙ ap (λ n. take len (drop n octets)) (sym on) ∙ ap (take len) (sym (drop-drop (end - start) start octets)) in
-      ap (λ o. take (end - start) (drop start octets) ++ o) label
-      ∙ sym (take-add (end - start) len (drop start octets)) ∙ ap (λ n. take n (drop start octets)) all
+      rw (
+        ← label_read octets starts index whole inside,
+        here,
+        ← all,
+        take-add (end - start) len (drop start octets),
+        drop-drop (end - start) start octets,
+        on,
+      )
 
   -- to those of the labels before it
   pub run_more : unrooted (take index (labels_at octets starts)) ≡ front ++ take (end - start) (drop start octets)
       → unrooted (take (index + 1) (labels_at octets starts))
       ≡ front ++ take (end + (1 + slice_index_or octets end 0) - start) (drop start octets)
   run_more is =
-      let labels = labels_at octets starts in
-      one_label_more labels index inside ∙ ap (λ o. o ++ prefixed (label_no labels index)) is
-      ∙ append_assoc front (take (end - start) (drop start octets)) (prefixed (label_no labels index))
-      ∙ ap (λ o. front ++ o) next_taken
+      rw (one_label_more (labels_at octets starts) index inside, is, append_assoc front, next_taken)
 
   -- it is whole
   pub run_inside : end + (1 + slice_index_or octets end 0) ≤ length octets
@@ -223,20 +223,18 @@ module _ (octets starts : List ℕ) (count place : ℕ) (within : count < length
 
   pub more_whole : AreWhole octets (take count starts) → IsWhole octets place
       → AreWhole octets (take (count + 1) (slice_set starts count place))
-  more_whole all one = subst (AreWhole octets) (sym more_set)
-      (All-append (IsWhole octets) (take count starts) (place ∷ []) all only) where
-        only : AreWhole octets (place ∷ [])
-        only zero d inside = one
-        only (suc k) d inside = absurd (omega (arith, inside))
+  more_whole all one = rw more_set (All-push (IsWhole octets) (take count starts) place all one)
 
   pub more_labels : (label : List ℕ) (left all : List (List ℕ)) → label_of octets place ≡ label
       → labels_at octets (take count starts) ++ (label ∷ left) ≡ all
       → labels_at octets (take (count + 1) (slice_set starts count place)) ++ left ≡ all
   more_labels label left all is are =
-      ap (λ s. labels_at octets s ++ left) more_set
-      ∙ ap (λ labels. labels ++ left) (map-append (label_of octets) (take count starts) (place ∷ []))
-      ∙ append_assoc (labels_at octets (take count starts)) (label_of octets place ∷ []) left
-      ∙ ap (λ l. labels_at octets (take count starts) ++ (l ∷ left)) is ∙ are
+      rw (
+        more_set,
+        map-append (label_of octets) (take count starts) (place ∷ []),
+        append_assoc (labels_at octets (take count starts)),
+        is,
+      ) are
 
 -- a name is read from the octets of its window
 pub source_is : {R : Type 0} {g : Ghosts R} (octets : List ℕ) (source : R) (parser : Parser R g) (w : Window)
