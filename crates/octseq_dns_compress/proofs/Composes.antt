@@ -30,8 +30,7 @@ position_stays : (octets more : List ℕ) (targets : List Target) → AreTargets
 position_stays octets more targets are key position is = record {
   within = is.within;
   before = λ k d less.
-      let within = is.within in
-      same (slice_index_or targets k d) (are.whole k d (omega (arith, less, within))) ∙ is.before k d less;
+      same (slice_index_or targets k d) (are.whole k d (omega (arith, less, is.within))) ∙ is.before k d less;
   after = λ k d from inside reported.
       is.after k d from inside (sym (same (slice_index_or targets k d) (are.whole k d inside)) ∙ reported);
 } where
@@ -55,7 +54,7 @@ after_names : (octets : List ℕ) (targets : List Target) (names : Names) → Ag
     → (labels : List (List ℕ)) (place : Place) → get names labels ≡ Some place → place.at < length octets
 after_names octets targets names agrees [] place found = absurd (true≢false (ap is_some (sym found ∙ agrees.root)))
 after_names octets targets names agrees (label ∷ labels) place found =
-    let whole = (agrees.all label labels place found).whole in omega (arith, whole)
+    omega (arith, (agrees.all label labels place found).whole)
 
 -- so the labels are after them
 pub is_written : (octets : List ℕ) (targets : List Target) (names : Names) → Agrees octets targets names
@@ -68,7 +67,7 @@ is_written octets targets names agrees labels written start back begin header = 
   start_is = begin;
   after_header = omega (arith, begin, header);
   after_names = λ others place found.
-      let less = after_names octets targets names agrees others place found in omega (arith, less, begin);
+      omega (arith, after_names octets targets names agrees others place found, begin);
 }
 
 -- ---- appending a name
@@ -119,10 +118,9 @@ module _ {most : ℕ} {octets : List ℕ} {held : List Target} (old : Message mo
       now = record {
         known = (names_with most old.known.0 start labels, ∥∥₁_map old.known.1 to);
         few = few;
-        headed = let headed = old.headed in
-            let long = ap length appends.ok
+        headed = let long = ap length appends.ok
             ∙ length-append octets (unrooted (take end.written labels) ++ ended end.next) in
-            omega (arith, headed, long);
+            omega (arith, old.headed, long);
         short = short;
       };
       ok = one_state (appends.ok ∙ ap (λ o. octets ++ o) octets_known)

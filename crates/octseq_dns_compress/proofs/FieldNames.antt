@@ -17,9 +17,11 @@ use Rattle.octseq_dns_compress.proofs.LabelsThere.{named_grows, named_with}
 pub field_named : (most : ℕ) (s : State) (field : Field) → IsWellNamed s → FitsField field
     → IsWellNamed (with_field most s field)
 field_named most s field sound fits = record {
-  headed = let longer = grown_length s.octets (with_field most s field).octets (field_grows most s field) in
-      let headed = sound.headed in
-      omega (arith, headed, longer);
+  headed = omega (
+    arith,
+    sound.headed,
+    grown_length s.octets (with_field most s field).octets (field_grows most s field),
+  );
   named = named field fits;
 } where
   named : (field : Field) → FitsField field → AreNamed (with_field most s field).octets (with_field most s field).names
@@ -61,9 +63,7 @@ pub counted_size : (most : ℕ) (s : State) (fields : List Field)
 counted_size most s fields =
     let data_are = data_octets most s fields in
     let outer = length-append s.octets (part_of 2 data_are) in
-    let inner = length-append (octets_be 2 (length data_are)) data_are in
-    let wide = length_be 2 (length data_are) in
-    omega (arith, outer, inner, wide)
+    omega (arith, outer, length-append (octets_be 2 (length data_are)) data_are, length_be 2 (length data_are))
 
 -- ---- entries
 

@@ -17,9 +17,8 @@ octets_are_read : (octets more header after : List ℕ) → 12 ≤ length octets
     (length more ≤ left w) × (next (length more) w ≡ more)
 octets_are_read octets more header after headed long =
     let w = at (length octets) (whole (all_of header (octets ++ more) after)) in
-    let both = length-append octets more in
     let come = front_comes_next w more after (length more)
-    (rest_at header (octets ++ more) after (length octets) long headed (omega (arith, both))
+    (rest_at header (octets ++ more) after (length octets) long headed (omega (arith, length-append octets more))
     ∙ ap (λ front. front ++ after) (drop-append_seam octets more)) refl in
     (come.0, come.1)
 

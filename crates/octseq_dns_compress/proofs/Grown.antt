@@ -18,7 +18,7 @@ IsAlike old new at = (slice_index_or new at 0 ≡ slice_index_or old at 0) × (l
 module _ (old new : List ℕ) (targets : List Target) (long : length old ≤ length new)
     (alike : (i : ℕ) (d : Target) → i < length targets → IsAlike old new (slice_index_or targets i d).at) where
   whole_alike : (at : ℕ) → IsAlike old new at → IsWhole old at → IsWhole new at
-  whole_alike at same whole = let first = same.0 in omega (arith, first, long, whole)
+  whole_alike at same whole = omega (arith, same.0, long, whole)
 
   key_alike : (i : ℕ) (d : Target) → i < length targets
       → key_of new (slice_index_or targets i d) ≡ key_of old (slice_index_or targets i d)
@@ -74,10 +74,9 @@ module _ (octets more : List ℕ) where
   unfolding label_at
   label_stays at whole =
       let n = 1 + slice_index_or octets at 0 in
-      let left = length-drop at octets in
       ap (λ o. take (1 + o) (drop at (octets ++ more))) (octet_stays at (omega (arith, whole)))
       ∙ ap (take n) (drop-append-le at octets more (omega (arith, whole)))
-      ∙ take-append-le n (drop at octets) more (omega (arith, whole, left))
+      ∙ take-append-le n (drop at octets) more (omega (arith, whole, length-drop at octets))
 
   pub key_stays : (target : Target) → IsWhole octets target.at → key_of (octets ++ more) target ≡ key_of octets target
   key_stays target whole = ap (key target.next) (label_stays target.at whole)
@@ -88,8 +87,7 @@ module _ (octets more : List ℕ) where
   pub agrees_grown : (targets : List Target) (names : Names) → Agrees octets targets names
       → Agrees (octets ++ more) targets names
   agrees_grown targets names agrees =
-      let long = length-append octets more in
-      agrees_alike octets (octets ++ more) targets (omega (arith, long))
+      agrees_alike octets (octets ++ more) targets (omega (arith, length-append octets more))
       (λ i d within. alike_stays (slice_index_or targets i d).at (agrees.targets_are.whole i d within)) names agrees
 
 -- ---- targets of known names

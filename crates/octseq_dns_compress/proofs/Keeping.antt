@@ -93,17 +93,19 @@ module _ (most : ℕ) {octets : List ℕ} {held : List Target} {names : Names} {
   pub kept_none : 126 < ending.pointers → Agrees octets held (names_with most names start labels)
   kept_none many =
       agrees_with held names agrees (stopped ending.written (omega arith) names now_none
-      (λ k less. unkept most names (drop (suc k) labels) (place_of_no k) (λ near few room there. omega (arith, few, many))))
+      (λ k less. unkept most names (drop (suc k) labels) (place_of_no k) (λ near few room there. omega (
+        arith,
+        few,
+        many,
+      ))))
 
   -- the names that were there are before it
   before_start : (others : List (List ℕ)) → IsTrue (is_there names others) → place_of names others < start
   before_start [] there =
-      let zero = ap at_or_zero agrees.root in
-      let after = written.after_header in omega (arith, zero, after)
+      omega (arith, ap at_or_zero agrees.root, written.after_header)
   before_start (label ∷ others) there =
       let place = place_there names label others there in
-      let at = ap at_or_zero place.1 in
-      let less = written.after_names (label ∷ others) place.0 place.1 in omega (arith, at, less)
+      omega (arith, ap at_or_zero place.1, written.after_names (label ∷ others) place.0 place.1)
 
   -- nothing is kept yet
   pub kept_yet : (end older : ℕ) → older ≡ length held → ending.position ≤ length held
@@ -119,14 +121,11 @@ module _ (most : ℕ) {octets : List ℕ} {held : List Target} {names : Names} {
         phase = inl (
           omega (arith, inside, all),
           sym all,
-          let before = before_start (drop ending.written labels) ends.ends.there in
-              let next = ends.ends.next_is in omega (arith, before, next),
+          omega (arith, before_start (drop ending.written labels) ends.ends.there, ends.ends.next_is),
           λ k d less.
               let held_is = agrees.held k d less in
               let has = agrees.all held_is.label held_is.rest held_is.place held_is.there in
-              let before = before_start held_is.rest has.more in
-              let next = ap (λ t. t.next) held_is.target_is in
-              omega (arith, before, next),
+              omega (arith, before_start held_is.rest has.more, ap (λ t. t.next) held_is.target_is),
         );
       })
 
@@ -153,13 +152,12 @@ module _ (most : ℕ) {octets : List ℕ} {held : List Target} {names : Names} {
           → ending.pointers ≤ 126 → ¬ (most ≤ length after)
           → KeptSoFar octets new (now (left - 1)) labels start at older (left - 1) at (older + 1)
       kept_at new digest digested end_is is near few room =
-          let count = so_far.agrees.count in
           let less : left - 1 < ending.written = omega (arith, some, few_left) in
           let long = longer left some few_left at same in
           let target_is = is ∙ ap (λ n. insert after position
           (record { at = at; next = next; pointers = ending.pointers; digest = n })) digested in
           let names_are = now_is left some few_left at same true (kept_from most (now left) (drop left labels) here_place near
-          few (omega (arith, count, room)) so_far.there) in
+          few (omega (arith, so_far.agrees.count, room)) so_far.there) in
           rw (target_is, names_are)
           (so_far_kept at ending.pointers so_far some (omega (arith, few_left, within))
           (still_new (left - 1) (omega (arith, some)))
@@ -179,13 +177,22 @@ module _ (most : ℕ) {octets : List ℕ} {held : List Target} {names : Names} {
 
       pub kept_far : 16383 < at → Agrees octets after (names_with most names start labels)
       kept_far far =
-          kept_stopped (unkept most (now left) (drop left labels) here_place (λ near few room there. omega (arith, far, near)))
+          kept_stopped (unkept most (now left) (drop left labels) here_place (λ near few room there. omega (
+            arith,
+            far,
+            near,
+          )))
 
       pub kept_full : most ≤ length after → Agrees octets after (names_with most names start labels)
       kept_full full =
           let count = so_far.agrees.count in
           kept_stopped
-          (unkept most (now left) (drop left labels) here_place (λ near few room there. omega (arith, full, count, room)))
+          (unkept most (now left) (drop left labels) here_place (λ near few room there. omega (
+            arith,
+            full,
+            count,
+            room,
+          )))
 
   -- all are kept
   pub kept_all : {after : List Target} {end older left next position : ℕ}

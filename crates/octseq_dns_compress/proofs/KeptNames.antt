@@ -1,5 +1,21 @@
 -- The names after labels are written, of which the last ones are kept first.
-use Rattle.std.proofs.Common.{rules, tests, IsTrue, if◌then◌else◌, nat_le, nat_lt, ◌≡◌, Bool, true, false, ℕ, ◌+◌, ◌<◌, ◌≤◌, None}
+use Rattle.std.proofs.Common.{
+  rules,
+  tests,
+  IsTrue,
+  if◌then◌else◌,
+  nat_le,
+  nat_lt,
+  ◌≡◌,
+  Bool,
+  true,
+  false,
+  ℕ,
+  ◌+◌,
+  ◌<◌,
+  ◌≤◌,
+  None,
+}
 use Rattle.std.proofs.Common.{List, [], ◌∷◌, length, refl, ap, ◌∙◌, arith, is_some, le-leb, leb-true, lt-ltb, ltb-true}
 use Rattle.std.proofs.lemmas.Bool.{and_from, and_parts, false_from_ne_true}
 use Rattle.std.specs.FinMap.{get, len, insert, contains_key}

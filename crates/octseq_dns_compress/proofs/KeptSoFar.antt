@@ -38,16 +38,18 @@ module _ {octets : List ℕ} {names : Names} {start : ℕ} {labels : List (List 
       let a = unrooted (take v labels) in
       let b = prefixed (label_no labels v) in
       let c = unrooted (drop (v + 1) first) in
-      let taken = length-take written labels in
-      let here = drop_more first v [] (omega (arith, less, within, taken)) in
+      let here = drop_more first v [] (omega (arith, less, within, length-take written labels)) in
       let parts : unrooted first ≡ a ++ (b ++ c) =
-      front_and_rest v first ∙ rw (take-take v written labels (omega (arith, less)), here, get_or-take written labels v [] less) in
+      front_and_rest v first ∙ rw (
+        take-take v written labels (omega (arith, less)),
+        here,
+        get_or-take written labels v [] less,
+      ) in
       is.octets_are ∙ ap (λ o. is.front ++ (o ++ is.back)) parts ∙ simp append_assoc
 
   at_is : at ≡ length front
   at_is =
-      let long = length-append is.front (unrooted (take v labels)) in
-      let begin = is.start_is in omega (arith, long, begin, same)
+      omega (arith, length-append is.front (unrooted (take v labels)), is.start_is, same)
 
   pub whole_here : IsWhole octets at
   whole_here = whole_there octets front (label_no labels v) back at split_here at_is
@@ -75,15 +77,12 @@ later_position : (octets : List ℕ) (held : List Target) (start older next : �
 later_position octets held start older next label late is = record {
   within = is.many;
   before = λ k d less.
-      let taken = length-take (older + 1) held in
-      let many = is.many in
-      let low = is.low k d (omega (arith, less, many, taken)) in
+      let low = is.low k d (omega (arith, less, is.many, length-take (older + 1) held)) in
       let same = ap (λ t. t.next) (get_or-take (older + 1) held k d less) in
       reported k d Ordering.Less
       (nat_cmp_is (slice_index_or held k d).next next Ordering.Less (omega (arith, low, same, late)));
   after = λ k d from inside is_less.
-      let left = length-drop (older + 1) held in
-      let high = is.high (k - (older + 1)) d (omega (arith, from, inside, left)) in
+      let high = is.high (k - (older + 1)) d (omega (arith, from, inside, length-drop (older + 1) held)) in
       let here : older + 1 + (k - (older + 1)) ≡ k = omega (arith, from) in
       let same = ap (λ t. t.next)
       (get_or-drop (older + 1) held (k - (older + 1)) d ∙ ap (λ i. slice_index_or held i d) here) in
@@ -162,15 +161,13 @@ module _ {octets : List ℕ} {held : List Target} {now : Names} {labels : List (
         low = All-take (λ t. t.next < start) (older + 1) (insert held position target)
             (all_insert (λ t. t.next < start) position held target first.3 first.2);
         high = λ i d inside.
-            let none = length-drop (older + 1) (insert held position target) in
-            absurd (omega (arith, inside, none, grown, all));
+            absurd (omega (arith, inside, length-drop (older + 1) (insert held position target), grown, all));
       }
   later (inr (here, next_is, is)) =
       let many = is.many in
-      let grown = length-insert held position target (so_far.here some).within in
       let taken = length-take position held in
       record {
-        many = omega (arith, many, grown);
+        many = omega (arith, many, length-insert held position target (so_far.here some).within);
         low = subst (All (λ t. t.next < start))
             (sym (take-append-le (older + 1) (take position held) (target ∷ drop position held)
             (omega (arith, here, taken, many)) ∙ take-take (older + 1) position held (omega (arith, here)))) is.low;
@@ -203,5 +200,5 @@ module _ {octets : List ℕ} {held : List Target} {now : Names} {labels : List (
     by_name : (others : List (List ℕ)) (other : Place)
         → ((others ≡ label ∷ rest) × (other ≡ place)) ⊎ (get now others ≡ Some other)
         → start ≤ other.at → at ≤ other.at
-    by_name others other (inl same) from = let one = ap (λ p. p.at) same.1 in omega (arith, one)
-    by_name others other (inr old) from = let far = so_far.apart others other old from in omega (arith, far, longer)
+    by_name others other (inl same) from = omega (arith, ap (λ p. p.at) same.1)
+    by_name others other (inr old) from = omega (arith, so_far.apart others other old from, longer)

@@ -79,20 +79,17 @@ named_before octets names headed named labels place found =
     let here = (named.there labels place found).1 header [] twelve in
     let room = has_labels_takes place.at (at place.at (whole all)) here.0 labels place.pointers here.1 in
     let long = length-append header (drop 12 octets ++ []) in
-    let more = length-append (drop 12 octets) [] in
-    let fewer = length-drop 12 octets in
-    omega (arith, room, long, more, fewer, headed, twelve)
+    omega (arith, room, long, length-append (drop 12 octets) [], length-drop 12 octets, headed, twelve)
 
 -- what is left at an offset after the header, whatever follows the message
 pub rest_at : (header octets more : List ℕ) (place : ℕ) → length header ≡ 12 → 12 ≤ place → place ≤ length octets
     → rest (at place (whole (all_of header octets more))) ≡ drop place octets ++ more
 rest_at header octets more place headed late within =
     let all = all_of header octets more in
-    let fewer = length-drop place all in
     let long = length-append header (drop 12 octets) in
     let left = length-drop 12 octets in
     let inside : place ≤ length (header ++ drop 12 octets) = omega (arith, long, left, headed, late, within) in
-    take_all (length all - place) (drop place all) (omega (arith, fewer))
+    take_all (length all - place) (drop place all) (omega (arith, length-drop place all))
     ∙ ap (drop place) (sym (append_assoc header (drop 12 octets) more))
     ∙ drop-append-le place (header ++ drop 12 octets) more inside
     ∙ ap (λ rest. rest ++ more) (drop-append-drop 12 octets header place late headed)
@@ -127,7 +124,7 @@ written_at : (octets : List ℕ) (names : Names) (labels : List (List ℕ)) → 
 written_at octets names labels headed named each = record {
   each = each;
   late = headed;
-  within = let long = length-append octets (name_octets names labels) in omega (arith, long);
+  within = omega (arith, length-append octets (name_octets names labels));
   before = named_before octets names headed named;
   octets_are = drop-append_seam octets (name_octets names labels);
 }
@@ -141,7 +138,7 @@ few_from octets names named (label ∷ labels) =
       by_found : (found : Option Place) → get names (label ∷ labels) ≡ found
           → pointers_from (last_place names labels) ≤ 127
           → pointers_from (option_or found (last_place names labels)) ≤ 127
-      by_found (Some place) found others = let few = named.few (label ∷ labels) place found in omega (arith, few)
+      by_found (Some place) found others = omega (arith, named.few (label ∷ labels) place found)
       by_found None found others = others
 
 -- A name that is written after a message is read as that name, whatever its header says and whatever follows it.
@@ -195,16 +192,12 @@ written_more : (octets : List ℕ) (names : Names) (place : ℕ) (label : List �
 written_more octets names place label labels written none =
     let new : drop place octets ≡ length label ∷ (label ++ name_octets names labels) =
     written.octets_are ∙ ap (octets_by names label labels) none ∙ octets_new names label labels in
-    let size = ap length new in
-    let left = length-drop place octets in
-    let both = length-append label (name_octets names labels) in
     let one : length (length label ∷ label) ≡ 1 + length label = omega arith in
-    let late = written.late in
     record {
       each = written.each.2;
-      late = omega (arith, late);
-      within = omega (arith, size, left, both);
-      before = λ others other found. let less = written.before others other found in omega (arith, less);
+      late = omega (arith, written.late);
+      within = omega (arith, ap length new, length-drop place octets, length-append label (name_octets names labels));
+      before = λ others other found. omega (arith, written.before others other found);
       octets_are = sym (drop-drop (1 + length label) place octets) ∙ ap (drop (1 + length label)) new
           ∙ drop_at (length label ∷ label) (name_octets names labels) (1 + length label) one;
     }

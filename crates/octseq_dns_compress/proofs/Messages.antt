@@ -1,5 +1,21 @@
 -- Messages that change: octets and targets are added, and what was there stays; or all from an offset on is removed.
-use Rattle.std.proofs.Common.{tests, nat_lt, cond, slice_index_or, ◌≡◌, Bool, true, false, ℕ, suc, ◌+◌, ◌<◌, ◌≤◌, Option, List}
+use Rattle.std.proofs.Common.{
+  tests,
+  nat_lt,
+  cond,
+  slice_index_or,
+  ◌≡◌,
+  Bool,
+  true,
+  false,
+  ℕ,
+  suc,
+  ◌+◌,
+  ◌<◌,
+  ◌≤◌,
+  Option,
+  List,
+}
 use Rattle.std.proofs.Common.{[], ◌∷◌, ◌++◌, length, replicate, take, refl, sym, ap, ◌∙◌, subst, arith, Result, lt-ltb}
 use Rattle.std.proofs.Common.{le-ltb, ltb-false, length-take, take-take, take_all, All}
 use Rattle.std.proofs.lemmas.Bool.{lt-leb}
@@ -53,7 +69,7 @@ pub before_all : {octets : List ℕ} {targets : List Target} → Known octets ta
     → before (length octets) targets ≡ targets
 before_all {octets = octets} {targets = targets} known =
     filtered (length octets) targets (λ i d less.
-    let whole = (known_targets octets targets known).whole i d less in omega (arith, whole))
+    omega (arith, (known_targets octets targets known).whole i d less))
 
 -- and no target is before offset 0
 pub none_first : (targets : List Target) → before 0 targets ≡ []
@@ -74,10 +90,9 @@ kept_apart octets new held kept place grows within same are =
   where
     grown : (target : Target) → IsApart octets place target → IsApart new place target
     grown target apart near =
-        let ends = apart near in
         let same = ap (λ o. slice_index_or o target.at 0) grows.1
         ∙ octet_stays octets grows.0 target.at (omega (arith, near, within)) in
-        omega (arith, ends, same)
+        omega (arith, apart near, same)
 
 -- whole labels are apart from two octets that are appended after them
 pub data_apart : {octets new : List ℕ} {targets : List Target} (more : List ℕ) (place : ℕ) → Known octets targets
@@ -121,7 +136,7 @@ module _ {most : ℕ} {octets : List ℕ} {held : List Target} (was : Message mo
   message_alike new longer short alike = record {
     known = known_alike octets new held longer alike was.known;
     few = was.few;
-    headed = let headed = was.headed in omega (arith, headed, longer);
+    headed = omega (arith, was.headed, longer);
     short = short;
   }
 
@@ -139,10 +154,9 @@ module _ {most : ℕ} {octets : List ℕ} {held : List Target} (was : Message mo
 abbrev none_there : {most : ℕ} {octets : List ℕ} {held : List Target} → held ≡ [] → length octets ≡ 12
     → Message most octets held
 none_there {octets = octets} {held = held} none twelve =
-    let few = ap length none in
     record {
       known = none_known octets held none;
-      few = omega (arith, few);
+      few = omega (arith, ap length none);
       headed = omega (arith, twelve);
       short = omega (arith, twelve);
     }
@@ -192,12 +206,11 @@ module _ {most : ℕ} {octets : List ℕ} {held : List Target} {entry_start data
     pub sound_grown : Message most new kept → IsSound most new kept entry_start data_start
     sound_grown now =
         let long = grown_length octets new grows in
-        let within = was.within in
         let data_within = was.data_within in
         record {
           now = now;
           begun = message_same was.begun (entry_stays grows) (held_stays kept same);
-          within = omega (arith, within, long);
+          within = omega (arith, was.within, long);
           data_within = omega (arith, data_within, long);
           apart = kept_apart octets new held kept data_start grows data_within same was.apart;
         }
@@ -244,8 +257,7 @@ module _ {most : ℕ} {octets : List ℕ} {held : List Target} {entry_start data
   sound_cut {new = new} {kept = kept} same alike = record {
     now = message_same was.begun same alike;
     begun = message_same was.begun (still_begun same) (still_held alike);
-    within = let long = ap length same ∙ length-take entry_start octets in
-        let within = was.within in omega (arith, long, within);
+    within = omega (arith, ap length same ∙ length-take entry_start octets, was.within);
     data_within = omega arith;
     apart = none_apart new kept;
   }

@@ -172,8 +172,7 @@ module _ (octets : List ℕ) (targets : List Target) (names : Names) (agrees : A
       after_header = may.after_header;
       more = there_stays rest may.more;
       index = position;
-      within = let long = length-insert targets position target is.within in
-          let within = is.within in omega (arith, long, within);
+      within = omega (arith, length-insert targets position target is.within, is.within);
       target_is = λ d. get_or-insert_at targets position target d is.within ∙ target_stays label rest place may.more;
     }
 

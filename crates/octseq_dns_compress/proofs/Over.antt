@@ -32,11 +32,9 @@ alike_back old new at same =
 module _ (octets put : List ℕ) (at : ℕ) (room : at + length put ≤ length octets) where
   over_length : length (put_over octets at put) ≡ length octets
   over_length =
-      let front = length-take at octets in
       let back = length-drop (at + length put) octets in
       let outer = length-append (take at octets) (put ++ drop (at + length put) octets) in
-      let inner = length-append put (drop (at + length put) octets) in
-      omega (arith, room, front, back, outer, inner)
+      omega (arith, room, length-take at octets, back, outer, length-append put (drop (at + length put) octets))
 
   -- after what is overwritten
   over_drop : (n : ℕ) → at + length put ≤ n → drop n (put_over octets at put) ≡ drop n octets
@@ -76,8 +74,7 @@ module _ {most : ℕ} {octets new : List ℕ} {held : List Target} (was : Messag
   abbrev message_over : Message most new held
   message_over =
       let long = over_long in
-      let short = was.short in
-      message_alike was new (omega (arith, long)) (omega (arith, long, short)) stay_alike
+      message_alike was new (omega (arith, long)) (omega (arith, long, was.short)) stay_alike
 
   -- and so is what holds of it with an entry and data, if the part before the entry still is a message
   sound_over : {entry_start data_start : ℕ} → IsSound most octets held entry_start data_start
@@ -85,16 +82,13 @@ module _ {most : ℕ} {octets new : List ℕ} {held : List Target} (was : Messag
   sound_over sound begun =
       let long = over_long in
       let within = sound.within in
-      let data_within = sound.data_within in
       record {
         now = message_over;
         begun = begun;
         within = omega (arith, long, within);
-        data_within = omega (arith, long, data_within);
+        data_within = omega (arith, long, sound.data_within);
         apart = λ i d within near.
-            let ends = sound.apart i d within near in
-            let same = (stay_alike i d within).0 in
-            omega (arith, ends, same);
+            omega (arith, sound.apart i d within near, (stay_alike i d within).0);
       }
 
 -- ---- a header
@@ -112,7 +106,7 @@ take_headed octets header start late =
 module _ {most : ℕ} {octets new : List ℕ} {held : List Target} (was : Message most octets held) (header : List ℕ)
     (twelve : length header ≡ 12) (new_is : new ≡ put_over octets 0 header) where
   room : 0 + length header ≤ length octets
-  room = let headed = was.headed in omega (arith, headed, twelve)
+  room = omega (arith, was.headed, twelve)
 
   -- every label is after the header
   clear : All (λ t. IsClear octets 0 (0 + length header) t.at) held
@@ -120,9 +114,7 @@ module _ {most : ℕ} {octets new : List ℕ} {held : List Target} (was : Messag
       let after : 12 ≤ (slice_index_or held i d).at =
       ∥∥₁_elim was.known.1 le_prop (λ agrees.
       let is = agrees.held i d within in
-      let late = (agrees.all is.label is.rest is.place is.there).after_header in
-      let same = ap (λ t. t.at) is.target_is in
-      omega (arith, late, same)) in
+      omega (arith, (agrees.all is.label is.rest is.place is.there).after_header, ap (λ t. t.at) is.target_is)) in
       inr (omega (arith, after, twelve))
 
   abbrev message_headed : Message most new held
@@ -155,10 +147,7 @@ pub count_late : {B T : Type 0} {b : B} {t : T} {view : Composed B T} {most : �
     → length view.begun.octets + 2 ≤ view.data_start → entry_start + 2 ≤ data_start
 count_late {octets = octets} {entry_start = entry_start} was is late =
     let begun = ap (λ v. length v.begun.octets) is in
-    let from = ap (λ v. v.data_start) is in
-    let long = length-take entry_start octets in
-    let within = was.within in
-    omega (arith, late, begun, from, long, within)
+    omega (arith, late, begun, ap (λ v. v.data_start) is, length-take entry_start octets, was.within)
 
 -- octets before those that are overwritten
 take_before : (octets put : List ℕ) (at start : ℕ) → start ≤ at → at ≤ length octets
@@ -172,7 +161,7 @@ module _ {most : ℕ} {octets new : List ℕ} {held : List Target} {entry_start 
     (was : IsSound most octets held entry_start data_start) (count : List ℕ) (two : length count ≡ 2)
     (late : entry_start + 2 ≤ data_start) (new_is : new ≡ put_over octets (data_start - 2) count) where
   count_room : data_start - 2 + length count ≤ length octets
-  count_room = let within = was.data_within in omega (arith, within, late, two)
+  count_room = omega (arith, was.data_within, late, two)
 
   -- labels are apart from it
   count_clear : All (λ t. IsClear octets (data_start - 2) (data_start - 2 + length count) t.at) held
@@ -180,8 +169,7 @@ module _ {most : ℕ} {octets new : List ℕ} {held : List Target} {entry_start 
     by_test : (reported : Bool) → nat_lt (slice_index_or held i d).at data_start ≡ reported
         → IsClear octets (data_start - 2) (data_start - 2 + length count) (slice_index_or held i d).at
     by_test true is =
-        let ends = was.apart i d within (ltb-true (slice_index_or held i d).at data_start is) in
-        inl (omega (arith, ends))
+        inl (omega (arith, was.apart i d within (ltb-true (slice_index_or held i d).at data_start is)))
     by_test false is =
         let past = ltb-false (slice_index_or held i d).at data_start is in inr (omega (arith, past, two, late))
 
@@ -191,9 +179,8 @@ module _ {most : ℕ} {octets new : List ℕ} {held : List Target} {entry_start 
 
   pub count_begun : take entry_start new ≡ take entry_start octets
   count_begun =
-      let within = was.data_within in
       ap (take entry_start) new_is
-      ∙ take_before octets count (data_start - 2) entry_start (omega (arith, late)) (omega (arith, within))
+      ∙ take_before octets count (data_start - 2) entry_start (omega (arith, late)) (omega (arith, was.data_within))
 
   pub sound_counted : IsSound most new held entry_start 0
   sound_counted =

@@ -26,13 +26,12 @@ label_next w label after some short is =
     let one = front_comes_next w (length label ∷ []) (label ++ after) 1 is refl in
     let said : octet w ≡ length label = ap be one.1 ∙ be_one (length label) in
     let two = front_comes_next (past 1 w) label after (length label) one.2 refl in
-    let room = two.0 in
     let both : w.position + 1 + length label ≡ w.position + (1 + length label) = omega arith in (
       record {
         room = one.0;
         some = omega (arith, said, some);
         short = omega (arith, said, short);
-        whole = omega (arith, said, room);
+        whole = omega (arith, said, two.0);
         octets = sym (ap (λ n. next n (past 1 w)) said ∙ two.1);
         after = ap (λ p. at p w) (omega (arith, said));
       },
@@ -51,10 +50,8 @@ pointer_next start w n after late before is =
     let two = front_comes_next (past 1 w) ((n % 256) ∷ []) after 1 one.2 refl in
     let first : octet w ≡ 192 + n / 256 = ap be one.1 ∙ be_one (192 + n / 256) in
     let second : octet (past 1 w) ≡ n % 256 = ap be two.1 ∙ be_one (n % 256) in
-    let room = one.0 in
-    let more = two.0 in
     record {
-      room = omega (arith, room, more);
+      room = omega (arith, one.0, two.0);
       mark = omega (arith, first);
       place = omega (arith, first, second);
       before = before;
@@ -110,7 +107,5 @@ name_next names start w (label ∷ labels) after are each is =
           let apart = ap (λ octets. length label ∷ octets) (append_assoc label more after) in
           let all = is ∙ ap (λ octets. octets ++ after) new ∙ apart in
           let next = label_next w label (more ++ after) each.0 each.1 all in
-          let long = ap length new in
-          let both = length-append label more in
           subst (λ p. HasLabels start w (label ∷ labels) (pointers_from (last_place names labels)) (at p w))
-          (omega (arith, long, both)) (HasLabels.label next.0 (others next.1))
+          (omega (arith, ap length new, length-append label more)) (HasLabels.label next.0 (others next.1))

@@ -31,8 +31,7 @@ front_and_rest (suc index) (label ∷ labels) =
 pub wire_of_unrooted : (labels : List (List ℕ)) → wire_length labels ≡ 1 + length (unrooted labels)
 wire_of_unrooted [] = refl
 wire_of_unrooted (label ∷ labels) =
-    let more = wire_of_unrooted labels in
-    let long = length-append label (unrooted labels) in omega (arith, more, long)
+    omega (arith, wire_of_unrooted labels, length-append label (unrooted labels))
 
 -- a label with its length octet, between others
 module _ (octets front label back : List ℕ) (at : ℕ) (is : octets ≡ front ++ (prefixed label ++ back))
@@ -43,8 +42,7 @@ module _ (octets front label back : List ℕ) (at : ℕ) (is : octets ≡ front 
   pub whole_there : IsWhole octets at
   whole_there =
       let len = length_there in
-      let all = ap length is ∙ length-append front (prefixed label ++ back) in
-      let more = length-append label back in omega (arith, len, all, more, here)
+      omega (arith, len, ap length is ∙ length-append front (prefixed label ++ back), length-append label back, here)
 
   pub label_there : label_at octets at ≡ prefixed label
   unfolding label_at
@@ -57,9 +55,7 @@ module _ (octets front label back : List ℕ) (at : ℕ) (is : octets ≡ front 
 pub unrooted_longer : (labels : List (List ℕ)) → length labels ≤ length (unrooted labels)
 unrooted_longer [] = omega arith
 unrooted_longer (label ∷ labels) =
-    let more = unrooted_longer labels in
-    let both = length-append (length label ∷ label) (unrooted labels) in
-    omega (arith, more, both)
+    omega (arith, unrooted_longer labels, length-append (length label ∷ label) (unrooted labels))
 
 -- ---- by index
 
@@ -88,8 +84,7 @@ pub label_read : (octets starts : List ℕ) (index : ℕ) → AreWhole octets st
     → index < length (labels_at octets starts)
     → label_at octets (slice_index_or starts index 0) ≡ prefixed (label_no (labels_at octets starts) index)
 label_read octets starts index whole within =
-    let size = length-map starts (label_of octets) in
-    let inside : index < length starts = omega (arith, within, size) in
+    let inside : index < length starts = omega (arith, within, length-map starts (label_of octets)) in
     whole_label octets (slice_index_or starts index 0) (whole index 0 inside)
     ∙ ap prefixed (sym (get_or-map (label_of octets) starts index 0 [] inside))
 
@@ -125,8 +120,7 @@ pub fewer_shorter : (labels : List (List ℕ)) (few many : ℕ) → few ≤ many
 fewer_shorter labels few many less =
     let both = front_and_rest few (take many labels) in
     let long = ap length both ∙ length-append (unrooted (take few (take many labels))) (unrooted (drop few (take many labels))) in
-    let same = ap (λ l. length (unrooted l)) (take-take few many labels less) in
-    omega (arith, long, same)
+    omega (arith, long, ap (λ l. length (unrooted l)) (take-take few many labels less))
 
 -- ---- labels that lie one after another
 
@@ -161,8 +155,7 @@ module _ (octets starts : List ℕ) (start end index : ℕ) (front : List ℕ) (
   -- it is whole
   pub run_inside : end + (1 + slice_index_or octets end 0) ≤ length octets
   run_inside =
-      let size = length-map starts (label_of octets) in
-      subst (IsWhole octets) here (whole index 0 (omega (arith, inside, size)))
+      subst (IsWhole octets) here (whole index 0 (omega (arith, inside, length-map starts (label_of octets))))
 
 -- ---- labels that are left of a name
 
@@ -189,22 +182,19 @@ here_is w on l within has =
     let p = w.position in
     let same : p + 1 - 1 ≡ p = omega arith in
     let room = has.room in
-    let long = has.whole in
-    let some = has.some in
     let len = octet_is w (omega (arith, room, within)) in
-    let whole : IsWhole w.octets p = omega (arith, long, len, within, room) in
+    let whole : IsWhole w.octets p = omega (arith, has.whole, len, within, room) in
     let taken : p + 1 + octet w - (p + 1) ≡ slice_index_or w.octets p 0 = omega (arith, len) in
     let is : label_of w.octets p ≡ rest (part 1 w) =
     label_of_taken w.octets p whole ∙ ap (λ n. take n (drop (p + 1) w.octets)) (sym taken) in
     let size = length-take (p + 1 + octet w - (p + 1)) (drop (p + 1) w.octets) in
-    let left = length-drop (p + 1) w.octets in
     record {
       octets = ap (λ v. v.octets) has.after;
       end = ap (λ v. v.end) has.after;
       after = omega arith;
       whole = subst (IsWhole w.octets) (sym same) whole;
       label_is = ap (label_of w.octets) same ∙ is;
-      some = omega (arith, size, left, taken, whole, len, some);
+      some = omega (arith, size, length-drop (p + 1) w.octets, taken, whole, len, has.some);
     }
 
 -- and before the next label, wherever it is

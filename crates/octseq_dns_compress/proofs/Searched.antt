@@ -25,9 +25,8 @@ module _ {octets : List ℕ} {targets : List Target} (names : Names) (agrees : A
   pub all_new : (labels : List (List ℕ)) (last k : ℕ) → k ≤ last → last < length labels
       → get names (drop last labels) ≡ None → get names (drop k labels) ≡ None
   all_new labels last k before within none =
-      let left = length-drop k labels in
       let same : last ≡ k + (last - k) = omega (arith, before) in
-      not_there (drop k labels) (last - k) (omega (arith, left, within, before))
+      not_there (drop k labels) (last - k) (omega (arith, length-drop k labels, within, before))
       (ap (get names) (drop-drop (last - k) k labels ∙ ap (λ n. drop n labels) (sym same)) ∙ none)
 
   -- and the labels before those that are there are the first ones

@@ -32,9 +32,7 @@ module _ {octets : List ℕ} {targets : List Target} {names : Names} (agrees : A
   root_apart label labels there same =
       let place = place_there names label labels there in
       let after = (agrees.all label labels place.0 place.1).after_header in
-      let zero = ap at_or_zero agrees.root in
-      let at = ap at_or_zero place.1 in
-      omega (arith, after, zero, at, same)
+      omega (arith, after, ap at_or_zero agrees.root, ap at_or_zero place.1, same)
 
   -- names that are there at one offset, or the root, are equal
   one_rest : (labels others : List (List ℕ)) → IsTrue (is_there names labels) → IsTrue (is_there names others)

@@ -50,6 +50,4 @@ returns-clause-least g c =
     let taken = length-take end.written labels in
     let within = c.search-ending.ensures.written in
     let found = c.search-ending.ensures.least in
-    let kept = c.keep.ensures.on in
-    let same = ap length c.new-plain.ensures in
-    omega (arith, long, both, each, taken, within, found, kept, same)
+    omega (arith, long, both, each, taken, within, found, c.keep.ensures.on, ap length c.new-plain.ensures)

@@ -6,8 +6,7 @@ pub returns : goal.returns
 unfolding label_at
 returns c =
     let octets = c.args.octets.now in
-    let len = c.from-len.ensures ∙ ap (λ n. slice_index_or octets n 0) c.from-at.ensures in
     let long : c.from-at.result + 1 + c.from-len.result - c.from-at.result ≡ 1 + slice_index_or octets c.args.at 0 =
-    omega (arith, len) in
+    omega (arith, c.from-len.ensures ∙ ap (λ n. slice_index_or octets n 0) c.from-at.ensures) in
     ap (λ n. take n (drop c.from-at.result octets)) long
     ∙ ap (λ n. take (1 + slice_index_or octets c.args.at 0) (drop n octets)) c.from-at.ensures
