@@ -17,11 +17,8 @@ use Rattle.octseq_dns_compress.proofs.LabelsThere.{named_grows, named_with}
 pub field_named : (most : ℕ) (s : State) (field : Field) → IsWellNamed s → FitsField field
     → IsWellNamed (with_field most s field)
 field_named most s field sound fits = record {
-  headed = omega (
-    arith,
-    sound.headed,
-    grown_length s.octets (with_field most s field).octets (field_grows most s field),
-  );
+  headed = let longer = grown_length s.octets (with_field most s field).octets (field_grows most s field) in
+      omega (arith, sound.headed, longer);
   named = named field fits;
 } where
   named : (field : Field) → FitsField field → AreNamed (with_field most s field).octets (with_field most s field).names

@@ -93,11 +93,8 @@ module _ (most : ℕ) {octets : List ℕ} {held : List Target} {names : Names} {
   pub kept_none : 126 < ending.pointers → Agrees octets held (names_with most names start labels)
   kept_none many =
       agrees_with held names agrees (stopped ending.written (omega arith) names now_none
-      (λ k less. unkept most names (drop (suc k) labels) (place_of_no k) (λ near few room there. omega (
-        arith,
-        few,
-        many,
-      ))))
+      (λ k less. unkept most names (drop (suc k) labels) (place_of_no k)
+      (λ near few room there. omega (arith, few, many))))
 
   -- the names that were there are before it
   before_start : (others : List (List ℕ)) → IsTrue (is_there names others) → place_of names others < start
@@ -177,22 +174,15 @@ module _ (most : ℕ) {octets : List ℕ} {held : List Target} {names : Names} {
 
       pub kept_far : 16383 < at → Agrees octets after (names_with most names start labels)
       kept_far far =
-          kept_stopped (unkept most (now left) (drop left labels) here_place (λ near few room there. omega (
-            arith,
-            far,
-            near,
-          )))
+          kept_stopped (unkept most (now left) (drop left labels) here_place
+          (λ near few room there. omega (arith, far, near)))
 
       pub kept_full : most ≤ length after → Agrees octets after (names_with most names start labels)
       kept_full full =
           let count = so_far.agrees.count in
           kept_stopped
-          (unkept most (now left) (drop left labels) here_place (λ near few room there. omega (
-            arith,
-            full,
-            count,
-            room,
-          )))
+          (unkept most (now left) (drop left labels) here_place
+          (λ near few room there. omega (arith, full, count, room)))
 
   -- all are kept
   pub kept_all : {after : List Target} {end older left next position : ℕ}

@@ -40,11 +40,8 @@ module _ {octets : List ℕ} {names : Names} {start : ℕ} {labels : List (List 
       let c = unrooted (drop (v + 1) first) in
       let here = drop_more first v [] (omega (arith, less, within, length-take written labels)) in
       let parts : unrooted first ≡ a ++ (b ++ c) =
-      front_and_rest v first ∙ rw (
-        take-take v written labels (omega (arith, less)),
-        here,
-        get_or-take written labels v [] less,
-      ) in
+      front_and_rest v first
+      ∙ rw (take-take v written labels (omega (arith, less)), here, get_or-take written labels v [] less) in
       is.octets_are ∙ ap (λ o. is.front ++ (o ++ is.back)) parts ∙ simp append_assoc
 
   at_is : at ≡ length front

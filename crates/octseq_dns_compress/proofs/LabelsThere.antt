@@ -220,17 +220,11 @@ labels_named octets most names start (label ∷ labels) named written =
           → AreAt octets start (label ∷ labels) (pointers_from (option_or found (last_place names labels)))
           → (get names (label ∷ labels) ≡ None → AreNamed octets
           (with_labels most (pointers_from (last_place names labels)) names (start + (1 + length label)) labels))
-          → AreNamed octets (if is_some found then names
-          else (let pointers = pointers_from (option_or found (last_place names labels)) in
-          let more = with_labels most pointers names (start + (1 + length label)) labels in
-          let place : Place = record { at = start; pointers = pointers } in
-          if is_kept most more labels place then insert more (label ∷ labels) place else more))
-      by_found (Some place) found are others = named
+          → AreNamed octets
+          (with_labels most (pointers_from (option_or found (last_place names labels))) names start (label ∷ labels))
+      by_found (Some place) found are others = rw (ap is_some found) named
       by_found None found are others =
-          let pointers = pointers_from (last_place names labels) in
-          let more = with_labels most pointers names (start + (1 + length label)) labels in
-          let place : Place = record { at = start; pointers = pointers } in
-          named_kept octets most more label labels place (is_kept most more labels place) refl (others found) are
+          rw (ap is_some found) (named_kept octets most _ label labels _ _ refl (others found) are)
 
 -- After a name is written after a message, the names are at their places.
 pub named_with : (most : ℕ) (octets : List ℕ) (names : Names) (labels : List (List ℕ)) → 12 ≤ length octets

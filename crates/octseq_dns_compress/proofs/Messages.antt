@@ -57,12 +57,8 @@ all_by_before place P past (target ∷ targets) each =
 filtered : (place : ℕ) (targets : List Target) → All (λ t. t.at < place) targets → before place targets ≡ targets
 filtered place [] each = refl
 filtered place (target ∷ targets) each =
-    grind (
-      arith,
-      tests,
-      All-head (λ t. t.at < place) target targets each,
-      filtered place targets (All-tail (λ t. t.at < place) target targets each),
-    )
+    let more = filtered place targets (All-tail (λ t. t.at < place) target targets each) in
+    grind (arith, tests, more, All-head (λ t. t.at < place) target targets each)
 
 -- as all are before the end
 pub before_all : {octets : List ℕ} {targets : List Target} → Known octets targets

@@ -136,14 +136,8 @@ module _ (octets starts : List ℕ) (start end index : ℕ) (front : List ℕ) (
       let len = 1 + slice_index_or octets end 0 in
       let on : start + (end - start) ≡ end = omega (arith, ordered) in
       let all : end - start + len ≡ end + len - start = omega (arith, ordered) in
-      rw (
-        ← label_read octets starts index whole inside,
-        here,
-        ← all,
-        take-add (end - start) len (drop start octets),
-        drop-drop (end - start) start octets,
-        on,
-      )
+      rw (← label_read octets starts index whole inside, here, ← all, take-add (end - start) len (drop start octets))
+      (rw (drop-drop (end - start) start octets, on))
 
   -- to those of the labels before it
   pub run_more : unrooted (take index (labels_at octets starts)) ≡ front ++ take (end - start) (drop start octets)
@@ -219,12 +213,8 @@ module _ (octets starts : List ℕ) (count place : ℕ) (within : count < length
       → labels_at octets (take count starts) ++ (label ∷ left) ≡ all
       → labels_at octets (take (count + 1) (slice_set starts count place)) ++ left ≡ all
   more_labels label left all is are =
-      rw (
-        more_set,
-        map-append (label_of octets) (take count starts) (place ∷ []),
-        append_assoc (labels_at octets (take count starts)),
-        is,
-      ) are
+      rw (more_set, map-append (label_of octets) (take count starts) (place ∷ []))
+      (rw (append_assoc (labels_at octets (take count starts)), is) are)
 
 -- a name is read from the octets of its window
 pub source_is : {R : Type 0} {g : Ghosts R} (octets : List ℕ) (source : R) (parser : Parser R g) (w : Window)

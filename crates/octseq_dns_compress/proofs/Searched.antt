@@ -37,17 +37,11 @@ module _ {octets : List ℕ} {targets : List Target} (names : Names) (agrees : A
   ending_is [] zero within there new = (refl, agrees.root)
   ending_is [] (suc w) within there new = absurd (omega (arith, within))
   ending_is (label ∷ labels) zero within there new =
-      let place = place_there names label labels there in (
-        ap (λ b. if b then [] else label ∷ first_labels names labels) (sym there),
-        place.1 ∙ ap (λ o. option_or o (last_place names labels)) (sym place.1),
-      )
+      let place = place_there names label labels there in (rw there, rw place.1)
   ending_is (label ∷ labels) (suc w) within there new =
       let first = new zero (omega arith) in
-      let rest = ending_is labels w (omega (arith, within)) there (λ k less. new (suc k) (omega (arith, less))) in (
-        ap (λ more. label ∷ more) rest.0
-            ∙ ap (λ b. if b then [] else label ∷ first_labels names labels) (sym (ap is_some first)),
-        rest.1 ∙ ap (λ o. option_or o (last_place names labels)) (sym first),
-      )
+      let rest = ending_is labels w (omega (arith, within)) there (λ k less. new (suc k) (omega (arith, less))) in
+      (rw (ap is_some first, rest.0), rw first rest.1)
 
 -- ---- by index
 

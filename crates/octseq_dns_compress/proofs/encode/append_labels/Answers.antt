@@ -16,12 +16,8 @@ returns-in-Err-clause-short g c short =
     let read = ap length c.run-after.ensures.run ∙ length-append (unrooted (take index labels)) c.run-after.result.0.now in
     let within = c.run-after.ensures.within in
     let few = fewer_shorter labels c.run-after.result.1 c.args.count within in
-    within_not_past g.B.AsOctets.limit _ c.requires.room (past_more g.B.AsOctets.limit _ _ (omega (
-      arith,
-      long,
-      read,
-      few,
-    ))
+    within_not_past g.B.AsOctets.limit _ c.requires.room (past_more g.B.AsOctets.limit _ _
+    (omega (arith, long, read, few))
     (c.in-Err.ensures.appended.short.0 short))
 
 pub labels-preserved : goal.labels-preserved

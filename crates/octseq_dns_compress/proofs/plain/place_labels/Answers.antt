@@ -33,15 +33,8 @@ places-preserved g c =
     let whole_octets = ap (λ w. length w.octets) at_name in
     let here = ahead_of c.places.label-iterator in
     let place = label_place c.in-Some.label in
-    let it = next_place _ here place _ _ (omega (
-      arith,
-      end,
-      size,
-      within,
-      c.len-end.ensures.end,
-      whole_end,
-      whole_octets,
-    )) c.in-Some.ensures.steps.1 in
+    let it = next_place _ here place _ _
+    (omega (arith, end, size, within, c.len-end.ensures.end, whole_end, whole_octets)) c.in-Some.ensures.steps.1 in
     let at : c.pos.result - 1 ≡ place.position - 1 = omega (arith, c.pos.ensures) in
     let wire = ap wire_length c.in-Some.ensures.steps.0 in
     let inside : c.places.count < length c.places.starts =
