@@ -12,10 +12,10 @@ use Rattle.octseq.specs.Limit.{IsPast, IsWithin}
 use Rattle.octseq.specs.Refusal.{IsShort, append_error, IsMemory}
 use Rattle.octseq.specs.declared.AppendError.{AppendError}
 use Rattle.octseq_dns_compress.proofs.Words.{Agrees, before, Composed, Composes, IsEnding, key, IsWhole, key_cmp}
-use Rattle.octseq_dns_compress.proofs.Words.{AreTargets, IsPosition, AppendsName, Names, Place, at_or_zero, ended}
-use Rattle.octseq_dns_compress.proofs.Words.{unrooted, name_octets, first_labels, label_no, names_with, prefixed}
-use Rattle.octseq_dns_compress.proofs.Words.{Message, state_of, IsSound, composed, message_once, with_name, State}
-use Rattle.octseq_dns_compress.proofs.Words.{Field, with_octets, with_fields, IsWritten, Ending, Target}
+use Rattle.octseq_dns_compress.proofs.Words.{AreTargets, IsPosition, AppendsName, Names, Place, ended, unrooted}
+use Rattle.octseq_dns_compress.proofs.Words.{name_octets, label_no, names_with, prefixed, Message, state_of, IsSound}
+use Rattle.octseq_dns_compress.proofs.Words.{composed, message_once, with_name, State, Field, with_octets, with_fields}
+use Rattle.octseq_dns_compress.proofs.Words.{IsWritten, Ending, Target}
 use Rattle.octseq_dns_compress.proofs.Fields.{one_state, fields_grow}
 use Rattle.octseq_dns_compress.proofs.Grown.{agrees_grown, key_stays}
 use Rattle.octseq_dns_compress.proofs.Messages.{before_all, begun_grown, message_grown, message_same, state_is}

@@ -49,7 +49,8 @@ counted_is most s fields =
     let two = length-append s.octets count in
     let wide = length_be 2 (length (data_octets most s fields)) in
     let alike = fields_alike most from (with_octets s count) fields refl (omega (arith, one, two, wide)) in
-    let data_is = ap (drop (length s.octets + 2)) alike.one ∙ drop_at from.octets alike.more (length s.octets + 2) one in
+    let data_is = ap (drop (length s.octets + 2)) alike.one
+    ∙ drop_at from.octets alike.more (length s.octets + 2) one in
     one_state
     (ap (λ d. s.octets ++ (count ++ d)) data_is ∙ sym (append_assoc s.octets count alike.more) ∙ sym alike.other)
     alike.names

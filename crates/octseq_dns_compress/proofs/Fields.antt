@@ -119,14 +119,14 @@ module _ (header : List ℕ) (twelve : length header ≡ 12) where
   headed_more : (s : State) (more : List ℕ) → 12 ≤ length s.octets
       → (header ++ drop 12 s.octets) ++ more ≡ header ++ drop 12 (s.octets ++ more)
   headed_more s more late =
-      append_assoc header (drop 12 s.octets) more
-      ∙ ap (λ o. header ++ o) (sym (drop-append-le 12 s.octets more late))
+      rw (drop-append-le 12 s.octets more late, append_assoc header (drop 12 s.octets) more)
 
   pub headed_fields : (most : ℕ) (s : State) (fields : List Field) → 12 ≤ length s.octets
       → with_fields most (with_header s header) fields ≡ with_header (with_fields most s fields) header
   headed_fields most s fields late =
       let alike = fields_alike most (with_header s header) s fields refl (headed_length s late) in
-      one_state (alike.one ∙ headed_more s alike.more late ∙ ap (λ o. header ++ drop 12 o) (sym alike.other)) alike.names
+      one_state (alike.one ∙ headed_more s alike.more late ∙ ap (λ o. header ++ drop 12 o) (sym alike.other))
+      alike.names
 
   headed_count : (s after : State) → 12 ≤ length s.octets
       → count_put (with_header s header) (with_header after header) ≡ with_header (count_put s after) header

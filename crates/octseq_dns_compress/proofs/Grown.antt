@@ -1,6 +1,6 @@
 -- Targets in a message that changes elsewhere: their labels stay.
-use Rattle.std.proofs.Common.{slice_index_or, ◌≡◌, true, ℕ, ◌+◌, ◌<◌, ◌≤◌, List, [], ◌∷◌, ◌++◌, length, take, drop, sym}
-use Rattle.std.proofs.Common.{ap, ◌∙◌, subst, arith, is_some, length-append, length-drop, true≢false, nat_cmp, is_lt}
+use Rattle.std.proofs.Common.{slice_index_or, ◌≡◌, true, ℕ, ◌+◌, ◌<◌, ◌≤◌, List, [], ◌∷◌, ◌++◌, length, drop, sym, ap}
+use Rattle.std.proofs.Common.{◌∙◌, subst, arith, is_some, length-append, length-drop, true≢false, nat_cmp, is_lt}
 use Rattle.std.proofs.Math.ListN.{get_or-append}
 use Rattle.std.proofs.Math.Logic.{∥∥₁_map, ∥∥₁_elim}
 use Rattle.std.proofs.lemmas.List.{drop-append-le, take-append-le}
@@ -74,9 +74,8 @@ module _ (octets more : List ℕ) where
   unfolding label_at
   label_stays at whole =
       let n = 1 + slice_index_or octets at 0 in
-      ap (λ o. take (1 + o) (drop at (octets ++ more))) (octet_stays at (omega (arith, whole)))
-      ∙ ap (take n) (drop-append-le at octets more (omega (arith, whole)))
-      ∙ take-append-le n (drop at octets) more (omega (arith, whole, length-drop at octets))
+      rw (octet_stays at (omega (arith, whole)), drop-append-le at octets more (omega (arith, whole)))
+      (take-append-le n (drop at octets) more (omega (arith, whole, length-drop at octets)))
 
   pub key_stays : (target : Target) → IsWhole octets target.at → key_of (octets ++ more) target ≡ key_of octets target
   key_stays target whole = ap (key target.next) (label_stays target.at whole)

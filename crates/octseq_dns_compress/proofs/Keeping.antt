@@ -1,7 +1,7 @@
 -- Each step of keeping the labels of a name.
-use Rattle.std.proofs.Common.{IsTrue, nat_lt, cond, if◌then◌else◌, ◌≡◌, Bool, inl, true, false, ℕ, zero, suc, ◌+◌, ◌-◌}
-use Rattle.std.proofs.Common.{◌<◌, ◌≤◌, None, List, [], ◌∷◌, ◌++◌, length, take, drop, refl, sym, ap, ◌∙◌, subst, arith}
-use Rattle.std.proofs.Common.{take-append-drop, true≢false, length-drop, insert, filter}
+use Rattle.std.proofs.Common.{IsTrue, nat_lt, if◌then◌else◌, ◌≡◌, Bool, inl, true, false, ℕ, zero, suc, ◌+◌, ◌-◌, ◌<◌}
+use Rattle.std.proofs.Common.{◌≤◌, None, List, [], ◌∷◌, length, take, drop, refl, sym, ap, ◌∙◌, arith, take-append-drop}
+use Rattle.std.proofs.Common.{true≢false, length-drop, insert, filter}
 use Rattle.std.proofs.lemmas.Bool.{lt-leb}
 use Rattle.std.proofs.lemmas.List.Elements.{filter-append}
 use Rattle.std.specs.FinMap.{get, insert as put}
@@ -42,9 +42,8 @@ module _ (most : ℕ) {octets : List ℕ} {held : List Target} {names : Names} {
       → Agrees octets after (names_with most names start labels)
   agrees_with after more agrees same =
       let begin : start ≡ place_after start labels zero = omega arith in
-      subst (Agrees octets after)
-      (sym (ap (λ n. with_labels most ending.pointers names n labels) begin ∙ same)
-      ∙ ap (λ p. with_labels most p names start labels) same_pointers) agrees
+      let all = ap (λ n. with_labels most ending.pointers names n labels) begin ∙ same in
+      rw (← same_pointers, all) agrees
 
   module _ (left : ℕ) (some : 0 < left) (few_left : left ≤ ending.written) (at : ℕ)
       (same : at ≡ place_after start labels (left - 1)) where
@@ -68,11 +67,9 @@ module _ (most : ℕ) {octets : List ℕ} {held : List Target} {names : Names} {
     now_is : (kept : Bool) → is_kept most (now left) rest place ≡ kept
         → now (left - 1) ≡ (if kept then put (now left) (label ∷ rest) place else now left)
     now_is kept is =
-        ap (with_labels most ending.pointers names (place_after start labels (left - 1))) here
-        ∙ ap (λ n. with_labels most ending.pointers names n (label ∷ rest)) (sym same)
-        ∙ with_one most ending.pointers names at label rest (now left) kept
+        rw (here, ← same) (with_one most ending.pointers names at label rest (now left) kept
         (ap (λ n. with_labels most ending.pointers names n rest) (omega (arith, longer)))
-        (ap (get names) (sym here) ∙ ends.new (left - 1) (omega (arith, some, few_left))) is
+        (ap (get names) (sym here) ∙ ends.new (left - 1) (omega (arith, some, few_left))) is)
 
   -- the place of the label after this many
   abbrev place_of_no : ℕ → Place
@@ -153,7 +150,8 @@ module _ (most : ℕ) {octets : List ℕ} {held : List Target} {names : Names} {
           let long = longer left some few_left at same in
           let target_is = is ∙ ap (λ n. insert after position
           (record { at = at; next = next; pointers = ending.pointers; digest = n })) digested in
-          let names_are = now_is left some few_left at same true (kept_from most (now left) (drop left labels) here_place near
+          let names_are = now_is left some few_left at same true
+          (kept_from most (now left) (drop left labels) here_place near
           few (omega (arith, so_far.agrees.count, room)) so_far.there) in
           rw (target_is, names_are)
           (so_far_kept at ending.pointers so_far some (omega (arith, few_left, within))

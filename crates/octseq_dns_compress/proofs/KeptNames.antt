@@ -1,23 +1,7 @@
 -- The names after labels are written, of which the last ones are kept first.
-use Rattle.std.proofs.Common.{
-  rules,
-  tests,
-  IsTrue,
-  if◌then◌else◌,
-  nat_le,
-  nat_lt,
-  ◌≡◌,
-  Bool,
-  true,
-  false,
-  ℕ,
-  ◌+◌,
-  ◌<◌,
-  ◌≤◌,
-  None,
-}
-use Rattle.std.proofs.Common.{List, [], ◌∷◌, length, refl, ap, ◌∙◌, arith, is_some, le-leb, leb-true, lt-ltb, ltb-true}
-use Rattle.std.proofs.lemmas.Bool.{and_from, and_parts, false_from_ne_true}
+use Rattle.std.proofs.Common.{rules, tests, IsTrue, if◌then◌else◌, ◌≡◌, Bool, true, false, ℕ, ◌+◌, ◌<◌, ◌≤◌, None, List}
+use Rattle.std.proofs.Common.{[], ◌∷◌, length, refl, ap, ◌∙◌, arith, is_some}
+use Rattle.std.proofs.lemmas.Bool.{false_from_ne_true}
 use Rattle.std.specs.FinMap.{get, len, insert, contains_key}
 use Rattle.octseq_dns_compress.proofs.Words.{get_other, Names, Place, is_there, is_kept, with_labels}
 

@@ -12,7 +12,8 @@ use Rattle.std.specs.Ordering.{ordering_reverse}
 use Rattle.std.specs.declared.cmp.Ordering.{Ordering}
 use Rattle.octseq_dns_compress.proofs.Words.{key_of, key_cmp, AreTargets, HasKeyAt, HasNoKey, Target}
 
-pub greater_reported : (reported : Ordering) → is_lt reported ≡ false → is_eq reported ≡ false → reported ≡ Ordering.Greater
+pub greater_reported : (reported : Ordering) → is_lt reported ≡ false → is_eq reported ≡ false
+    → reported ≡ Ordering.Greater
 greater_reported Ordering.Less other differ = absurd (true≢false other)
 greater_reported Ordering.Equal other differ = absurd (true≢false differ)
 greater_reported Ordering.Greater other differ = refl

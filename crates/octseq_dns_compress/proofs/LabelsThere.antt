@@ -40,8 +40,7 @@ none_named octets = record {
 all_grows : (header octets more after : List ℕ) → 12 ≤ length octets
     → all_of header octets (more ++ after) ≡ all_of header (octets ++ more) after
 all_grows header octets more after headed =
-    ap (λ rest. header ++ rest) (sym (append_assoc (drop 12 octets) more after))
-    ∙ ap (λ rest. header ++ (rest ++ after)) (sym (drop-append-le 12 octets more headed))
+    rw (drop-append-le 12 octets more headed, append_assoc (drop 12 octets) more after)
 
 pub all_grown : (header octets new after : List ℕ) (grows : Grows octets new) → 12 ≤ length octets
     → all_of header octets (grows.0 ++ after) ≡ all_of header new after
@@ -198,8 +197,8 @@ written_more octets names place label labels written none =
       late = omega (arith, written.late);
       within = omega (arith, ap length new, length-drop place octets, length-append label (name_octets names labels));
       before = λ others other found. omega (arith, written.before others other found);
-      octets_are = sym (drop-drop (1 + length label) place octets) ∙ ap (drop (1 + length label)) new
-          ∙ drop_at (length label ∷ label) (name_octets names labels) (1 + length label) one;
+      octets_are = rw (← drop-drop (1 + length label) place octets, new)
+          (drop_at (length label ∷ label) (name_octets names labels) (1 + length label) one);
     }
 
 labels_named : (octets : List ℕ) (most : ℕ) (names : Names) (start : ℕ) (labels : List (List ℕ)) → AreNamed octets names

@@ -1,24 +1,7 @@
 -- Messages that change: octets and targets are added, and what was there stays; or all from an offset on is removed.
-use Rattle.std.proofs.Common.{
-  tests,
-  nat_lt,
-  cond,
-  slice_index_or,
-  ◌≡◌,
-  Bool,
-  true,
-  false,
-  ℕ,
-  suc,
-  ◌+◌,
-  ◌<◌,
-  ◌≤◌,
-  Option,
-  List,
-}
-use Rattle.std.proofs.Common.{[], ◌∷◌, ◌++◌, length, replicate, take, refl, sym, ap, ◌∙◌, subst, arith, Result, lt-ltb}
-use Rattle.std.proofs.Common.{le-ltb, ltb-false, length-take, take-take, take_all, All}
-use Rattle.std.proofs.lemmas.Bool.{lt-leb}
+use Rattle.std.proofs.Common.{tests, nat_lt, cond, slice_index_or, ◌≡◌, Bool, true, false, ℕ, ◌+◌, ◌<◌, ◌≤◌, Option}
+use Rattle.std.proofs.Common.{List, [], ◌∷◌, ◌++◌, length, replicate, take, refl, sym, ap, ◌∙◌, subst, arith, Result}
+use Rattle.std.proofs.Common.{ltb-false, length-take, take-take, take_all, All}
 use Rattle.std.proofs.lemmas.List.{take-append-le}
 use Rattle.std.proofs.lemmas.List.Elements.{All-cons, All-head, All-nil, All-tail, All-weaker}
 use Rattle.std.specs.FinMap.{empty}

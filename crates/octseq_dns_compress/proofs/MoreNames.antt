@@ -1,7 +1,7 @@
 -- Another target, in its place among others.
 use Rattle.std.proofs.Common.{slice_index_or, ◌≡◌, ℕ, zero, suc, ◌+◌, ◌<◌, ◌≤◌, List, [], ◌∷◌, length, take, drop, ap}
 use Rattle.std.proofs.Common.{◌∙◌, refl, arith, lt_of_not-le, All, AllPairs, insert, IsTrue, cond, ◌⊎◌, inl, inr, Some}
-use Rattle.std.proofs.Common.{None, sym, subst, is_some}
+use Rattle.std.proofs.Common.{None, sym, is_some}
 use Rattle.std.proofs.Math.Decide.{dec_le}
 use Rattle.std.proofs.lemmas.Cmp.{nat_list_cmp_total}
 use Rattle.std.proofs.lemmas.List.Edits.{get_or-insert_below, get_or-insert_above, length-insert, get_or-insert_at}
@@ -120,7 +120,7 @@ module _ (octets : List ℕ) (targets : List Target) (names : Names) (agrees : A
   target_stays : (l : List ℕ) (labels : List (List ℕ)) (p : Place) → IsTrue (is_there names labels)
       → target_of names l labels p ≡ target_of all_names l labels p
   target_stays l labels p there =
-      ap (λ found. record { at = p.at; next = at_or_zero found; pointers = p.pointers; digest = digest_of (prefixed l) })
+      ap (λ n. record { at = p.at; next = at_or_zero n; pointers = p.pointers; digest = digest_of (prefixed l) })
       (sym (get_stays labels there))
 
   there_stays : (labels : List (List ℕ)) → IsTrue (is_there names labels) → IsTrue (is_there all_names labels)

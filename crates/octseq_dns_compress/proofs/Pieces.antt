@@ -46,7 +46,8 @@ pointer_next : (start : ℕ) (w : Window) (n : ℕ) (after : List ℕ) → 12 �
     → rest w ≡ ended n ++ after → HasPointer start w n (past (length (ended n)) w)
 pointer_next start w n after late before is =
     let pointer = pointed n late in
-    let one = front_comes_next w ((192 + n / 256) ∷ []) ((n % 256) ∷ after) 1 (is ∙ ap (λ o. o ++ after) pointer) refl in
+    let one = front_comes_next w ((192 + n / 256) ∷ []) ((n % 256) ∷ after) 1
+    (is ∙ ap (λ o. o ++ after) pointer) refl in
     let two = front_comes_next (past 1 w) ((n % 256) ∷ []) after 1 one.2 refl in
     let first : octet w ≡ 192 + n / 256 = ap be one.1 ∙ be_one (192 + n / 256) in
     let second : octet (past 1 w) ≡ n % 256 = ap be two.1 ∙ be_one (n % 256) in
@@ -87,7 +88,8 @@ name_next names start w [] after are each is = HasLabels.root (root_next w after
 name_next names start w (label ∷ labels) after are each is =
     let u = past (1 + length label) w in
     by_found (get names (label ∷ labels)) refl is (λ next.
-    name_next names start u labels after (record { late = are.late; before = are.before; there = are.there }) each.2 next) where
+    name_next names start u labels after (record { late = are.late; before = are.before; there = are.there }) each.2
+    next) where
       by_found : (found : Option Place) → get names (label ∷ labels) ≡ found
           → rest w ≡ octets_by names label labels found ++ after
           → (rest (past (1 + length label) w) ≡ name_octets names labels ++ after

@@ -61,7 +61,8 @@ unrooted_longer (label ∷ labels) =
 
 -- the octets of a whole label are its length octet and its own
 module _ (octets : List ℕ) (at : ℕ) (whole : IsWhole octets at) where
-  label_taken : label_at octets at ≡ slice_index_or octets at 0 ∷ take (slice_index_or octets at 0) (drop (at + 1) octets)
+  label_taken : label_at octets at
+      ≡ slice_index_or octets at 0 ∷ take (slice_index_or octets at 0) (drop (at + 1) octets)
   unfolding label_at
   label_taken =
       let len = slice_index_or octets at 0 in
@@ -111,15 +112,15 @@ pub one_left : (labels : List (List ℕ)) (left : ℕ) → 0 < left → left ≤
     → drop (left - 1) labels ≡ label_no labels (left - 1) ∷ drop left labels
 one_left labels left some within =
     let same : left - 1 + 1 ≡ left = omega (arith, some) in
-    drop_more labels (left - 1) [] (omega (arith, some, within))
-    ∙ ap (λ n. label_no labels (left - 1) ∷ drop n labels) same
+    rw (drop_more labels (left - 1) [] (omega (arith, some, within)), same)
 
 -- fewer of the first labels don't have more octets
 pub fewer_shorter : (labels : List (List ℕ)) (few many : ℕ) → few ≤ many
     → length (unrooted (take few labels)) ≤ length (unrooted (take many labels))
 fewer_shorter labels few many less =
     let both = front_and_rest few (take many labels) in
-    let long = ap length both ∙ length-append (unrooted (take few (take many labels))) (unrooted (drop few (take many labels))) in
+    let long = ap length both
+    ∙ length-append (unrooted (take few (take many labels))) (unrooted (drop few (take many labels))) in
     omega (arith, long, ap (λ l. length (unrooted l)) (take-take few many labels less))
 
 -- ---- labels that lie one after another
@@ -198,7 +199,8 @@ next_place start w place on began within (NextLabel.here {l = l} has is) =
     subst (λ place. IsPlace w place on) (sym is) (here_is w on l within has)
 next_place start w place on began within (NextLabel.pointed {to = to} has more) =
     let it = next_place to (at to w) place on began within more in
-    record { octets = it.octets; end = it.end; after = it.after; whole = it.whole; label_is = it.label_is; some = it.some }
+    let label_is = it.label_is in
+    record { octets = it.octets; end = it.end; after = it.after; whole = it.whole; label_is = label_is; some = it.some }
 
 -- one more offset is known
 module _ (octets starts : List ℕ) (count place : ℕ) (within : count < length starts) where

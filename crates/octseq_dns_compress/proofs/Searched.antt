@@ -1,9 +1,8 @@
 -- Searching for the labels of a name, the last one first.
-use Rattle.std.proofs.Common.{slice_index_or, IsTrue, if◌then◌else◌, ◌≡◌, ℕ, zero, suc, ◌+◌, ◌-◌, ◌<◌, ◌≤◌, None, List}
-use Rattle.std.proofs.Common.{[], ◌∷◌, length, take, drop, refl, sym, ap, ◌∙◌, subst, arith, is_some, true≢false}
-use Rattle.std.proofs.Common.{drop-drop, length-drop}
+use Rattle.std.proofs.Common.{slice_index_or, IsTrue, ◌≡◌, ℕ, zero, suc, ◌+◌, ◌-◌, ◌<◌, ◌≤◌, None, List, [], ◌∷◌}
+use Rattle.std.proofs.Common.{length, take, drop, refl, sym, ap, ◌∙◌, arith, is_some, true≢false, drop-drop}
+use Rattle.std.proofs.Common.{length-drop}
 use Rattle.std.specs.FinMap.{get}
-use Rattle.std.specs.Option.{option_or}
 use Rattle.octseq_dns_compress.proofs.Words.{Agrees, Ends, place_there, none_found, key, HasKeyAt, HasNoKey, found}
 use Rattle.octseq_dns_compress.proofs.Words.{missing, Names, at_or_zero, is_there, first_labels, label_no, last_place}
 use Rattle.octseq_dns_compress.proofs.Words.{pointers_from, prefixed, Target}

@@ -13,7 +13,8 @@ returns-in-Err-clause-short g c short =
     let count = c.requires.count in
     let long = ap length so_far.content
     ∙ length-append (g.B.AsOctets.content c.args.octets.now) (unrooted (take index labels)) in
-    let read = ap length c.run-after.ensures.run ∙ length-append (unrooted (take index labels)) c.run-after.result.0.now in
+    let read = ap length c.run-after.ensures.run
+    ∙ length-append (unrooted (take index labels)) c.run-after.result.0.now in
     let within = c.run-after.ensures.within in
     let few = fewer_shorter labels c.run-after.result.1 c.args.count within in
     within_not_past g.B.AsOctets.limit _ c.requires.room (past_more g.B.AsOctets.limit _ _
