@@ -168,24 +168,21 @@ module _ {octets : List ℕ} {held : List Target} {now : Names} {labels : List (
         low = subst (All (λ t. t.next < start))
             (sym (take-append-le (older + 1) (take position held) (target ∷ drop position held)
             (omega (arith, here, taken, many)) ∙ take-take (older + 1) position held (omega (arith, here)))) is.low;
-        high = subst (All (λ t. at < t.next))
-            (ap (λ n. target ∷ drop n held) (sym here)
-            ∙ sym (drop_at (take position held) (target ∷ drop position held) (older + 1)
-            (omega (arith, here, taken, many))))
+        high = let from = drop_at (take position held) (target ∷ drop position held) (older + 1)
+            (omega (arith, here, taken, many)) in
+            rw (from, here)
             (All-cons (λ t. at < t.next) target (drop (older + 1) held) (omega (arith, next_is, longer))
             (All-weaker (λ t. next < t.next) (λ t. at < t.next) (λ t less. omega (arith, less, next_is, longer))
             (drop (older + 1) held) is.high));
       }
 
   -- with one more label
-  pub so_far_kept : KeptSoFar octets (insert held position
-      (record { at = at; next = next; pointers = pointers; digest = digest_of (prefixed (label_no labels (left - 1))) }))
-      (put now (label_no labels (left - 1) ∷ drop left labels) (record { at = at; pointers = pointers })) labels start at
-      older (left - 1) at (older + 1)
+  pub so_far_kept : KeptSoFar octets (insert held position target) (put now (label ∷ rest) place) labels start at older
+      (left - 1) at (older + 1)
   so_far_kept = record {
     agrees = agrees_kept;
-    there = subst (λ r. IsTrue (is_there (put now (label ∷ rest) place) r)) (sym is) (ap is_some found);
-    next_is = sym (ap at_or_zero (ap (get (put now (label ∷ rest) place)) is ∙ found));
+    there = rw is (ap is_some found);
+    next_is = rw (is, found);
     apart = λ others other there. by_name others other (put_cases now (label ∷ rest) place others other there);
     here = λ some. later_position octets (insert held position target) start older at
         (prefixed (label_no labels (left - 1 - 1))) late (later so_far.phase);
