@@ -88,8 +88,7 @@ module _ {most : ℕ} {octets : List ℕ} {held : List Target} (old : Message mo
 
   still_held : {start : ℕ} → start ≡ length octets → (kept : List Target) → before start kept ≡ before start held
       → before (length octets) kept ≡ held
-  still_held begin kept same =
-      ap (λ n. before n kept) (sym begin) ∙ same ∙ ap (λ n. before n held) begin ∙ before_all old.known
+  still_held begin kept same = rw (← begin, same, begin) (before_all old.known)
 
   -- it is refused
   pub name_refused : {limit : Option ℕ} {asks : Bool} {new : List ℕ} (e : AppendError)
@@ -118,9 +117,7 @@ module _ {most : ℕ} {octets : List ℕ} {held : List Target} (old : Message mo
       now = record {
         known = (names_with most old.known.0 start labels, ∥∥₁_map old.known.1 to);
         few = few;
-        headed = let long = ap length appends.ok
-            ∙ length-append octets (unrooted (take end.written labels) ++ ended end.next) in
-            omega (arith, old.headed, long);
+        headed = omega (arith, old.headed, grown_length octets new (_, appends.ok));
         short = short;
       };
       ok = one_state (appends.ok ∙ ap (λ o. octets ++ o) octets_known)
@@ -133,8 +130,7 @@ module _ {most : ℕ} {octets : List ℕ} {held : List Target} (old : Message mo
       to : Agrees octets held old.known.0 → Agrees new kept (names_with most old.known.0 start labels)
       to agrees =
           let more = unrooted (take end.written labels) ++ ended end.next in
-          subst (λ o. Agrees o kept (names_with most old.known.0 start labels)) (sym appends.ok)
-          (keeps (octets ++ more) old.known.0 (agrees_grown octets more held old.known.0 agrees)
+          rw appends.ok (keeps (octets ++ more) old.known.0 (agrees_grown octets more held old.known.0 agrees)
           (ending_stays octets more held old.known.0 agrees labels end (is old.known.0 agrees))
           (is_written octets held old.known.0 agrees labels end.written start (ended end.next) begin old.headed))
 
