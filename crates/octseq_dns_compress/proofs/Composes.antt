@@ -11,21 +11,14 @@ use Rattle.octseq.specs.Appends.{Appends}
 use Rattle.octseq.specs.Limit.{IsPast, IsWithin}
 use Rattle.octseq.specs.Refusal.{IsShort, append_error, IsMemory}
 use Rattle.octseq.specs.declared.AppendError.{AppendError}
-use Rattle.octseq_dns_compress.specs.Agrees.{Agrees}
-use Rattle.octseq_dns_compress.specs.Composed.{before, Composed, Composes}
-use Rattle.octseq_dns_compress.specs.Ending.{IsEnding}
-use Rattle.octseq_dns_compress.specs.Key.{key, IsWhole, key_cmp, AreTargets, IsPosition}
-use Rattle.octseq_dns_compress.specs.Named.{AppendsName}
-use Rattle.octseq_dns_compress.specs.Names.{Names, Place, at_or_zero, ended, unrooted, name_octets, first_labels}
-use Rattle.octseq_dns_compress.specs.Names.{label_no, names_with, prefixed}
-use Rattle.octseq_dns_compress.specs.Sound.{Message, state_of, IsSound, composed, message_once}
-use Rattle.octseq_dns_compress.specs.State.{with_name, State, Field, with_octets, with_fields}
-use Rattle.octseq_dns_compress.specs.Written.{IsWritten}
-use Rattle.octseq_dns_compress.specs.declared.search.Ending.{Ending}
-use Rattle.octseq_dns_compress.specs.declared.table.Target.{Target}
+use Rattle.octseq_dns_compress.proofs.Words.{Agrees, before, Composed, Composes, IsEnding, key, IsWhole, key_cmp}
+use Rattle.octseq_dns_compress.proofs.Words.{AreTargets, IsPosition, AppendsName, Names, Place, ended, unrooted}
+use Rattle.octseq_dns_compress.proofs.Words.{name_octets, label_no, names_with, prefixed, Message, state_of, IsSound}
+use Rattle.octseq_dns_compress.proofs.Words.{composed, message_once, with_name, State, Field, with_octets, with_fields}
+use Rattle.octseq_dns_compress.proofs.Words.{IsWritten, Ending, Target}
 use Rattle.octseq_dns_compress.proofs.Fields.{one_state, fields_grow}
 use Rattle.octseq_dns_compress.proofs.Grown.{agrees_grown, key_stays}
-use Rattle.octseq_dns_compress.proofs.Messages.{before_all, message_same, begun_grown, names_grown}
+use Rattle.octseq_dns_compress.proofs.Messages.{before_all, begun_grown, message_grown, message_same, state_is}
 use Rattle.std.proofs.lemmas.Result.{on_err_weaker, on_ok_weaker}
 use Rattle.octseq_dns_compress.proofs.Steps.{Grows, appended_grows, grown_length}
 use Rattle.octseq.proofs.Limits.{past_more}
@@ -37,8 +30,7 @@ position_stays : (octets more : List ℕ) (targets : List Target) → AreTargets
 position_stays octets more targets are key position is = record {
   within = is.within;
   before = λ k d less.
-      let within = is.within in
-      same (slice_index_or targets k d) (are.whole k d (omega (arith, less, within))) ∙ is.before k d less;
+      same (slice_index_or targets k d) (are.whole k d (omega (arith, less, is.within))) ∙ is.before k d less;
   after = λ k d from inside reported.
       is.after k d from inside (sym (same (slice_index_or targets k d) (are.whole k d inside)) ∙ reported);
 } where
@@ -62,7 +54,7 @@ after_names : (octets : List ℕ) (targets : List Target) (names : Names) → Ag
     → (labels : List (List ℕ)) (place : Place) → get names labels ≡ Some place → place.at < length octets
 after_names octets targets names agrees [] place found = absurd (true≢false (ap is_some (sym found ∙ agrees.root)))
 after_names octets targets names agrees (label ∷ labels) place found =
-    let whole = (agrees.all label labels place found).whole in omega (arith, whole)
+    omega (arith, (agrees.all label labels place found).whole)
 
 -- so the labels are after them
 pub is_written : (octets : List ℕ) (targets : List Target) (names : Names) → Agrees octets targets names
@@ -75,19 +67,10 @@ is_written octets targets names agrees labels written start back begin header = 
   start_is = begin;
   after_header = omega (arith, begin, header);
   after_names = λ others place found.
-      let less = after_names octets targets names agrees others place found in omega (arith, less, begin);
+      omega (arith, after_names octets targets names agrees others place found, begin);
 }
 
 -- ---- appending a name
-
--- a search in equal octets and targets has the same result
-pub ending_of : (octets content : List ℕ) (targets held : List Target) (labels : List (List ℕ)) (end : Ending)
-    → octets ≡ content → targets ≡ held
-    → ((names : Names) → Agrees octets targets names → IsEnding octets targets names labels end)
-    → (names : Names) → Agrees content held names → IsEnding content held names labels end
-ending_of octets content targets held labels end same alike is =
-    subst (λ o. (names : Names) → Agrees o held names → IsEnding o held names labels end) same
-    (subst (λ t. (names : Names) → Agrees octets t names → IsEnding octets t names labels end) alike is)
 
 module _ {most : ℕ} {octets : List ℕ} {held : List Target} (old : Message most octets held)
     (labels : List (List ℕ)) (end : Ending)
@@ -97,10 +80,7 @@ module _ {most : ℕ} {octets : List ℕ} {held : List Target} (old : Message mo
   octets_known =
       ∥∥₁_elim old.known.1 (Coded-set (coded_list coded_ℕ) (unrooted (take end.written labels) ++ ended end.next)
       (name_octets old.known.0 labels)) (λ agrees.
-      let ends = is old.known.0 agrees in
-      ap (λ first. unrooted first ++ ended end.next) ends.first
-      ∙ ap (λ n. unrooted (first_labels old.known.0 labels) ++ ended n)
-      (ends.ends.next_is ∙ ap at_or_zero ends.last))
+      let ends = is old.known.0 agrees in rw (ends.first, ends.ends.next_is, ends.last))
 
   size : length octets + length (unrooted (take end.written labels) ++ ended end.next)
       ≡ length (with_name most (state_of old) labels).octets
@@ -108,8 +88,7 @@ module _ {most : ℕ} {octets : List ℕ} {held : List Target} (old : Message mo
 
   still_held : {start : ℕ} → start ≡ length octets → (kept : List Target) → before start kept ≡ before start held
       → before (length octets) kept ≡ held
-  still_held begin kept same =
-      ap (λ n. before n kept) (sym begin) ∙ same ∙ ap (λ n. before n held) begin ∙ before_all old.known
+  still_held begin kept same = rw (← begin, same, begin) (before_all old.known)
 
   -- it is refused
   pub name_refused : {limit : Option ℕ} {asks : Bool} {new : List ℕ} (e : AppendError)
@@ -138,10 +117,7 @@ module _ {most : ℕ} {octets : List ℕ} {held : List Target} (old : Message mo
       now = record {
         known = (names_with most old.known.0 start labels, ∥∥₁_map old.known.1 to);
         few = few;
-        headed = let headed = old.headed in
-            let long = ap length appends.ok
-            ∙ length-append octets (unrooted (take end.written labels) ++ ended end.next) in
-            omega (arith, headed, long);
+        headed = omega (arith, old.headed, grown_length octets new (_, appends.ok));
         short = short;
       };
       ok = one_state (appends.ok ∙ ap (λ o. octets ++ o) octets_known)
@@ -154,8 +130,7 @@ module _ {most : ℕ} {octets : List ℕ} {held : List Target} (old : Message mo
       to : Agrees octets held old.known.0 → Agrees new kept (names_with most old.known.0 start labels)
       to agrees =
           let more = unrooted (take end.written labels) ++ ended end.next in
-          subst (λ o. Agrees o kept (names_with most old.known.0 start labels)) (sym appends.ok)
-          (keeps (octets ++ more) old.known.0 (agrees_grown octets more held old.known.0 agrees)
+          rw appends.ok (keeps (octets ++ more) old.known.0 (agrees_grown octets more held old.known.0 agrees)
           (ending_stays octets more held old.known.0 agrees labels end (is old.known.0 agrees))
           (is_written octets held old.known.0 agrees labels end.written start (ended end.next) begin old.headed))
 
@@ -164,8 +139,7 @@ module _ {most : ℕ} {octets : List ℕ} {held : List Target} (old : Message mo
         → AppendsName limit (Err AppendError.Memory) labels old undone left
     name_taken_back undone left undone_is left_is =
         let more = unrooted (take end.written labels) ++ ended end.next in
-        let back = undone_is ∙ ap (λ n. take n new) begin ∙ ap (take (length octets)) appends.ok
-        ∙ take-append_seam octets more in
+        let back = undone_is ∙ rw (begin, appends.ok) (take-append_seam octets more) in
         let alike = left_is ∙ ap (λ n. before n kept) begin ∙ still_held begin kept same in
         record {
           now = message_same old back alike;
@@ -188,18 +162,18 @@ on_ok_both (Err e) both one other = tt
 module _ {limit : Option ℕ} {asks : Bool} {most : ℕ} {octets more new : List ℕ} {held : List Target}
     {entry_start data_start : ℕ} (was : IsSound most octets held entry_start data_start)
     (result : Result (Unit {0}) AppendError) (appends : Appends limit asks result more octets new) where
+  abbrev grows : Grows octets new
+  grows = appended_grows result appends
+
   pub ok_appended : (now : Message most new held) → OnOk result (state_of now ≡ with_octets (state_of was.now) more)
-  ok_appended now =
-      on_ok_weaker result (λ same. one_state same (names_grown was.now (appended_grows result appends) now)) appends.ok
+  ok_appended now = on_ok_weaker result (state_is now (message_grown was.now grows now.short)) appends.ok
 
   pub err_appended : (now : Message most new held) → OnErr result (state_of now ≡ state_of was.now)
-  err_appended now =
-      on_err_weaker result (λ same. one_state same (names_grown was.now (appended_grows result appends) now))
-      appends.err
+  err_appended now = on_err_weaker result (state_is now (message_grown was.now grows now.short)) appends.err
 
   pub begun_appended : {place : ℕ} (is : IsSound most new held entry_start place)
       → state_of is.begun ≡ state_of was.begun
-  begun_appended is = begun_grown was (appended_grows result appends) (before_all was.now.known) is
+  begun_appended is = begun_grown was grows (before_all was.now.known) is
 
   pub composes_appended : {B T : Type 0} {b c : B} {t u : T} (is : IsSound most new held entry_start data_start)
       → OnOk result (IsWithin limit (length new))

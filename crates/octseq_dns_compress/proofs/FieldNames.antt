@@ -6,10 +6,8 @@ use Rattle.std.specs.List.{AllByRecursion}
 use Rattle.octseq.specs.Integer.{octets_be}
 use Rattle.octseq.specs.Part.{part_of}
 use Rattle.octseq.proofs.Written.{length_be}
-use Rattle.octseq_dns_compress.specs.Fits.{FitsField}
-use Rattle.octseq_dns_compress.specs.LabelsThere.{AreNamed, IsWellNamed}
-use Rattle.octseq_dns_compress.specs.State.{State, Field, Entry, with_octets, with_field, with_fields, with_counted}
-use Rattle.octseq_dns_compress.specs.State.{with_data, with_entry}
+use Rattle.octseq_dns_compress.proofs.Words.{FitsField, AreNamed, IsWellNamed, State, Field, Entry, with_octets}
+use Rattle.octseq_dns_compress.proofs.Words.{with_field, with_fields, with_counted, with_data, with_entry}
 use Rattle.octseq_dns_compress.proofs.Fields.{field_grows, fields_alike, one_state}
 use Rattle.octseq_dns_compress.proofs.Steps.{grown_length}
 use Rattle.octseq_dns_compress.proofs.LabelsThere.{named_grows, named_with}
@@ -20,8 +18,7 @@ pub field_named : (most : ℕ) (s : State) (field : Field) → IsWellNamed s →
     → IsWellNamed (with_field most s field)
 field_named most s field sound fits = record {
   headed = let longer = grown_length s.octets (with_field most s field).octets (field_grows most s field) in
-      let headed = sound.headed in
-      omega (arith, headed, longer);
+      omega (arith, sound.headed, longer);
   named = named field fits;
 } where
   named : (field : Field) → FitsField field → AreNamed (with_field most s field).octets (with_field most s field).names
@@ -52,7 +49,8 @@ counted_is most s fields =
     let two = length-append s.octets count in
     let wide = length_be 2 (length (data_octets most s fields)) in
     let alike = fields_alike most from (with_octets s count) fields refl (omega (arith, one, two, wide)) in
-    let data_is = ap (drop (length s.octets + 2)) alike.one ∙ drop_at from.octets alike.more (length s.octets + 2) one in
+    let data_is = ap (drop (length s.octets + 2)) alike.one
+    ∙ drop_at from.octets alike.more (length s.octets + 2) one in
     one_state
     (ap (λ d. s.octets ++ (count ++ d)) data_is ∙ sym (append_assoc s.octets count alike.more) ∙ sym alike.other)
     alike.names
@@ -63,9 +61,7 @@ pub counted_size : (most : ℕ) (s : State) (fields : List Field)
 counted_size most s fields =
     let data_are = data_octets most s fields in
     let outer = length-append s.octets (part_of 2 data_are) in
-    let inner = length-append (octets_be 2 (length data_are)) data_are in
-    let wide = length_be 2 (length data_are) in
-    omega (arith, outer, inner, wide)
+    omega (arith, outer, length-append (octets_be 2 (length data_are)) data_are, length_be 2 (length data_are))
 
 -- ---- entries
 

@@ -2,16 +2,15 @@
 use Rattle.std.proofs.Common.{if◌then◌else◌, ◌/◌, ◌%◌, ◌==◌, ◌≡◌, Bool, true, false, ℕ, ◌+◌, ◌≤◌, Option, Some, None}
 use Rattle.std.proofs.Common.{List, [], ◌∷◌, ◌++◌, length, refl, sym, ap, ◌∙◌, arith, length-append}
 use Rattle.std.specs.FinMap.{get, empty, get-empty}
-use Rattle.octseq_dns_compress.specs.Names.{Names, Place, labels_cmp, ended, name_octets, last_place, pointers_from}
-use Rattle.octseq_dns_compress.specs.Names.{with_labels, names_with}
+use Rattle.octseq_dns_compress.proofs.Words.{Names, Place, labels_cmp, ended, name_octets, last_place, pointers_from}
+use Rattle.octseq_dns_compress.proofs.Words.{with_labels, names_with, State, Field, Entry, with_octets, with_field}
+use Rattle.octseq_dns_compress.proofs.Words.{with_fields, with_data, with_entry, with_entries}
 use Rattle.octseq_dns_compress.proofs.KeptNames.{unkept, with_one}
 use Rattle.octseq_dns_compress.proofs.Pieces.{octets_by, octets_new}
 use Rattle.octseq_dns_name.specs.Name.{wire_length}
 use Rattle.octseq_dns_name.specs.NameFormat.{wire_more}
 use Rattle.octseq_dns_name.specs.Wire.{wire}
 use Rattle.octseq_dns_name.proofs.Names.{wire_some}
-use Rattle.octseq_dns_compress.specs.State.{State, Field, Entry, with_octets, with_field, with_fields, with_data}
-use Rattle.octseq_dns_compress.specs.State.{with_entry, with_entries}
 use Rattle.octseq_dns_compress.proofs.Fields.{counted_length}
 use Rattle.octseq_dns_name.proofs.Wires.{wire_has}
 
@@ -29,11 +28,9 @@ name_shorter names (label ∷ labels) = by_found (get names (label ∷ labels)) 
   by_found : (found : Option Place) → length (name_octets names labels) ≤ wire_length labels
       → length (octets_by names label labels found) ≤ wire_length (label ∷ labels)
   by_found (Some place) shorter =
-      let two = ended_most place.at in let some = wire_some labels in omega (arith, some, two)
+      omega (arith, wire_some labels, ended_most place.at)
   by_found None shorter =
-      let size = ap length (octets_new names label labels) in
-      let both = length-append label (name_octets names labels) in
-      omega (arith, size, both, shorter)
+      omega (arith, ap length (octets_new names label labels), length-append label (name_octets names labels), shorter)
 
 -- if there are no names, it is its wire form
 pub plain_octets : (labels : List (List ℕ)) → name_octets empty labels ≡ wire labels
@@ -64,20 +61,15 @@ record IsShorter (s t : State) : Type 0 where
 field_shorter : (most : ℕ) (s t : State) (field : Field) → IsShorter s t
     → IsShorter (with_field most s field) (with_field 0 t field)
 field_shorter most s t (Field.name labels) is = record {
-  less = let less = is.less in
-      let one = length-append s.octets (name_octets s.names labels) in
-      let other = length-append t.octets (name_octets t.names labels) in
+  less = let other = length-append t.octets (name_octets t.names labels) in
       let shorter = name_shorter s.names labels in
       let plain = ap (λ names. length (name_octets names labels)) is.none ∙ ap length (plain_octets labels)
       ∙ wire_has labels in
-      omega (arith, less, one, other, shorter, plain);
+      omega (arith, is.less, length-append s.octets (name_octets s.names labels), other, shorter, plain);
   none = ap (λ names. names_with 0 names (length t.octets) labels) is.none ∙ plain_names (length t.octets) labels;
 }
 field_shorter most s t (Field.octets more) is = record {
-  less = let less = is.less in
-      let one = length-append s.octets more in
-      let other = length-append t.octets more in
-      omega (arith, less, one, other);
+  less = omega (arith, is.less, length-append s.octets more, length-append t.octets more);
   none = is.none;
 }
 
@@ -95,10 +87,7 @@ data_shorter most s t (Some fields) is =
     let shorter = fields_shorter most (with_octets s (0 ∷ 0 ∷ [])) (with_octets t (0 ∷ 0 ∷ [])) fields
     (field_shorter most s t count is) in
     record {
-      less = let less = shorter.less in
-          let one = counted_length most s fields in
-          let other = counted_length 0 t fields in
-          omega (arith, less, one, other);
+      less = omega (arith, shorter.less, counted_length most s fields, counted_length 0 t fields);
       none = shorter.none;
     }
 

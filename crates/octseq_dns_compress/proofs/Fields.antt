@@ -65,11 +65,9 @@ counted_length most s fields =
     let data_octets = drop (length s.octets + 2) after.octets in
     let outer = length-append s.octets (part_of 2 data_octets) in
     let left = length-drop (length s.octets + 2) after.octets in
-    let first = length-append s.octets (0 ∷ 0 ∷ []) in
     let less = grown_length from.octets after.octets (fields_grow most from fields) in
     let inner = length-append (octets_be 2 (length data_octets)) data_octets in
-    let two = length_be 2 (length data_octets) in
-    omega (arith, outer, left, first, less, inner, two)
+    omega (arith, outer, left, length-append s.octets (0 ∷ 0 ∷ []), less, inner, length_be 2 (length data_octets))
 
 -- states with equal octets and names are equal
 pub one_state : {octets others : List ℕ} {names more : Names} → octets ≡ others → names ≡ more
@@ -101,10 +99,9 @@ fields_alike most s t [] names long =
     record { more = []; one = sym (append-nil s.octets); other = sym (append-nil t.octets); names = names }
 fields_alike most s t (field ∷ fields) names long =
     let first = field_alike most s t field names long in
-    let one = ap length first.one ∙ length-append s.octets first.more in
     let other = ap length first.other ∙ length-append t.octets first.more in
     let then = fields_alike most (with_field most s field) (with_field most t field) fields first.names
-    (omega (arith, one, other, long)) in
+    (omega (arith, ap length first.one ∙ length-append s.octets first.more, other, long)) in
     record {
       more = first.more ++ then.more;
       one = then.one ∙ ap (λ o. o ++ then.more) first.one ∙ append_assoc s.octets first.more then.more;
@@ -115,36 +112,28 @@ fields_alike most s t (field ∷ fields) names long =
 -- ---- another header
 
 module _ (header : List ℕ) (twelve : length header ≡ 12) where
-  another : State → State
-  another s = with_header s header
-
   pub headed_length : (s : State) → 12 ≤ length s.octets → length (with_header s header).octets ≡ length s.octets
   headed_length s late =
-      let all = length-append header (drop 12 s.octets) in
-      let left = length-drop 12 s.octets in
-      omega (arith, all, left, twelve, late)
+      omega (arith, length-append header (drop 12 s.octets), length-drop 12 s.octets, twelve, late)
 
   headed_more : (s : State) (more : List ℕ) → 12 ≤ length s.octets
       → (header ++ drop 12 s.octets) ++ more ≡ header ++ drop 12 (s.octets ++ more)
   headed_more s more late =
-      append_assoc header (drop 12 s.octets) more
-      ∙ ap (λ o. header ++ o) (sym (drop-append-le 12 s.octets more late))
+      rw (drop-append-le 12 s.octets more late, append_assoc header (drop 12 s.octets) more)
 
   pub headed_fields : (most : ℕ) (s : State) (fields : List Field) → 12 ≤ length s.octets
       → with_fields most (with_header s header) fields ≡ with_header (with_fields most s fields) header
   headed_fields most s fields late =
       let alike = fields_alike most (with_header s header) s fields refl (headed_length s late) in
-      one_state (alike.one ∙ headed_more s alike.more late ∙ ap (λ o. header ++ drop 12 o) (sym alike.other)) alike.names
+      one_state (alike.one ∙ headed_more s alike.more late ∙ ap (λ o. header ++ drop 12 o) (sym alike.other))
+      alike.names
 
   headed_count : (s after : State) → 12 ≤ length s.octets
       → count_put (with_header s header) (with_header after header) ≡ with_header (count_put s after) header
   headed_count s after late =
       let n = length s.octets + 2 in
-      let same = ap (λ n. drop (n + 2) (header ++ drop 12 after.octets)) (headed_length s late)
-      ∙ drop-append-drop 12 after.octets header n (omega (arith, late)) twelve in
-      let octets = ap (λ o. (header ++ drop 12 s.octets) ++ part_of 2 o) same
-      ∙ headed_more s (part_of 2 (drop n after.octets)) late in
-      one_state octets refl
+      one_state (rw (headed_length s late, drop-append-drop 12 after.octets header n (omega (arith, late)) twelve)
+      (headed_more s (part_of 2 (drop n after.octets)) late)) refl
 
   headed_counted : (most : ℕ) (s : State) (fields : List Field) → 12 ≤ length s.octets
       → with_counted most (with_header s header) fields ≡ with_header (with_counted most s fields) header
@@ -188,10 +177,8 @@ module _ (most : ℕ) (s : State) (fields : List Field) where
   pub counted_longer : length s.octets + 2 ≤ length (with_counted most s fields).octets
   unfolding from
   counted_longer =
-      let same = counted_length most s fields in
-      let first = length-append s.octets (0 ∷ 0 ∷ []) in
       let less = grown_length from.octets (with_fields most from fields).octets (fields_grow most from fields) in
-      omega (arith, same, first, less)
+      omega (arith, counted_length most s fields, length-append s.octets (0 ∷ 0 ∷ []), less)
 
   pub count_is_put : (after : State) (place : ℕ) (octets : List ℕ) (names : Names)
       → after ≡ with_fields most (with_octets s (0 ∷ 0 ∷ [])) fields → place ≡ length s.octets + 2
@@ -207,9 +194,4 @@ module _ (most : ℕ) (s : State) (fields : List Field) where
       let same : end - 2 ≡ length s.octets = omega arith in
       ap (λ n. take n all) same ∙ ap (take (length s.octets)) grows.1 ∙ take-append_seam s.octets grows.0 in
       one_state
-      (is ∙ ap (λ a. take (place - 2) a.octets ++ (octets_be 2 (length a.octets - place) ++ drop place a.octets))
-      after_is
-      ∙ ap (λ n. take (n - 2) all ++ (octets_be 2 (length all - n) ++ drop n all)) place_is
-      ∙ ap (λ o. o ++ (octets_be 2 (length all - end) ++ drop end all)) front
-      ∙ ap (λ n. s.octets ++ (octets_be 2 n ++ drop end all)) (sym (length-drop end all)))
-      (names_are ∙ ap (λ a. a.names) after_is)
+      (is ∙ rw (after_is, place_is, front, ← length-drop end all)) (names_are ∙ ap (λ a. a.names) after_is)

@@ -1,15 +1,11 @@
 -- Fields that were appended to a message are read, whatever its header says and whatever follows it.
-use Rattle.std.proofs.Common.{◌≡◌, ℕ, ◌+◌, ◌≤◌, List, [], ◌∷◌, ◌++◌, length, refl, sym, ap, ◌∙◌, subst, arith}
-use Rattle.std.proofs.Common.{length-append}
+use Rattle.std.proofs.Common.{◌≡◌, ℕ, ◌+◌, ◌≤◌, List, [], ◌∷◌, ◌++◌, length, refl, ap, ◌∙◌, subst, arith, length-append}
 use Rattle.std.proofs.Math.Seq.{drop-append_seam}
 use Rattle.std.specs.List.{AllByRecursion}
 use Rattle.octseq.specs.Window.{Window, left, next, at, whole}
 use Rattle.octseq.proofs.WindowsAfter.{front_comes_next}
-use Rattle.octseq_dns_compress.specs.Fields.{AreFields}
-use Rattle.octseq_dns_compress.specs.Fits.{FitsField}
-use Rattle.octseq_dns_compress.specs.Names.{name_octets}
-use Rattle.octseq_dns_compress.specs.LabelsThere.{IsWellNamed}
-use Rattle.octseq_dns_compress.specs.State.{State, Field, with_field, with_fields}
+use Rattle.octseq_dns_compress.proofs.Words.{AreFields, FitsField, name_octets, IsWellNamed, State, Field, with_field}
+use Rattle.octseq_dns_compress.proofs.Words.{with_fields}
 use Rattle.octseq_dns_compress.proofs.FieldNames.{field_named}
 use Rattle.octseq_dns_compress.proofs.Fields.{fields_grow}
 use Rattle.octseq_dns_compress.proofs.LabelsThere.{all_of, all_grown, rest_at, name_is_read}
@@ -20,9 +16,8 @@ octets_are_read : (octets more header after : List ℕ) → 12 ≤ length octets
     (length more ≤ left w) × (next (length more) w ≡ more)
 octets_are_read octets more header after headed long =
     let w = at (length octets) (whole (all_of header (octets ++ more) after)) in
-    let both = length-append octets more in
     let come = front_comes_next w more after (length more)
-    (rest_at header (octets ++ more) after (length octets) long headed (omega (arith, both))
+    (rest_at header (octets ++ more) after (length octets) long headed (omega (arith, length-append octets more))
     ∙ ap (λ front. front ++ after) (drop-append_seam octets more)) refl in
     (come.0, come.1)
 
@@ -57,8 +52,6 @@ fields_are_read most s (field ∷ fields) sound fit header after long =
     let octets = (with_fields most then fields).octets in
     let grows = fields_grow most then fields in
     let same = all_grown header then.octets octets after grows then_named.headed in
-    subst (λ all. AreFields (at (length s.octets) (whole all)) (field ∷ fields) (at (length octets) (whole all))) same
-    (field_is_read most s field sound fit.0 header (grows.0 ++ after) long fields
+    rw (← same) (field_is_read most s field sound fit.0 header (grows.0 ++ after) long fields
     (at (length octets) (whole (all_of header then.octets (grows.0 ++ after))))
-    (subst (λ all. AreFields (at (length then.octets) (whole all)) fields (at (length octets) (whole all))) (sym same)
-    (fields_are_read most then fields then_named fit.1 header after long)))
+    (rw same (fields_are_read most then fields then_named fit.1 header after long)))

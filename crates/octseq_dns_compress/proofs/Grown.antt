@@ -1,17 +1,14 @@
 -- Targets in a message that changes elsewhere: their labels stay.
-use Rattle.std.proofs.Common.{slice_index_or, ◌≡◌, true, ℕ, ◌+◌, ◌<◌, ◌≤◌, List, [], ◌∷◌, ◌++◌, length, take, drop, sym}
-use Rattle.std.proofs.Common.{ap, ◌∙◌, subst, arith, is_some, length-append, length-drop, true≢false, nat_cmp, is_lt}
+use Rattle.std.proofs.Common.{slice_index_or, ◌≡◌, true, ℕ, ◌+◌, ◌<◌, ◌≤◌, List, [], ◌∷◌, ◌++◌, length, drop, sym, ap}
+use Rattle.std.proofs.Common.{◌∙◌, subst, arith, is_some, length-append, length-drop, true≢false, nat_cmp, is_lt}
 use Rattle.std.proofs.Math.ListN.{get_or-append}
 use Rattle.std.proofs.Math.Logic.{∥∥₁_map, ∥∥₁_elim}
 use Rattle.std.proofs.lemmas.List.{drop-append-le, take-append-le}
 use Rattle.std.specs.Cmp.Lexicographic.{slice_cmp}
 use Rattle.std.specs.Coded.{Coded-set, coded_bool, coded_ℕ, le_prop}
 use Rattle.std.specs.FinMap.{empty, get-empty, len-empty}
-use Rattle.octseq_dns_compress.specs.Agrees.{Agrees}
-use Rattle.octseq_dns_compress.specs.Key.{label_at, digest_of, key, key_of, key_cmp, IsWhole, AreTargets}
-use Rattle.octseq_dns_compress.specs.Known.{Known}
-use Rattle.octseq_dns_compress.specs.Names.{Names, Place, labels_cmp}
-use Rattle.octseq_dns_compress.specs.declared.table.Target.{Target}
+use Rattle.octseq_dns_compress.proofs.Words.{Agrees, label_at, digest_of, key, key_of, key_cmp, IsWhole, AreTargets}
+use Rattle.octseq_dns_compress.proofs.Words.{Known, Names, Place, labels_cmp, Target}
 use Rattle.octseq_dns_compress.proofs.Keys.{less_reported}
 
 -- two messages have the same label at an offset
@@ -21,7 +18,7 @@ IsAlike old new at = (slice_index_or new at 0 ≡ slice_index_or old at 0) × (l
 module _ (old new : List ℕ) (targets : List Target) (long : length old ≤ length new)
     (alike : (i : ℕ) (d : Target) → i < length targets → IsAlike old new (slice_index_or targets i d).at) where
   whole_alike : (at : ℕ) → IsAlike old new at → IsWhole old at → IsWhole new at
-  whole_alike at same whole = let first = same.0 in omega (arith, first, long, whole)
+  whole_alike at same whole = omega (arith, same.0, long, whole)
 
   key_alike : (i : ℕ) (d : Target) → i < length targets
       → key_of new (slice_index_or targets i d) ≡ key_of old (slice_index_or targets i d)
@@ -77,10 +74,8 @@ module _ (octets more : List ℕ) where
   unfolding label_at
   label_stays at whole =
       let n = 1 + slice_index_or octets at 0 in
-      let left = length-drop at octets in
-      ap (λ o. take (1 + o) (drop at (octets ++ more))) (octet_stays at (omega (arith, whole)))
-      ∙ ap (take n) (drop-append-le at octets more (omega (arith, whole)))
-      ∙ take-append-le n (drop at octets) more (omega (arith, whole, left))
+      rw (octet_stays at (omega (arith, whole)), drop-append-le at octets more (omega (arith, whole)))
+      (take-append-le n (drop at octets) more (omega (arith, whole, length-drop at octets)))
 
   pub key_stays : (target : Target) → IsWhole octets target.at → key_of (octets ++ more) target ≡ key_of octets target
   key_stays target whole = ap (key target.next) (label_stays target.at whole)
@@ -91,8 +86,7 @@ module _ (octets more : List ℕ) where
   pub agrees_grown : (targets : List Target) (names : Names) → Agrees octets targets names
       → Agrees (octets ++ more) targets names
   agrees_grown targets names agrees =
-      let long = length-append octets more in
-      agrees_alike octets (octets ++ more) targets (omega (arith, long))
+      agrees_alike octets (octets ++ more) targets (omega (arith, length-append octets more))
       (λ i d within. alike_stays (slice_index_or targets i d).at (agrees.targets_are.whole i d within)) names agrees
 
 -- ---- targets of known names

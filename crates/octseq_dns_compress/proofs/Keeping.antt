@@ -1,19 +1,13 @@
 -- Each step of keeping the labels of a name.
-use Rattle.std.proofs.Common.{IsTrue, nat_lt, cond, if◌then◌else◌, ◌≡◌, Bool, inl, true, false, ℕ, zero, suc, ◌+◌, ◌-◌}
-use Rattle.std.proofs.Common.{◌<◌, ◌≤◌, None, List, [], ◌∷◌, ◌++◌, length, take, drop, refl, sym, ap, ◌∙◌, subst, arith}
-use Rattle.std.proofs.Common.{take-append-drop, true≢false, length-drop, insert, filter}
+use Rattle.std.proofs.Common.{IsTrue, nat_lt, if◌then◌else◌, ◌≡◌, Bool, inl, true, false, ℕ, zero, suc, ◌+◌, ◌-◌, ◌<◌}
+use Rattle.std.proofs.Common.{◌≤◌, None, List, [], ◌∷◌, length, take, drop, refl, sym, ap, ◌∙◌, arith, take-append-drop}
+use Rattle.std.proofs.Common.{true≢false, length-drop, insert, filter}
 use Rattle.std.proofs.lemmas.Bool.{lt-leb}
 use Rattle.std.proofs.lemmas.List.Elements.{filter-append}
 use Rattle.std.specs.FinMap.{get, insert as put}
-use Rattle.octseq_dns_compress.specs.Agrees.{Agrees, place_of}
-use Rattle.octseq_dns_compress.specs.Ending.{IsEnding}
-use Rattle.octseq_dns_compress.specs.FoundNames.{place_there}
-use Rattle.octseq_dns_compress.specs.Key.{digest_of}
-use Rattle.octseq_dns_compress.specs.Names.{Names, Place, at_or_zero, is_there, is_kept, label_no, last_place, prefixed}
-use Rattle.octseq_dns_compress.specs.Names.{pointers_from, with_labels, names_with}
-use Rattle.octseq_dns_compress.specs.Written.{IsWritten}
-use Rattle.octseq_dns_compress.specs.declared.search.Ending.{Ending}
-use Rattle.octseq_dns_compress.specs.declared.table.Target.{Target}
+use Rattle.octseq_dns_compress.proofs.Words.{Agrees, place_of, IsEnding, place_there, digest_of, Names, Place}
+use Rattle.octseq_dns_compress.proofs.Words.{at_or_zero, is_there, is_kept, label_no, last_place, prefixed}
+use Rattle.octseq_dns_compress.proofs.Words.{pointers_from, with_labels, names_with, IsWritten, Ending, Target}
 use Rattle.octseq_dns_compress.proofs.KeptNames.{absent, kept_from, unkept, with_known, with_one, with_other}
 use Rattle.octseq_dns_compress.proofs.KeptSoFar.{KeptSoFar, place_after, so_far_kept, whole_here, label_here}
 use Rattle.octseq_dns_compress.proofs.PlainLabels.{last_label, one_left}
@@ -22,13 +16,11 @@ use Rattle.octseq_dns_compress.proofs.PlainLabels.{last_label, one_left}
 pub none_before : (start : ℕ) (held : List Target) (position : ℕ) (target : Target) → start ≤ target.at
     → filter (λ t. nat_lt t.at start) (insert held position target) ≡ filter (λ t. nat_lt t.at start) held
 none_before start held position target late =
-    filter-append (λ t. nat_lt t.at start) (take position held) (target ∷ drop position held)
-    ∙ ap (λ b. filter (λ t. nat_lt t.at start) (take position held)
-    ++ cond b (target ∷ filter (λ t. nat_lt t.at start) (drop position held))
-    (filter (λ t. nat_lt t.at start) (drop position held)))
-    (lt-leb (suc target.at) start (omega (arith, late)))
-    ∙ sym (filter-append (λ t. nat_lt t.at start) (take position held) (drop position held))
-    ∙ ap (filter (λ t. nat_lt t.at start)) (take-append-drop position held)
+    let p = λ (t : Target). nat_lt t.at start in
+    let front = take position held in
+    let back = drop position held in
+    filter-append p front (target ∷ back) ∙ rw (lt-leb (suc target.at) start (omega (arith, late)))
+    (sym (filter-append p front back) ∙ ap (filter p) (take-append-drop position held))
 
 module _ (most : ℕ) {octets : List ℕ} {held : List Target} {names : Names} {labels : List (List ℕ)} {start : ℕ}
     {ending : Ending} (agrees : Agrees octets held names) (ends : IsEnding octets held names labels ending)
@@ -50,9 +42,8 @@ module _ (most : ℕ) {octets : List ℕ} {held : List Target} {names : Names} {
       → Agrees octets after (names_with most names start labels)
   agrees_with after more agrees same =
       let begin : start ≡ place_after start labels zero = omega arith in
-      subst (Agrees octets after)
-      (sym (ap (λ n. with_labels most ending.pointers names n labels) begin ∙ same)
-      ∙ ap (λ p. with_labels most p names start labels) same_pointers) agrees
+      let all = ap (λ n. with_labels most ending.pointers names n labels) begin ∙ same in
+      rw (← same_pointers, all) agrees
 
   module _ (left : ℕ) (some : 0 < left) (few_left : left ≤ ending.written) (at : ℕ)
       (same : at ≡ place_after start labels (left - 1)) where
@@ -76,11 +67,9 @@ module _ (most : ℕ) {octets : List ℕ} {held : List Target} {names : Names} {
     now_is : (kept : Bool) → is_kept most (now left) rest place ≡ kept
         → now (left - 1) ≡ (if kept then put (now left) (label ∷ rest) place else now left)
     now_is kept is =
-        ap (with_labels most ending.pointers names (place_after start labels (left - 1))) here
-        ∙ ap (λ n. with_labels most ending.pointers names n (label ∷ rest)) (sym same)
-        ∙ with_one most ending.pointers names at label rest (now left) kept
+        rw (here, ← same) (with_one most ending.pointers names at label rest (now left) kept
         (ap (λ n. with_labels most ending.pointers names n rest) (omega (arith, longer)))
-        (ap (get names) (sym here) ∙ ends.new (left - 1) (omega (arith, some, few_left))) is
+        (ap (get names) (sym here) ∙ ends.new (left - 1) (omega (arith, some, few_left))) is)
 
   -- the place of the label after this many
   abbrev place_of_no : ℕ → Place
@@ -101,25 +90,22 @@ module _ (most : ℕ) {octets : List ℕ} {held : List Target} {names : Names} {
   pub kept_none : 126 < ending.pointers → Agrees octets held (names_with most names start labels)
   kept_none many =
       agrees_with held names agrees (stopped ending.written (omega arith) names now_none
-      (λ k less. unkept most names (drop (suc k) labels) (place_of_no k) (λ near few room there. omega (arith, few, many))))
+      (λ k less. unkept most names (drop (suc k) labels) (place_of_no k)
+      (λ near few room there. omega (arith, few, many))))
 
   -- the names that were there are before it
   before_start : (others : List (List ℕ)) → IsTrue (is_there names others) → place_of names others < start
   before_start [] there =
-      let zero = ap at_or_zero agrees.root in
-      let after = written.after_header in omega (arith, zero, after)
+      omega (arith, ap at_or_zero agrees.root, written.after_header)
   before_start (label ∷ others) there =
       let place = place_there names label others there in
-      let at = ap at_or_zero place.1 in
-      let less = written.after_names (label ∷ others) place.0 place.1 in omega (arith, at, less)
+      omega (arith, ap at_or_zero place.1, written.after_names (label ∷ others) place.0 place.1)
 
   -- nothing is kept yet
   pub kept_yet : (end older : ℕ) → older ≡ length held → ending.position ≤ length held
       → KeptSoFar octets held (now ending.written) labels start end older ending.written ending.next ending.position
   kept_yet end older all inside =
-      subst (λ names. KeptSoFar octets held names labels start end older ending.written ending.next ending.position)
-      (sym now_none)
-      (record {
+      rw now_none (record {
         agrees = agrees;
         there = ends.ends.there;
         next_is = ends.ends.next_is;
@@ -129,14 +115,11 @@ module _ (most : ℕ) {octets : List ℕ} {held : List Target} {names : Names} {
         phase = inl (
           omega (arith, inside, all),
           sym all,
-          let before = before_start (drop ending.written labels) ends.ends.there in
-              let next = ends.ends.next_is in omega (arith, before, next),
+          omega (arith, before_start (drop ending.written labels) ends.ends.there, ends.ends.next_is),
           λ k d less.
               let held_is = agrees.held k d less in
               let has = agrees.all held_is.label held_is.rest held_is.place held_is.there in
-              let before = before_start held_is.rest has.more in
-              let next = ap (λ t. t.next) held_is.target_is in
-              omega (arith, before, next),
+              omega (arith, before_start held_is.rest has.more, ap (λ t. t.next) held_is.target_is),
         );
       })
 
@@ -163,15 +146,14 @@ module _ (most : ℕ) {octets : List ℕ} {held : List Target} {names : Names} {
           → ending.pointers ≤ 126 → ¬ (most ≤ length after)
           → KeptSoFar octets new (now (left - 1)) labels start at older (left - 1) at (older + 1)
       kept_at new digest digested end_is is near few room =
-          let count = so_far.agrees.count in
           let less : left - 1 < ending.written = omega (arith, some, few_left) in
           let long = longer left some few_left at same in
           let target_is = is ∙ ap (λ n. insert after position
           (record { at = at; next = next; pointers = ending.pointers; digest = n })) digested in
-          let names_are = now_is left some few_left at same true (kept_from most (now left) (drop left labels) here_place near
-          few (omega (arith, count, room)) so_far.there) in
-          subst (λ (both : List Target × Names). KeptSoFar octets both.0 both.1 labels start at older (left - 1) at (older + 1))
-          (λ i. (sym target_is i, sym names_are i))
+          let names_are = now_is left some few_left at same true
+          (kept_from most (now left) (drop left labels) here_place near
+          few (omega (arith, so_far.agrees.count, room)) so_far.there) in
+          rw (target_is, names_are)
           (so_far_kept at ending.pointers so_far some (omega (arith, few_left, within))
           (still_new (left - 1) (omega (arith, some)))
           (label_here written (left - 1) less within at same) (whole_here written (left - 1) less within at same)
@@ -190,13 +172,15 @@ module _ (most : ℕ) {octets : List ℕ} {held : List Target} {names : Names} {
 
       pub kept_far : 16383 < at → Agrees octets after (names_with most names start labels)
       kept_far far =
-          kept_stopped (unkept most (now left) (drop left labels) here_place (λ near few room there. omega (arith, far, near)))
+          kept_stopped (unkept most (now left) (drop left labels) here_place
+          (λ near few room there. omega (arith, far, near)))
 
       pub kept_full : most ≤ length after → Agrees octets after (names_with most names start labels)
       kept_full full =
           let count = so_far.agrees.count in
           kept_stopped
-          (unkept most (now left) (drop left labels) here_place (λ near few room there. omega (arith, full, count, room)))
+          (unkept most (now left) (drop left labels) here_place
+          (λ near few room there. omega (arith, full, count, room)))
 
   -- all are kept
   pub kept_all : {after : List Target} {end older left next position : ℕ}

@@ -1,11 +1,9 @@
 -- The names after labels are written, of which the last ones are kept first.
-use Rattle.std.proofs.Common.{IsTrue, if◌then◌else◌, nat_le, nat_lt, ◌≡◌, Bool, true, false, ℕ, zero, suc, ◌+◌, ◌<◌}
-use Rattle.std.proofs.Common.{◌≤◌, None, List, [], ◌∷◌, length, length-append, length-drop, take, drop, refl, sym, ap}
-use Rattle.std.proofs.Common.{◌∙◌, arith, is_some, le-leb, leb-true, lt-ltb, ltb-true}
-use Rattle.std.proofs.lemmas.Bool.{and_from, and_parts, false_from_ne_true}
+use Rattle.std.proofs.Common.{rules, tests, IsTrue, if◌then◌else◌, ◌≡◌, Bool, true, false, ℕ, ◌+◌, ◌<◌, ◌≤◌, None, List}
+use Rattle.std.proofs.Common.{[], ◌∷◌, length, refl, ap, ◌∙◌, arith, is_some}
+use Rattle.std.proofs.lemmas.Bool.{false_from_ne_true}
 use Rattle.std.specs.FinMap.{get, len, insert, contains_key}
-use Rattle.octseq_dns_compress.specs.FoundNames.{get_other}
-use Rattle.octseq_dns_compress.specs.Names.{Names, Place, is_there, is_kept, with_labels, unrooted}
+use Rattle.octseq_dns_compress.proofs.Words.{get_other, Names, Place, is_there, is_kept, with_labels}
 
 -- labels that aren't found, and aren't the root, aren't there
 pub absent : (names : Names) (labels : List (List ℕ)) → 0 < length labels → get names labels ≡ None
@@ -18,21 +16,11 @@ absent names (label ∷ labels) some none = ap is_some none
 module _ (most : ℕ) (names : Names) (rest : List (List ℕ)) (place : Place) where
   pub kept_parts : IsTrue (is_kept most names rest place)
       → (place.at ≤ 16383) × (place.pointers ≤ 126) × (len names < most) × IsTrue (is_there names rest)
-  kept_parts kept =
-      let one = and_parts (nat_le place.at 16383) _ kept in
-      let two = and_parts (nat_le place.pointers 126) _ one.1 in
-      let three = and_parts (nat_lt (len names) most) _ two.1 in (
-        leb-true place.at 16383 one.0,
-        leb-true place.pointers 126 two.0,
-        ltb-true (len names) most three.0,
-        three.1,
-      )
+  kept_parts kept = search (rules, tests)
 
   pub kept_from : place.at ≤ 16383 → place.pointers ≤ 126 → len names < most → IsTrue (is_there names rest)
       → IsTrue (is_kept most names rest place)
-  kept_from near few room there =
-      and_from _ _ (le-leb place.at 16383 near)
-      (and_from _ _ (le-leb place.pointers 126 few) (and_from _ _ (lt-ltb (len names) most room) there))
+  kept_from near few room there = search (rules, tests)
 
   pub unkept : (place.at ≤ 16383 → place.pointers ≤ 126 → len names < most → ¬ IsTrue (is_there names rest))
       → is_kept most names rest place ≡ false
@@ -65,11 +53,7 @@ module _ (most pointers : ℕ) (names : Names) where
   pub with_known : (start : ℕ) (labels : List (List ℕ)) → IsTrue (is_there names labels)
       → with_labels most pointers names start labels ≡ names
   with_known start [] there = refl
-  with_known start (label ∷ labels) there =
-      ap (λ known. if known then names
-      else (let more = with_labels most pointers names (start + (1 + length label)) labels in
-      let place : Place = record { at = start; pointers = pointers } in
-      if is_kept most more labels place then insert more (label ∷ labels) place else more)) there
+  with_known start (label ∷ labels) there = rw there
 
   -- another label is kept, or isn't
   pub with_one : (start : ℕ) (label : List ℕ) (labels : List (List ℕ)) (more : Names) (kept : Bool)
@@ -78,10 +62,4 @@ module _ (most pointers : ℕ) (names : Names) where
       → is_kept most more labels (record { at = start; pointers = pointers }) ≡ kept
       → with_labels most pointers names start (label ∷ labels)
       ≡ (if kept then insert more (label ∷ labels) (record { at = start; pointers = pointers }) else more)
-  with_one start label labels more kept is none kept_is =
-      let place : Place = record { at = start; pointers = pointers } in
-      let mine = with_labels most pointers names (start + (1 + length label)) labels in
-      ap (λ known. if known then names
-      else (if is_kept most mine labels place then insert mine (label ∷ labels) place else mine)) (ap is_some none)
-      ∙ ap (λ m. if is_kept most m labels place then insert m (label ∷ labels) place else m) is
-      ∙ ap (λ kept. if kept then insert more (label ∷ labels) place else more) kept_is
+  with_one start label labels more kept is none kept_is = rw (ap is_some none, is, kept_is)

@@ -11,14 +11,11 @@ use Rattle.std.specs.Cmp.Lexicographic.{slice_cmp}
 use Rattle.std.specs.FinMap.{get, insert as put}
 use Rattle.std.specs.Ordering.{ordering_then}
 use Rattle.std.specs.declared.cmp.Ordering.{Ordering}
-use Rattle.octseq_dns_compress.specs.Agrees.{Agrees, place_of}
-use Rattle.octseq_dns_compress.specs.FoundNames.{get_new, put_cases}
-use Rattle.octseq_dns_compress.specs.Key.{label_at, digest_of, with_digest, key, key_cmp, IsWhole, IsPosition}
-use Rattle.octseq_dns_compress.specs.Names.{Names, Place, at_or_zero, is_there, label_no, prefixed, unrooted}
-use Rattle.octseq_dns_compress.specs.Written.{IsWritten}
-use Rattle.octseq_dns_compress.specs.declared.table.Target.{Target}
+use Rattle.octseq_dns_compress.proofs.Words.{Agrees, place_of, get_new, put_cases, label_at, digest_of, with_digest}
+use Rattle.octseq_dns_compress.proofs.Words.{key, key_cmp, IsWhole, IsPosition, Names, Place, at_or_zero, is_there}
+use Rattle.octseq_dns_compress.proofs.Words.{label_no, prefixed, unrooted, IsWritten, Target}
 use Rattle.octseq_dns_compress.proofs.MoreNames.{all_insert, MayBeKept, agrees_added}
-use Rattle.octseq_dns_compress.proofs.PlainLabels.{front_and_rest, length_there, whole_there, label_there, one_left}
+use Rattle.octseq_dns_compress.proofs.PlainLabels.{front_and_rest, whole_there, label_there, one_left}
 
 -- the offset of the label after this many
 abbrev pub place_after : ℕ → List (List ℕ) → ℕ → ℕ
@@ -29,48 +26,33 @@ place_after start labels count = start + length (unrooted (take count labels))
 module _ {octets : List ℕ} {names : Names} {start : ℕ} {labels : List (List ℕ)} {written : ℕ}
     (is : IsWritten octets names start labels written) (v : ℕ) (less : v < written) (within : written ≤ length labels)
     (at : ℕ) (same : at ≡ place_after start labels v) where
-  front : List ℕ
+  abbrev front : List ℕ
   front = is.front ++ unrooted (take v labels)
 
-  back : List ℕ
+  abbrev back : List ℕ
   back = unrooted (drop (v + 1) (take written labels)) ++ is.back
 
   split_here : octets ≡ front ++ (prefixed (label_no labels v) ++ back)
-  unfolding front back
   split_here =
       let first = take written labels in
       let a = unrooted (take v labels) in
       let b = prefixed (label_no labels v) in
       let c = unrooted (drop (v + 1) first) in
-      let taken = length-take written labels in
-      let here = drop_more first v [] (omega (arith, less, within, taken)) in
-      is.octets_are
-      ∙ ap (λ o. is.front ++ (o ++ is.back)) (front_and_rest v first
-      ∙ ap (λ l. unrooted l ++ unrooted (drop v first)) (take-take v written labels (omega (arith, less)))
-      ∙ ap (λ l. a ++ unrooted l) here
-      ∙ ap (λ l. a ++ (prefixed l ++ c)) (get_or-take written labels v [] less))
-      ∙ ap (λ o. is.front ++ o) (append_assoc a (b ++ c) is.back ∙ ap (λ o. a ++ o) (append_assoc b c is.back))
-      ∙ sym (append_assoc is.front a (b ++ (c ++ is.back)))
+      let here = drop_more first v [] (omega (arith, less, within, length-take written labels)) in
+      let parts : unrooted first ≡ a ++ (b ++ c) =
+      front_and_rest v first
+      ∙ rw (take-take v written labels (omega (arith, less)), here, get_or-take written labels v [] less) in
+      is.octets_are ∙ ap (λ o. is.front ++ (o ++ is.back)) parts ∙ simp append_assoc
 
   at_is : at ≡ length front
-  unfolding front
   at_is =
-      let long = length-append is.front (unrooted (take v labels)) in
-      let begin = is.start_is in omega (arith, long, begin, same)
+      omega (arith, length-append is.front (unrooted (take v labels)), is.start_is, same)
 
   pub whole_here : IsWhole octets at
-  whole_here =
-      let len = length_there octets front (label_no labels v) back split_here in
-      let whole = whole_there octets front (label_no labels v) back split_here in
-      subst (IsWhole octets) (sym at_is) (omega (arith, len, whole))
+  whole_here = whole_there octets front (label_no labels v) back at split_here at_is
 
   pub label_here : label_at octets at ≡ prefixed (label_no labels v)
-  unfolding label_at
-  label_here =
-      ap (label_at octets) at_is
-      ∙ ap (λ n. take (1 + n) (drop (length front) octets))
-      (length_there octets front (label_no labels v) back split_here)
-      ∙ label_there octets front (label_no labels v) back split_here
+  label_here = label_there octets front (label_no labels v) back at split_here at_is
 
 -- ---- the names so far
 
@@ -92,15 +74,12 @@ later_position : (octets : List ℕ) (held : List Target) (start older next : �
 later_position octets held start older next label late is = record {
   within = is.many;
   before = λ k d less.
-      let taken = length-take (older + 1) held in
-      let many = is.many in
-      let low = is.low k d (omega (arith, less, many, taken)) in
+      let low = is.low k d (omega (arith, less, is.many, length-take (older + 1) held)) in
       let same = ap (λ t. t.next) (get_or-take (older + 1) held k d less) in
       reported k d Ordering.Less
       (nat_cmp_is (slice_index_or held k d).next next Ordering.Less (omega (arith, low, same, late)));
   after = λ k d from inside is_less.
-      let left = length-drop (older + 1) held in
-      let high = is.high (k - (older + 1)) d (omega (arith, from, inside, left)) in
+      let high = is.high (k - (older + 1)) d (omega (arith, from, inside, length-drop (older + 1) held)) in
       let here : older + 1 + (k - (older + 1)) ≡ k = omega (arith, from) in
       let same = ap (λ t. t.next)
       (get_or-drop (older + 1) held (k - (older + 1)) d ∙ ap (λ i. slice_index_or held i d) here) in
@@ -165,11 +144,8 @@ module _ {octets : List ℕ} {held : List Target} {now : Names} {labels : List (
 
   agrees_kept : Agrees octets (insert held position target) (put now (label ∷ rest) place)
   agrees_kept =
-      subst (λ n. Agrees octets (insert held position
-      (record { at = at; next = n; pointers = pointers; digest = digest_of (prefixed label) }))
-      (put now (label ∷ rest) place)) (sym so_far.next_is)
-      (agrees_added octets held now so_far.agrees label rest place may position
-      (subst (λ n. IsPosition octets held (key n (prefixed label)) position) so_far.next_is (so_far.here some)))
+      rw so_far.next_is (agrees_added octets held now so_far.agrees label rest place may position
+      (rw so_far.next_is at so_far.here some))
 
   later : IsFirst held start older next position
       ⊎ ((position ≡ older + 1) × (next ≡ end) × IsLater held start older next)
@@ -182,36 +158,31 @@ module _ {octets : List ℕ} {held : List Target} {now : Names} {labels : List (
         low = All-take (λ t. t.next < start) (older + 1) (insert held position target)
             (all_insert (λ t. t.next < start) position held target first.3 first.2);
         high = λ i d inside.
-            let none = length-drop (older + 1) (insert held position target) in
-            absurd (omega (arith, inside, none, grown, all));
+            absurd (omega (arith, inside, length-drop (older + 1) (insert held position target), grown, all));
       }
   later (inr (here, next_is, is)) =
       let many = is.many in
-      let grown = length-insert held position target (so_far.here some).within in
       let taken = length-take position held in
       record {
-        many = omega (arith, many, grown);
+        many = omega (arith, many, length-insert held position target (so_far.here some).within);
         low = subst (All (λ t. t.next < start))
             (sym (take-append-le (older + 1) (take position held) (target ∷ drop position held)
             (omega (arith, here, taken, many)) ∙ take-take (older + 1) position held (omega (arith, here)))) is.low;
-        high = subst (All (λ t. at < t.next))
-            (ap (λ n. target ∷ drop n held) (sym here)
-            ∙ sym (drop_at (take position held) (target ∷ drop position held) (older + 1)
-            (omega (arith, here, taken, many))))
+        high = let from = drop_at (take position held) (target ∷ drop position held) (older + 1)
+            (omega (arith, here, taken, many)) in
+            rw (from, here)
             (All-cons (λ t. at < t.next) target (drop (older + 1) held) (omega (arith, next_is, longer))
             (All-weaker (λ t. next < t.next) (λ t. at < t.next) (λ t less. omega (arith, less, next_is, longer))
             (drop (older + 1) held) is.high));
       }
 
   -- with one more label
-  pub so_far_kept : KeptSoFar octets (insert held position
-      (record { at = at; next = next; pointers = pointers; digest = digest_of (prefixed (label_no labels (left - 1))) }))
-      (put now (label_no labels (left - 1) ∷ drop left labels) (record { at = at; pointers = pointers })) labels start at
-      older (left - 1) at (older + 1)
+  pub so_far_kept : KeptSoFar octets (insert held position target) (put now (label ∷ rest) place) labels start at older
+      (left - 1) at (older + 1)
   so_far_kept = record {
     agrees = agrees_kept;
-    there = subst (λ r. IsTrue (is_there (put now (label ∷ rest) place) r)) (sym is) (ap is_some found);
-    next_is = sym (ap at_or_zero (ap (get (put now (label ∷ rest) place)) is ∙ found));
+    there = rw is (ap is_some found);
+    next_is = rw (is, found);
     apart = λ others other there. by_name others other (put_cases now (label ∷ rest) place others other there);
     here = λ some. later_position octets (insert held position target) start older at
         (prefixed (label_no labels (left - 1 - 1))) late (later so_far.phase);
@@ -223,5 +194,5 @@ module _ {octets : List ℕ} {held : List Target} {now : Names} {labels : List (
     by_name : (others : List (List ℕ)) (other : Place)
         → ((others ≡ label ∷ rest) × (other ≡ place)) ⊎ (get now others ≡ Some other)
         → start ≤ other.at → at ≤ other.at
-    by_name others other (inl same) from = let one = ap (λ p. p.at) same.1 in omega (arith, one)
-    by_name others other (inr old) from = let far = so_far.apart others other old from in omega (arith, far, longer)
+    by_name others other (inl same) from = omega (arith, ap (λ p. p.at) same.1)
+    by_name others other (inr old) from = omega (arith, so_far.apart others other old from, longer)

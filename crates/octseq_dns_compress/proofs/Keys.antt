@@ -10,10 +10,10 @@ use Rattle.std.proofs.Math.Nat.{pow-le-pow_right}
 use Rattle.std.specs.Cmp.Lexicographic.{slice_cmp}
 use Rattle.std.specs.Ordering.{ordering_reverse}
 use Rattle.std.specs.declared.cmp.Ordering.{Ordering}
-use Rattle.octseq_dns_compress.specs.Key.{key_of, key_cmp, AreTargets, HasKeyAt, HasNoKey}
-use Rattle.octseq_dns_compress.specs.declared.table.Target.{Target}
+use Rattle.octseq_dns_compress.proofs.Words.{key_of, key_cmp, AreTargets, HasKeyAt, HasNoKey, Target}
 
-pub greater_reported : (reported : Ordering) → is_lt reported ≡ false → is_eq reported ≡ false → reported ≡ Ordering.Greater
+pub greater_reported : (reported : Ordering) → is_lt reported ≡ false → is_eq reported ≡ false
+    → reported ≡ Ordering.Greater
 greater_reported Ordering.Less other differ = absurd (true≢false other)
 greater_reported Ordering.Equal other differ = absurd (true≢false differ)
 greater_reported Ordering.Greater other differ = refl
@@ -76,7 +76,7 @@ halved ticks more left fewer all next half few =
 pub few_halves : (ticks left : ℕ) → 0 < left → 2 ^ ticks * left ≤ 16384 → ticks ≤ 14
 few_halves ticks left some few = lt_or_ge (dec_le 15 ticks) where
   lt_or_ge : Dec (15 ≤ ticks) → ticks ≤ 14
-  lt_or_ge (no less) = let small = lt_of_not-le less in omega (arith, small)
+  lt_or_ge (no less) = omega (arith, lt_of_not-le less)
   lt_or_ge (yes many) =
       let power : 2 ^ 15 ≤ 2 ^ ticks = pow-le-pow_right (omega arith) many in
       let one : 2 ^ ticks * 1 ≤ 2 ^ ticks * left = mul-le-mul_left (2 ^ ticks) (omega (arith, some)) in

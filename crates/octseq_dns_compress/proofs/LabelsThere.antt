@@ -8,11 +8,9 @@ use Rattle.std.proofs.lemmas.Slice.{drop-append-drop}
 use Rattle.std.specs.FinMap.{get, empty, insert, get-empty}
 use Rattle.std.specs.Option.{option_or}
 use Rattle.octseq.specs.Window.{Window, rest, at, whole}
-use Rattle.octseq_dns_compress.specs.Fits.{NameFits}
-use Rattle.octseq_dns_compress.specs.FoundNames.{put_cases, some_or_none}
-use Rattle.octseq_dns_compress.specs.Names.{Names, Place, labels_cmp, last_place, name_octets, pointers_from, is_kept}
-use Rattle.octseq_dns_compress.specs.Names.{with_labels, names_with}
-use Rattle.octseq_dns_compress.specs.LabelsThere.{AreAt, AreNamed}
+use Rattle.octseq_dns_compress.proofs.Words.{NameFits, put_cases, some_or_none, Names, Place, labels_cmp, last_place}
+use Rattle.octseq_dns_compress.proofs.Words.{name_octets, pointers_from, is_kept, with_labels, names_with, AreAt}
+use Rattle.octseq_dns_compress.proofs.Words.{AreNamed}
 use Rattle.octseq_dns_compress.proofs.KeptNames.{kept_parts}
 use Rattle.octseq_dns_compress.proofs.Pieces.{octets_by, octets_new, name_next}
 use Rattle.octseq_dns_compress.proofs.Steps.{Grows}
@@ -42,8 +40,7 @@ none_named octets = record {
 all_grows : (header octets more after : List ℕ) → 12 ≤ length octets
     → all_of header octets (more ++ after) ≡ all_of header (octets ++ more) after
 all_grows header octets more after headed =
-    ap (λ rest. header ++ rest) (sym (append_assoc (drop 12 octets) more after))
-    ∙ ap (λ rest. header ++ (rest ++ after)) (sym (drop-append-le 12 octets more headed))
+    rw (drop-append-le 12 octets more headed, append_assoc (drop 12 octets) more after)
 
 pub all_grown : (header octets new after : List ℕ) (grows : Grows octets new) → 12 ≤ length octets
     → all_of header octets (grows.0 ++ after) ≡ all_of header new after
@@ -81,20 +78,17 @@ named_before octets names headed named labels place found =
     let here = (named.there labels place found).1 header [] twelve in
     let room = has_labels_takes place.at (at place.at (whole all)) here.0 labels place.pointers here.1 in
     let long = length-append header (drop 12 octets ++ []) in
-    let more = length-append (drop 12 octets) [] in
-    let fewer = length-drop 12 octets in
-    omega (arith, room, long, more, fewer, headed, twelve)
+    omega (arith, room, long, length-append (drop 12 octets) [], length-drop 12 octets, headed, twelve)
 
 -- what is left at an offset after the header, whatever follows the message
 pub rest_at : (header octets more : List ℕ) (place : ℕ) → length header ≡ 12 → 12 ≤ place → place ≤ length octets
     → rest (at place (whole (all_of header octets more))) ≡ drop place octets ++ more
 rest_at header octets more place headed late within =
     let all = all_of header octets more in
-    let fewer = length-drop place all in
     let long = length-append header (drop 12 octets) in
     let left = length-drop 12 octets in
     let inside : place ≤ length (header ++ drop 12 octets) = omega (arith, long, left, headed, late, within) in
-    take_all (length all - place) (drop place all) (omega (arith, fewer))
+    take_all (length all - place) (drop place all) (omega (arith, length-drop place all))
     ∙ ap (drop place) (sym (append_assoc header (drop 12 octets) more))
     ∙ drop-append-le place (header ++ drop 12 octets) more inside
     ∙ ap (λ rest. rest ++ more) (drop-append-drop 12 octets header place late headed)
@@ -129,7 +123,7 @@ written_at : (octets : List ℕ) (names : Names) (labels : List (List ℕ)) → 
 written_at octets names labels headed named each = record {
   each = each;
   late = headed;
-  within = let long = length-append octets (name_octets names labels) in omega (arith, long);
+  within = omega (arith, length-append octets (name_octets names labels));
   before = named_before octets names headed named;
   octets_are = drop-append_seam octets (name_octets names labels);
 }
@@ -143,7 +137,7 @@ few_from octets names named (label ∷ labels) =
       by_found : (found : Option Place) → get names (label ∷ labels) ≡ found
           → pointers_from (last_place names labels) ≤ 127
           → pointers_from (option_or found (last_place names labels)) ≤ 127
-      by_found (Some place) found others = let few = named.few (label ∷ labels) place found in omega (arith, few)
+      by_found (Some place) found others = omega (arith, named.few (label ∷ labels) place found)
       by_found None found others = others
 
 -- A name that is written after a message is read as that name, whatever its header says and whatever follows it.
@@ -197,18 +191,14 @@ written_more : (octets : List ℕ) (names : Names) (place : ℕ) (label : List �
 written_more octets names place label labels written none =
     let new : drop place octets ≡ length label ∷ (label ++ name_octets names labels) =
     written.octets_are ∙ ap (octets_by names label labels) none ∙ octets_new names label labels in
-    let size = ap length new in
-    let left = length-drop place octets in
-    let both = length-append label (name_octets names labels) in
     let one : length (length label ∷ label) ≡ 1 + length label = omega arith in
-    let late = written.late in
     record {
       each = written.each.2;
-      late = omega (arith, late);
-      within = omega (arith, size, left, both);
-      before = λ others other found. let less = written.before others other found in omega (arith, less);
-      octets_are = sym (drop-drop (1 + length label) place octets) ∙ ap (drop (1 + length label)) new
-          ∙ drop_at (length label ∷ label) (name_octets names labels) (1 + length label) one;
+      late = omega (arith, written.late);
+      within = omega (arith, ap length new, length-drop place octets, length-append label (name_octets names labels));
+      before = λ others other found. omega (arith, written.before others other found);
+      octets_are = rw (← drop-drop (1 + length label) place octets, new)
+          (drop_at (length label ∷ label) (name_octets names labels) (1 + length label) one);
     }
 
 labels_named : (octets : List ℕ) (most : ℕ) (names : Names) (start : ℕ) (labels : List (List ℕ)) → AreNamed octets names
@@ -229,17 +219,11 @@ labels_named octets most names start (label ∷ labels) named written =
           → AreAt octets start (label ∷ labels) (pointers_from (option_or found (last_place names labels)))
           → (get names (label ∷ labels) ≡ None → AreNamed octets
           (with_labels most (pointers_from (last_place names labels)) names (start + (1 + length label)) labels))
-          → AreNamed octets (if is_some found then names
-          else (let pointers = pointers_from (option_or found (last_place names labels)) in
-          let more = with_labels most pointers names (start + (1 + length label)) labels in
-          let place : Place = record { at = start; pointers = pointers } in
-          if is_kept most more labels place then insert more (label ∷ labels) place else more))
-      by_found (Some place) found are others = named
+          → AreNamed octets
+          (with_labels most (pointers_from (option_or found (last_place names labels))) names start (label ∷ labels))
+      by_found (Some place) found are others = rw (ap is_some found) named
       by_found None found are others =
-          let pointers = pointers_from (last_place names labels) in
-          let more = with_labels most pointers names (start + (1 + length label)) labels in
-          let place : Place = record { at = start; pointers = pointers } in
-          named_kept octets most more label labels place (is_kept most more labels place) refl (others found) are
+          rw (ap is_some found) (named_kept octets most _ label labels _ _ refl (others found) are)
 
 -- After a name is written after a message, the names are at their places.
 pub named_with : (most : ℕ) (octets : List ℕ) (names : Names) (labels : List (List ℕ)) → 12 ≤ length octets

@@ -9,7 +9,6 @@ pub mod KeptNames
 pub mod KeptSoFar
 pub mod Keys
 pub mod Messages
-pub mod Limits
 pub mod MoreNames
 pub mod Over
 pub mod Pieces
@@ -17,3 +16,4 @@ pub mod PlainLabels
 pub mod Searched
 pub mod LabelsThere
 pub mod Steps
+pub mod Words

@@ -1,19 +1,14 @@
 -- Messages that change: octets and targets are added, and what was there stays; or all from an offset on is removed.
-use Rattle.std.proofs.Common.{nat_lt, cond, slice_index_or, ◌≡◌, Bool, true, false, ℕ, suc, ◌+◌, ◌<◌, ◌≤◌, Option, List}
-use Rattle.std.proofs.Common.{[], ◌∷◌, ◌++◌, length, replicate, take, refl, sym, ap, ◌∙◌, subst, arith, Result, lt-ltb}
-use Rattle.std.proofs.Common.{le-ltb, ltb-false, length-take, take-take, take_all, All}
-use Rattle.std.proofs.lemmas.Bool.{lt-leb}
+use Rattle.std.proofs.Common.{tests, nat_lt, cond, slice_index_or, ◌≡◌, Bool, true, false, ℕ, ◌+◌, ◌<◌, ◌≤◌, Option}
+use Rattle.std.proofs.Common.{List, [], ◌∷◌, ◌++◌, length, replicate, take, refl, sym, ap, ◌∙◌, subst, arith, Result}
+use Rattle.std.proofs.Common.{ltb-false, length-take, take-take, take_all, All}
 use Rattle.std.proofs.lemmas.List.{take-append-le}
 use Rattle.std.proofs.lemmas.List.Elements.{All-cons, All-head, All-nil, All-tail, All-weaker}
 use Rattle.std.specs.FinMap.{empty}
 use Rattle.octseq.specs.Appends.{Appends}
 use Rattle.octseq.specs.declared.AppendError.{AppendError}
-use Rattle.octseq_dns_compress.specs.Agrees.{Agrees}
-use Rattle.octseq_dns_compress.specs.Apart.{IsApart, AreApart}
-use Rattle.octseq_dns_compress.specs.Composed.{before}
-use Rattle.octseq_dns_compress.specs.Known.{Known}
-use Rattle.octseq_dns_compress.specs.Sound.{Message, IsSound, state_of, message_once}
-use Rattle.octseq_dns_compress.specs.declared.table.Target.{Target}
+use Rattle.octseq_dns_compress.proofs.Words.{IsApart, AreApart, before, Known, Message, IsSound, state_of, message_once}
+use Rattle.octseq_dns_compress.proofs.Words.{Target}
 use Rattle.octseq_dns_compress.proofs.Grown.{known_targets, none_known, IsAlike, alike_stays, known_alike, octet_stays}
 use Rattle.octseq_dns_compress.proofs.Fields.{one_state}
 use Rattle.octseq_dns_compress.proofs.Steps.{Grows, appended_grows, grown_length}
@@ -24,16 +19,7 @@ use Rattle.octseq_dns_compress.proofs.Steps.{Grows, appended_grows, grown_length
 before_twice : (near far : ℕ) → near ≤ far → (targets : List Target)
     → before near (before far targets) ≡ before near targets
 before_twice near far less [] = refl
-before_twice near far less (target ∷ targets) =
-    by_test (nat_lt target.at far) refl (before_twice near far less targets) where
-      by_test : (reported : Bool) → nat_lt target.at far ≡ reported → before near (before far targets) ≡ before near targets
-          → before near (cond reported (target ∷ before far targets) (before far targets))
-          ≡ before near (target ∷ targets)
-      by_test true is more = ap (λ more. cond (nat_lt target.at near) (target ∷ more) more) more
-      by_test false is more =
-          let past = ltb-false target.at far is in
-          more ∙ sym (ap (λ reported. cond reported (target ∷ before near targets) (before near targets))
-          (le-ltb target.at near (omega (arith, past, less))))
+before_twice near far less (target ∷ targets) = grind (arith, tests, before_twice near far less targets)
 
 -- what holds of the targets before an offset, and of all others, holds of all
 all_by_before : (place : ℕ) (P : Target → Type 0) → ((t : Target) → place ≤ t.at → P t) → (targets : List Target)
@@ -54,23 +40,20 @@ all_by_before place P past (target ∷ targets) each =
 filtered : (place : ℕ) (targets : List Target) → All (λ t. t.at < place) targets → before place targets ≡ targets
 filtered place [] each = refl
 filtered place (target ∷ targets) each =
-    ap (λ b. cond b (target ∷ before place targets) (before place targets))
-    (lt-ltb target.at place (All-head (λ t. t.at < place) target targets each))
-    ∙ ap (λ more. target ∷ more) (filtered place targets (All-tail (λ t. t.at < place) target targets each))
+    let more = filtered place targets (All-tail (λ t. t.at < place) target targets each) in
+    grind (arith, tests, more, All-head (λ t. t.at < place) target targets each)
 
 -- as all are before the end
 pub before_all : {octets : List ℕ} {targets : List Target} → Known octets targets
     → before (length octets) targets ≡ targets
 before_all {octets = octets} {targets = targets} known =
     filtered (length octets) targets (λ i d less.
-    let whole = (known_targets octets targets known).whole i d less in omega (arith, whole))
+    omega (arith, (known_targets octets targets known).whole i d less))
 
 -- and no target is before offset 0
 pub none_first : (targets : List Target) → before 0 targets ≡ []
 none_first [] = refl
-none_first (target ∷ targets) =
-    ap (λ b. cond b (target ∷ before 0 targets) (before 0 targets))
-    (lt-leb (suc target.at) 0 (omega arith)) ∙ none_first targets
+none_first (target ∷ targets) = grind (arith, tests, none_first targets)
 
 -- ---- labels apart from the two octets before data
 
@@ -86,10 +69,9 @@ kept_apart octets new held kept place grows within same are =
   where
     grown : (target : Target) → IsApart octets place target → IsApart new place target
     grown target apart near =
-        let ends = apart near in
         let same = ap (λ o. slice_index_or o target.at 0) grows.1
         ∙ octet_stays octets grows.0 target.at (omega (arith, near, within)) in
-        omega (arith, ends, same)
+        omega (arith, apart near, same)
 
 -- whole labels are apart from two octets that are appended after them
 pub data_apart : {octets new : List ℕ} {targets : List Target} (more : List ℕ) (place : ℕ) → Known octets targets
@@ -106,11 +88,13 @@ data_apart {octets = octets} {new = new} {targets = targets} more place known gr
 -- equal octets and targets have the same names
 abbrev pub known_same : {old new : List ℕ} {held kept : List Target} → new ≡ old → kept ≡ held → Known old held
     → Known new kept
-known_same {old = old} {kept = kept} same alike known = (
-  known.0,
-  subst (λ octets. ∥ Agrees octets kept known.0 ∥₁) (sym same)
-      (subst (λ targets. ∥ Agrees old targets known.0 ∥₁) (sym alike) known.1),
-)
+known_same same alike known = (known.0, rw (same, alike) known.1)
+
+-- of equal octets, two messages with the same targets have the same state
+pub state_is : {most : ℕ} {octets new : List ℕ} {held : List Target} (now made : Message most new held) → new ≡ octets
+    → state_of now ≡ record { octets = octets; names = made.known.0 }
+state_is {most = most} {new = new} {held = held} now made same =
+    ap state_of (message_once most new held now made) ∙ one_state same refl
 
 module _ {most : ℕ} {octets : List ℕ} {held : List Target} (was : Message most octets held) where
   abbrev pub message_same : {new : List ℕ} {kept : List Target} → new ≡ octets → kept ≡ held → Message most new kept
@@ -123,8 +107,7 @@ module _ {most : ℕ} {octets : List ℕ} {held : List Target} (was : Message mo
 
   pub state_same : {new : List ℕ} {kept : List Target} (now : Message most new kept) → new ≡ octets → kept ≡ held
       → state_of now ≡ state_of was
-  state_same {new = new} {kept = kept} now same alike =
-      ap state_of (message_once most new kept now (message_same same alike)) ∙ one_state same refl
+  state_same now same alike = state_is now (message_same same alike) same
 
   -- the names stay if the labels do
   abbrev pub message_alike : (new : List ℕ) → length octets ≤ length new → length new ≤ 65535
@@ -132,14 +115,9 @@ module _ {most : ℕ} {octets : List ℕ} {held : List Target} (was : Message mo
   message_alike new longer short alike = record {
     known = known_alike octets new held longer alike was.known;
     few = was.few;
-    headed = let headed = was.headed in omega (arith, headed, longer);
+    headed = omega (arith, was.headed, longer);
     short = short;
   }
-
-  pub names_alike : (new : List ℕ) → length octets ≤ length new → All (λ t. IsAlike octets new t.at) held
-      → (now : Message most new held) → now.known.0 ≡ was.known.0
-  names_alike new longer alike now =
-      ap (λ message. message.known.0) (message_once most new held now (message_alike new longer now.short alike))
 
   -- as they do after more octets
   pub stay : {new : List ℕ} → Grows octets new → All (λ t. IsAlike octets new t.at) held
@@ -151,25 +129,20 @@ module _ {most : ℕ} {octets : List ℕ} {held : List Target} (was : Message mo
   abbrev pub message_grown : {new : List ℕ} → Grows octets new → length new ≤ 65535 → Message most new held
   message_grown {new = new} grows short = message_alike new (grown_length octets new grows) short (stay grows)
 
-  pub names_grown : {new : List ℕ} → Grows octets new → (now : Message most new held) → now.known.0 ≡ was.known.0
-  names_grown {new = new} grows now = names_alike new (grown_length octets new grows) (stay grows) now
-
 -- nothing but a header of zeros
 abbrev none_there : {most : ℕ} {octets : List ℕ} {held : List Target} → held ≡ [] → length octets ≡ 12
     → Message most octets held
 none_there {octets = octets} {held = held} none twelve =
-    let few = ap length none in
     record {
       known = none_known octets held none;
-      few = omega (arith, few);
+      few = omega (arith, ap length none);
       headed = omega (arith, twelve);
       short = omega (arith, twelve);
     }
 
 pub state_none : {most : ℕ} {octets : List ℕ} {held : List Target} → held ≡ [] → octets ≡ replicate 12 0
     → (now : Message most octets held) → state_of now ≡ record { octets = replicate 12 0; names = empty }
-state_none {most = most} {octets = octets} {held = held} none is now =
-    ap state_of (message_once most octets held now (none_there none (ap length is))) ∙ one_state is refl
+state_none none is now = state_is now (none_there none (ap length is)) is
 
 -- ---- messages with an entry and data
 
@@ -212,12 +185,11 @@ module _ {most : ℕ} {octets : List ℕ} {held : List Target} {entry_start data
     pub sound_grown : Message most new kept → IsSound most new kept entry_start data_start
     sound_grown now =
         let long = grown_length octets new grows in
-        let within = was.within in
         let data_within = was.data_within in
         record {
           now = now;
           begun = message_same was.begun (entry_stays grows) (held_stays kept same);
-          within = omega (arith, within, long);
+          within = omega (arith, was.within, long);
           data_within = omega (arith, data_within, long);
           apart = kept_apart octets new held kept data_start grows data_within same was.apart;
         }
@@ -264,8 +236,7 @@ module _ {most : ℕ} {octets : List ℕ} {held : List Target} {entry_start data
   sound_cut {new = new} {kept = kept} same alike = record {
     now = message_same was.begun same alike;
     begun = message_same was.begun (still_begun same) (still_held alike);
-    within = let long = ap length same ∙ length-take entry_start octets in
-        let within = was.within in omega (arith, long, within);
+    within = omega (arith, ap length same ∙ length-take entry_start octets, was.within);
     data_within = omega arith;
     apart = none_apart new kept;
   }

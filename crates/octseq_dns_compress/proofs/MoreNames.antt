@@ -1,7 +1,7 @@
 -- Another target, in its place among others.
 use Rattle.std.proofs.Common.{slice_index_or, ◌≡◌, ℕ, zero, suc, ◌+◌, ◌<◌, ◌≤◌, List, [], ◌∷◌, length, take, drop, ap}
 use Rattle.std.proofs.Common.{◌∙◌, refl, arith, lt_of_not-le, All, AllPairs, insert, IsTrue, cond, ◌⊎◌, inl, inr, Some}
-use Rattle.std.proofs.Common.{None, sym, subst, is_some}
+use Rattle.std.proofs.Common.{None, sym, is_some}
 use Rattle.std.proofs.Math.Decide.{dec_le}
 use Rattle.std.proofs.lemmas.Cmp.{nat_list_cmp_total}
 use Rattle.std.proofs.lemmas.List.Edits.{get_or-insert_below, get_or-insert_above, length-insert, get_or-insert_at}
@@ -9,16 +9,12 @@ use Rattle.std.proofs.lemmas.List.Elements.{All-append, All-cons, All-drop, All-
 use Rattle.std.proofs.lemmas.List.Kept.{AllPairs-cons}
 use Rattle.std.specs.Ordering.{ordering_reverse}
 use Rattle.std.specs.declared.cmp.Ordering.{Ordering}
-use Rattle.octseq_dns_compress.specs.Key.{label_at, digest_of, key_of, key_cmp, IsWhole, AreTargets, IsPosition}
-use Rattle.octseq_dns_compress.specs.Key.{HasNoKey, key}
+use Rattle.octseq_dns_compress.proofs.Words.{label_at, digest_of, key_of, key_cmp, IsWhole, AreTargets, IsPosition}
+use Rattle.octseq_dns_compress.proofs.Words.{HasNoKey, key, Target, Agrees, IsOfName, HasTarget, place_of, target_of}
+use Rattle.octseq_dns_compress.proofs.Words.{labels_total, get_new, get_other, alike_there, some_or_none, place_there}
+use Rattle.octseq_dns_compress.proofs.Words.{put_cases, name_key, found, Names, Place, at_or_zero, is_there, prefixed}
 use Rattle.octseq_dns_compress.proofs.Keys.{key_there}
-use Rattle.octseq_dns_compress.specs.declared.table.Target.{Target}
 use Rattle.std.specs.FinMap.{get, len, insert as put, len-insert}
-use Rattle.octseq_dns_compress.specs.Agrees.{Agrees, IsOfName, HasTarget, place_of, target_of}
-use Rattle.octseq_dns_compress.specs.FoundNames.{labels_total, get_new, get_other, alike_there, some_or_none}
-use Rattle.octseq_dns_compress.specs.FoundNames.{place_there, put_cases}
-use Rattle.octseq_dns_compress.specs.Known.{name_key, found}
-use Rattle.octseq_dns_compress.specs.Names.{Names, Place, at_or_zero, is_there, prefixed}
 
 -- what holds of the old targets and of the new one holds of all
 pub all_insert : (P : Target → Type 0) (position : ℕ) (targets : List Target) (target : Target) → All P targets
@@ -124,7 +120,7 @@ module _ (octets : List ℕ) (targets : List Target) (names : Names) (agrees : A
   target_stays : (l : List ℕ) (labels : List (List ℕ)) (p : Place) → IsTrue (is_there names labels)
       → target_of names l labels p ≡ target_of all_names l labels p
   target_stays l labels p there =
-      ap (λ found. record { at = p.at; next = at_or_zero found; pointers = p.pointers; digest = digest_of (prefixed l) })
+      ap (λ n. record { at = p.at; next = at_or_zero n; pointers = p.pointers; digest = digest_of (prefixed l) })
       (sym (get_stays labels there))
 
   there_stays : (labels : List (List ℕ)) → IsTrue (is_there names labels) → IsTrue (is_there all_names labels)
@@ -146,12 +142,6 @@ module _ (octets : List ℕ) (targets : List Target) (names : Names) (agrees : A
   module _ (position : ℕ) (is : IsPosition octets targets (name_key names label rest) position) where
     abbrev all_targets : List Target
     all_targets = insert targets position target
-
-    at_position : IsPosition octets targets (key_of octets target) position
-    at_position = subst (λ key. IsPosition octets targets key position) (sym key_is) is
-
-    none_there : HasNoKey octets targets (key_of octets target)
-    none_there = subst (HasNoKey octets targets) (sym key_is) none
 
     held_added : (index : ℕ) (d : Target) → index < length all_targets
         → IsOfName all_names (slice_index_or all_targets index d)
@@ -182,8 +172,7 @@ module _ (octets : List ℕ) (targets : List Target) (names : Names) (agrees : A
       after_header = may.after_header;
       more = there_stays rest may.more;
       index = position;
-      within = let long = length-insert targets position target is.within in
-          let within = is.within in omega (arith, long, within);
+      within = omega (arith, length-insert targets position target is.within, is.within);
       target_is = λ d. get_or-insert_at targets position target d is.within ∙ target_stays label rest place may.more;
     }
 
@@ -207,10 +196,7 @@ module _ (octets : List ℕ) (targets : List Target) (names : Names) (agrees : A
       by_name : (((l ∷ r) ≡ (label ∷ rest)) × (p ≡ place)) ⊎ (get names (l ∷ r) ≡ Some p)
           → HasTarget octets all_targets all_names l r p
       by_name (inl (same, one)) =
-          subst (λ p. HasTarget octets all_targets all_names l r p) (sym one)
-          (subst (λ l. HasTarget octets all_targets all_names l r place)
-          (sym (ap (λ xs. slice_index_or xs 0 []) same))
-          (subst (λ r. HasTarget octets all_targets all_names label r place) (sym (ap (drop 1) same)) new_has))
+          rw (one, ap (λ xs. slice_index_or xs 0 []) same, ap (drop 1) same) new_has
       by_name (inr found) = old_has l r p (agrees.all l r p found)
 
     once_added : (labels others : List (List ℕ)) (p o : Place) → get all_names labels ≡ Some p
@@ -230,7 +216,7 @@ module _ (octets : List ℕ) (targets : List Target) (names : Names) (agrees : A
     agrees_added = record {
       targets_are = targets_added octets targets target position agrees.targets_are may.whole may.near
           (sym (ap digest_of may.label_is)) may.few
-          at_position none_there;
+          (rw key_is is) (rw key_is none);
       count = length-insert targets position target is.within ∙ ap (λ n. n + 1) agrees.count
           ∙ sym (len-insert labels_total names (label ∷ rest) place
           ∙ ap (λ there. cond there (len names) (len names + 1)) (ap is_some may.new));

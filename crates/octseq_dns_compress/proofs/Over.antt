@@ -1,22 +1,16 @@
 -- Targets in a message some of whose octets are overwritten: labels before and after them stay.
 use Rattle.std.proofs.Common.{slice_index_or, nat_lt, ltb-false, ltb-true, Bool, true, false, refl, ◌≡◌, ℕ, ◌+◌, ◌-◌}
-use Rattle.std.proofs.Common.{◌<◌, ◌≤◌, ◌⊎◌, inl, inr, List, ◌++◌, length, take, drop, ap, ◌∙◌, sym, subst, arith}
-use Rattle.std.proofs.Common.{append_assoc, length-append, length-drop, get_or-drop, length-take, take-append-drop}
-use Rattle.std.proofs.Common.{take-take, All}
+use Rattle.std.proofs.Common.{◌≤◌, ◌⊎◌, inl, inr, List, ◌++◌, length, take, drop, ap, ◌∙◌, sym, arith, append_assoc}
+use Rattle.std.proofs.Common.{length-append, length-drop, get_or-drop, length-take, take-append-drop, take-take, All}
 use Rattle.std.proofs.Math.Seq.{take-append-add}
 use Rattle.std.proofs.lemmas.List.{take-append-le, drop-take}
 use Rattle.std.proofs.lemmas.Slice.{drop-append-drop}
 use Rattle.std.proofs.Math.Logic.{∥∥₁_elim}
 use Rattle.std.specs.Coded.{le_prop}
-use Rattle.octseq_dns_compress.specs.Apart.{AreApart}
-use Rattle.octseq_dns_compress.specs.Composed.{Composed}
-use Rattle.octseq_dns_compress.specs.Key.{label_at, IsWhole}
-use Rattle.octseq_dns_compress.specs.declared.table.Target.{Target}
-use Rattle.octseq_dns_compress.specs.Sound.{Message, IsSound, composed, state_of}
-use Rattle.octseq_dns_compress.specs.State.{with_header}
-use Rattle.octseq_dns_compress.proofs.Fields.{one_state}
-use Rattle.octseq_dns_compress.proofs.Grown.{IsAlike, octet_stays, label_stays}
-use Rattle.octseq_dns_compress.proofs.Messages.{message_alike, message_same, names_alike, none_apart}
+use Rattle.octseq_dns_compress.proofs.Words.{before, Composed, label_at, IsWhole, Target, Message, IsSound, composed}
+use Rattle.octseq_dns_compress.proofs.Words.{state_of, with_header}
+use Rattle.octseq_dns_compress.proofs.Grown.{IsAlike, alike_stays, octet_stays}
+use Rattle.octseq_dns_compress.proofs.Messages.{message_alike, message_same, none_apart, sound_from, state_is}
 
 -- octets, overwritten from an offset on
 abbrev pub put_over : List ℕ → ℕ → List ℕ → List ℕ
@@ -25,16 +19,6 @@ put_over octets at put = take at octets ++ (put ++ drop (at + length put) octets
 -- a label is before what is overwritten, or after it
 abbrev pub IsClear : List ℕ → ℕ → ℕ → ℕ → Type 0
 IsClear octets from to at = (at + (1 + slice_index_or octets at 0) ≤ from) ⊎ (to ≤ at)
-
--- with the same front
-alike_front : (front x y : List ℕ) (at : ℕ) → at + (1 + slice_index_or (front ++ x) at 0) ≤ length front
-    → IsAlike (front ++ x) (front ++ y) at
-alike_front front x y at within =
-    let less : at < length front = omega (arith, within) in
-    let one = octet_stays front x at less in
-    let other = octet_stays front y at less in
-    let whole : IsWhole front at = omega (arith, within, one) in
-    (other ∙ sym one, label_stays front y at whole ∙ sym (label_stays front x at whole))
 
 -- with the same back
 alike_back : (old new : List ℕ) (at : ℕ) → drop at new ≡ drop at old → IsAlike old new at
@@ -48,11 +32,9 @@ alike_back old new at same =
 module _ (octets put : List ℕ) (at : ℕ) (room : at + length put ≤ length octets) where
   over_length : length (put_over octets at put) ≡ length octets
   over_length =
-      let front = length-take at octets in
       let back = length-drop (at + length put) octets in
       let outer = length-append (take at octets) (put ++ drop (at + length put) octets) in
-      let inner = length-append put (drop (at + length put) octets) in
-      omega (arith, room, front, back, outer, inner)
+      omega (arith, room, length-take at octets, back, outer, length-append put (drop (at + length put) octets))
 
   -- after what is overwritten
   over_drop : (n : ℕ) → at + length put ≤ n → drop n (put_over octets at put) ≡ drop n octets
@@ -66,12 +48,15 @@ module _ (octets put : List ℕ) (at : ℕ) (room : at + length put ≤ length o
   over_alike : (place : ℕ) → IsClear octets at (at + length put) place
       → IsAlike octets (put_over octets at put) place
   over_alike place (inl before) =
+      let first = take at octets in
       let front = length-take at octets in
-      let apart : take at octets ++ drop at octets ≡ octets = take-append-drop at octets in
-      subst (λ o. IsAlike o (put_over octets at put) place) apart
-      (alike_front (take at octets) (drop at octets) (put ++ drop (at + length put) octets) place
-      (subst (λ o. place + (1 + slice_index_or o place 0) ≤ length (take at octets)) (sym apart)
-      (omega (arith, before, front, room))))
+      let apart : first ++ drop at octets ≡ octets = take-append-drop at octets in
+      let octet = ap (λ o. slice_index_or o place 0) (sym apart)
+      ∙ octet_stays first (drop at octets) place (omega (arith, before, front, room)) in
+      let whole : IsWhole first place = omega (arith, before, front, room, octet) in
+      let old = rw apart at (alike_stays first (drop at octets) place whole) in
+      let new = alike_stays first (put ++ drop (at + length put) octets) place whole in
+      (new.0 ∙ sym old.0, new.1 ∙ sym old.1)
   over_alike place (inr after) = alike_back octets (put_over octets at put) place (over_drop place after)
 
 -- a message some of whose octets are overwritten, clear of the labels
@@ -81,28 +66,30 @@ module _ {most : ℕ} {octets new : List ℕ} {held : List Target} (was : Messag
   over_long : length new ≡ length octets
   over_long = ap length new_is ∙ over_length octets put at room
 
-  over_longer : length octets ≤ length new
-  over_longer = let long = over_long in omega (arith, long)
-
-  over_short : length new ≤ 65535
-  over_short = let long = over_long in let short = was.short in omega (arith, long, short)
-
   stay_alike : All (λ t. IsAlike octets new t.at) held
   stay_alike i d within =
       let place = (slice_index_or held i d).at in
-      subst (λ o. IsAlike octets o place) (sym new_is) (over_alike octets put at room place (clear i d within))
+      rw new_is (over_alike octets put at room place (clear i d within))
 
-  message_over : Message most new held
-  message_over = message_alike was new over_longer over_short stay_alike
+  abbrev message_over : Message most new held
+  message_over =
+      let long = over_long in
+      message_alike was new (omega (arith, long)) (omega (arith, long, was.short)) stay_alike
 
-  pub names_over : (now : Message most new held) → now.known.0 ≡ was.known.0
-  names_over now = names_alike was new over_longer stay_alike now
-
-  over_apart : (place : ℕ) → AreApart octets place held → AreApart new place held
-  over_apart place apart i d within near =
-      let ends = apart i d within near in
-      let same = (stay_alike i d within).0 in
-      omega (arith, ends, same)
+  -- and so is what holds of it with an entry and data, if the part before the entry still is a message
+  sound_over : {entry_start data_start : ℕ} → IsSound most octets held entry_start data_start
+      → Message most (take entry_start new) (before entry_start held) → IsSound most new held entry_start data_start
+  sound_over sound begun =
+      let long = over_long in
+      let within = sound.within in
+      record {
+        now = message_over;
+        begun = begun;
+        within = omega (arith, long, within);
+        data_within = omega (arith, long, sound.data_within);
+        apart = λ i d within near.
+            omega (arith, sound.apart i d within near, (stay_alike i d within).0);
+      }
 
 -- ---- a header
 
@@ -114,17 +101,12 @@ take_headed octets header start late =
     let more = start - n in
     let zero : 0 + n ≡ n = omega arith in
     let both : start ≡ n + more = omega (arith, late) in
-    ap (λ m. take start (header ++ drop m octets)) zero
-    ∙ ap (λ m. take m (header ++ drop n octets)) both
-    ∙ take-append-add header (drop n octets) more
-    ∙ ap (λ o. header ++ o) (sym (drop-take n more octets))
-    ∙ ap (λ m. header ++ drop n (take m octets)) (sym both)
-    ∙ ap (λ m. header ++ drop m (take start octets)) (sym zero)
+    rw (zero, both, take-append-add header (drop n octets) more, drop-take n more octets)
 
 module _ {most : ℕ} {octets new : List ℕ} {held : List Target} (was : Message most octets held) (header : List ℕ)
     (twelve : length header ≡ 12) (new_is : new ≡ put_over octets 0 header) where
   room : 0 + length header ≤ length octets
-  room = let headed = was.headed in omega (arith, headed, twelve)
+  room = omega (arith, was.headed, twelve)
 
   -- every label is after the header
   clear : All (λ t. IsClear octets 0 (0 + length header) t.at) held
@@ -132,18 +114,16 @@ module _ {most : ℕ} {octets new : List ℕ} {held : List Target} (was : Messag
       let after : 12 ≤ (slice_index_or held i d).at =
       ∥∥₁_elim was.known.1 le_prop (λ agrees.
       let is = agrees.held i d within in
-      let late = (agrees.all is.label is.rest is.place is.there).after_header in
-      let same = ap (λ t. t.at) is.target_is in
-      omega (arith, late, same)) in
+      omega (arith, (agrees.all is.label is.rest is.place is.there).after_header, ap (λ t. t.at) is.target_is)) in
       inr (omega (arith, after, twelve))
 
-  message_headed : Message most new held
+  abbrev message_headed : Message most new held
   message_headed = message_over was 0 header room new_is clear
 
   pub state_headed : (now : Message most new held) → state_of now ≡ with_header (state_of was) header
   state_headed now =
       let end : 0 + length header ≡ 12 = omega (arith, twelve) in
-      one_state (new_is ∙ ap (λ n. header ++ drop n octets) end) (names_over was 0 header room new_is clear now)
+      state_is now message_headed (new_is ∙ ap (λ n. header ++ drop n octets) end)
 
 module _ {most : ℕ} {octets new : List ℕ} {held : List Target} {entry_start data_start : ℕ}
     (was : IsSound most octets held entry_start data_start) (header : List ℕ) (twelve : length header ≡ 12)
@@ -156,18 +136,8 @@ module _ {most : ℕ} {octets new : List ℕ} {held : List Target} {entry_start 
 
   pub sound_headed : IsSound most new held entry_start data_start
   sound_headed =
-      let long = over_long was.now 0 header (room was.now header twelve new_is) new_is
-      (clear was.now header twelve new_is) in
-      let within = was.within in
-      let data_within = was.data_within in
-      record {
-        now = message_headed was.now header twelve new_is;
-        begun = message_headed was.begun header twelve begun_headed;
-        within = omega (arith, long, within);
-        data_within = omega (arith, long, data_within);
-        apart = over_apart was.now 0 header (room was.now header twelve new_is) new_is
-            (clear was.now header twelve new_is) data_start was.apart;
-      }
+      sound_over was.now 0 header (room was.now header twelve new_is) new_is (clear was.now header twelve new_is) was
+      (message_headed was.begun header twelve begun_headed)
 
 -- ---- the length of data
 
@@ -177,10 +147,7 @@ pub count_late : {B T : Type 0} {b : B} {t : T} {view : Composed B T} {most : �
     → length view.begun.octets + 2 ≤ view.data_start → entry_start + 2 ≤ data_start
 count_late {octets = octets} {entry_start = entry_start} was is late =
     let begun = ap (λ v. length v.begun.octets) is in
-    let from = ap (λ v. v.data_start) is in
-    let long = length-take entry_start octets in
-    let within = was.within in
-    omega (arith, late, begun, from, long, within)
+    omega (arith, late, begun, ap (λ v. v.data_start) is, length-take entry_start octets, was.within)
 
 -- octets before those that are overwritten
 take_before : (octets put : List ℕ) (at start : ℕ) → start ≤ at → at ≤ length octets
@@ -194,7 +161,7 @@ module _ {most : ℕ} {octets new : List ℕ} {held : List Target} {entry_start 
     (was : IsSound most octets held entry_start data_start) (count : List ℕ) (two : length count ≡ 2)
     (late : entry_start + 2 ≤ data_start) (new_is : new ≡ put_over octets (data_start - 2) count) where
   count_room : data_start - 2 + length count ≤ length octets
-  count_room = let within = was.data_within in omega (arith, within, late, two)
+  count_room = omega (arith, was.data_within, late, two)
 
   -- labels are apart from it
   count_clear : All (λ t. IsClear octets (data_start - 2) (data_start - 2 + length count) t.at) held
@@ -202,26 +169,20 @@ module _ {most : ℕ} {octets new : List ℕ} {held : List Target} {entry_start 
     by_test : (reported : Bool) → nat_lt (slice_index_or held i d).at data_start ≡ reported
         → IsClear octets (data_start - 2) (data_start - 2 + length count) (slice_index_or held i d).at
     by_test true is =
-        let ends = was.apart i d within (ltb-true (slice_index_or held i d).at data_start is) in
-        inl (omega (arith, ends))
+        inl (omega (arith, was.apart i d within (ltb-true (slice_index_or held i d).at data_start is)))
     by_test false is =
         let past = ltb-false (slice_index_or held i d).at data_start is in inr (omega (arith, past, two, late))
 
   pub count_names : (now : Message most new held) → now.known.0 ≡ was.now.known.0
-  count_names = names_over was.now (data_start - 2) count count_room new_is count_clear
+  count_names now = ap (λ s. s.names)
+      (state_is now (message_over was.now (data_start - 2) count count_room new_is count_clear) refl)
 
   pub count_begun : take entry_start new ≡ take entry_start octets
   count_begun =
-      let within = was.data_within in
       ap (take entry_start) new_is
-      ∙ take_before octets count (data_start - 2) entry_start (omega (arith, late)) (omega (arith, within))
+      ∙ take_before octets count (data_start - 2) entry_start (omega (arith, late)) (omega (arith, was.data_within))
 
   pub sound_counted : IsSound most new held entry_start 0
-  sound_counted = record {
-    now = message_over was.now (data_start - 2) count count_room new_is count_clear;
-    begun = message_same was.begun count_begun refl;
-    within = let long = over_long was.now (data_start - 2) count count_room new_is count_clear in
-        let within = was.within in omega (arith, long, within);
-    data_within = omega arith;
-    apart = none_apart new held;
-  }
+  sound_counted =
+      sound_from (sound_over was.now (data_start - 2) count count_room new_is count_clear was
+      (message_same was.begun count_begun refl)) 0 (omega arith) (none_apart new held)

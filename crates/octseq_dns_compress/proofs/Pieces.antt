@@ -26,13 +26,12 @@ label_next w label after some short is =
     let one = front_comes_next w (length label ∷ []) (label ++ after) 1 is refl in
     let said : octet w ≡ length label = ap be one.1 ∙ be_one (length label) in
     let two = front_comes_next (past 1 w) label after (length label) one.2 refl in
-    let room = two.0 in
     let both : w.position + 1 + length label ≡ w.position + (1 + length label) = omega arith in (
       record {
         room = one.0;
         some = omega (arith, said, some);
         short = omega (arith, said, short);
-        whole = omega (arith, said, room);
+        whole = omega (arith, said, two.0);
         octets = sym (ap (λ n. next n (past 1 w)) said ∙ two.1);
         after = ap (λ p. at p w) (omega (arith, said));
       },
@@ -47,14 +46,13 @@ pointer_next : (start : ℕ) (w : Window) (n : ℕ) (after : List ℕ) → 12 �
     → rest w ≡ ended n ++ after → HasPointer start w n (past (length (ended n)) w)
 pointer_next start w n after late before is =
     let pointer = pointed n late in
-    let one = front_comes_next w ((192 + n / 256) ∷ []) ((n % 256) ∷ after) 1 (is ∙ ap (λ o. o ++ after) pointer) refl in
+    let one = front_comes_next w ((192 + n / 256) ∷ []) ((n % 256) ∷ after) 1
+    (is ∙ ap (λ o. o ++ after) pointer) refl in
     let two = front_comes_next (past 1 w) ((n % 256) ∷ []) after 1 one.2 refl in
     let first : octet w ≡ 192 + n / 256 = ap be one.1 ∙ be_one (192 + n / 256) in
     let second : octet (past 1 w) ≡ n % 256 = ap be two.1 ∙ be_one (n % 256) in
-    let room = one.0 in
-    let more = two.0 in
     record {
-      room = omega (arith, room, more);
+      room = omega (arith, one.0, two.0);
       mark = omega (arith, first);
       place = omega (arith, first, second);
       before = before;
@@ -90,7 +88,8 @@ name_next names start w [] after are each is = HasLabels.root (root_next w after
 name_next names start w (label ∷ labels) after are each is =
     let u = past (1 + length label) w in
     by_found (get names (label ∷ labels)) refl is (λ next.
-    name_next names start u labels after (record { late = are.late; before = are.before; there = are.there }) each.2 next) where
+    name_next names start u labels after (record { late = are.late; before = are.before; there = are.there }) each.2
+    next) where
       by_found : (found : Option Place) → get names (label ∷ labels) ≡ found
           → rest w ≡ octets_by names label labels found ++ after
           → (rest (past (1 + length label) w) ≡ name_octets names labels ++ after
@@ -110,7 +109,5 @@ name_next names start w (label ∷ labels) after are each is =
           let apart = ap (λ octets. length label ∷ octets) (append_assoc label more after) in
           let all = is ∙ ap (λ octets. octets ++ after) new ∙ apart in
           let next = label_next w label (more ++ after) each.0 each.1 all in
-          let long = ap length new in
-          let both = length-append label more in
           subst (λ p. HasLabels start w (label ∷ labels) (pointers_from (last_place names labels)) (at p w))
-          (omega (arith, long, both)) (HasLabels.label next.0 (others next.1))
+          (omega (arith, ap length new, length-append label more)) (HasLabels.label next.0 (others next.1))

@@ -6,10 +6,9 @@ use Rattle.std.proofs.lemmas.List.{drop_more, flat_map_more, get_or-map, length-
 use Rattle.std.proofs.lemmas.List.{take_more_set}
 use Rattle.std.proofs.Math.Seq.{take-append_seam, drop-append_seam, get_or-append_seam}
 use Rattle.octseq_dns_name.specs.Name.{wire_length, HasLabel, octet}
-use Rattle.octseq_dns_compress.specs.Key.{label_at, IsWhole}
-use Rattle.octseq_dns_compress.specs.Names.{label_no, prefixed, unrooted}
-use Rattle.octseq_dns_compress.specs.PlainName.{label_of, labels_at, AreWhole}
-use Rattle.std.proofs.lemmas.List.Elements.{All-append}
+use Rattle.octseq_dns_compress.proofs.Words.{label_at, IsWhole, label_no, prefixed, unrooted, label_of, labels_at}
+use Rattle.octseq_dns_compress.proofs.Words.{AreWhole}
+use Rattle.std.proofs.lemmas.List.Elements.{All-push}
 use Rattle.octseq.specs.declared.AsOctets.{Ghosts}
 use Rattle.octseq.specs.declared.parse.Parser.{Parser}
 use Rattle.octseq.specs.Integer.{be}
@@ -32,46 +31,43 @@ front_and_rest (suc index) (label ∷ labels) =
 pub wire_of_unrooted : (labels : List (List ℕ)) → wire_length labels ≡ 1 + length (unrooted labels)
 wire_of_unrooted [] = refl
 wire_of_unrooted (label ∷ labels) =
-    let more = wire_of_unrooted labels in
-    let long = length-append label (unrooted labels) in omega (arith, more, long)
+    omega (arith, wire_of_unrooted labels, length-append label (unrooted labels))
 
-module _ (octets front label back : List ℕ) (is : octets ≡ front ++ (length label ∷ label ++ back)) where
-  -- the length octet of a label
-  pub length_there : slice_index_or octets (length front) 0 ≡ length label
-  length_there = ap (λ o. slice_index_or o (length front) 0) is ∙ get_or-append_seam front (length label) (label ++
-      back) 0
+-- a label with its length octet, between others
+module _ (octets front label back : List ℕ) (at : ℕ) (is : octets ≡ front ++ (prefixed label ++ back))
+    (here : at ≡ length front) where
+  length_there : slice_index_or octets at 0 ≡ length label
+  length_there = rw (here, is) (get_or-append_seam front (length label) (label ++ back) 0)
 
-  -- the label is whole
-  pub whole_there : length front + (1 + length label) ≤ length octets
+  pub whole_there : IsWhole octets at
   whole_there =
-      let all = ap length is ∙ length-append front (length label ∷ label ++ back) in
-      let more = length-append label back in omega (arith, all, more)
+      let len = length_there in
+      omega (arith, len, ap length is ∙ length-append front (prefixed label ++ back), length-append label back, here)
 
-  pub label_there : take (1 + length label) (drop (length front) octets) ≡ length label ∷ label
+  pub label_there : label_at octets at ≡ prefixed label
+  unfolding label_at
   label_there =
-      let more : 1 + length label ≡ length (length label ∷ label) = omega arith in
-      ap (λ o. take (1 + length label) (drop (length front) o)) is
-      ∙ ap (take (1 + length label)) (drop-append_seam front (length label ∷ label ++ back))
-      ∙ ap (λ n. take n ((length label ∷ label) ++ back)) more ∙ take-append_seam (length label ∷ label) back
+      let more : 1 + length label ≡ length (prefixed label) = omega arith in
+      ap (λ n. take (1 + n) (drop at octets)) length_there
+      ∙ rw (more, here, is, drop-append_seam front (prefixed label ++ back)) (take-append_seam (prefixed label) back)
 
 -- labels with their length octets have at least one octet each
 pub unrooted_longer : (labels : List (List ℕ)) → length labels ≤ length (unrooted labels)
 unrooted_longer [] = omega arith
 unrooted_longer (label ∷ labels) =
-    let more = unrooted_longer labels in
-    let both = length-append (length label ∷ label) (unrooted labels) in
-    omega (arith, more, both)
+    omega (arith, unrooted_longer labels, length-append (length label ∷ label) (unrooted labels))
 
 -- ---- by index
 
 -- the octets of a whole label are its length octet and its own
 module _ (octets : List ℕ) (at : ℕ) (whole : IsWhole octets at) where
-  label_taken : label_at octets at ≡ slice_index_or octets at 0 ∷ take (slice_index_or octets at 0) (drop (at + 1) octets)
+  label_taken : label_at octets at
+      ≡ slice_index_or octets at 0 ∷ take (slice_index_or octets at 0) (drop (at + 1) octets)
   unfolding label_at
   label_taken =
       let len = slice_index_or octets at 0 in
       let one : 1 + len ≡ suc len = omega arith in
-      ap (λ n. take n (drop at octets)) one ∙ ap (take (suc len)) (drop_more octets at 0 (omega (arith, whole)))
+      rw (one, drop_more octets at 0 (omega (arith, whole)))
 
   pub label_of_taken : label_of octets at ≡ take (slice_index_or octets at 0) (drop (at + 1) octets)
   label_of_taken = ap (drop 1) label_taken
@@ -89,23 +85,16 @@ pub label_read : (octets starts : List ℕ) (index : ℕ) → AreWhole octets st
     → index < length (labels_at octets starts)
     → label_at octets (slice_index_or starts index 0) ≡ prefixed (label_no (labels_at octets starts) index)
 label_read octets starts index whole within =
-    let size = length-map starts (label_of octets) in
-    let inside : index < length starts = omega (arith, within, size) in
+    let inside : index < length starts = omega (arith, within, length-map starts (label_of octets)) in
     whole_label octets (slice_index_or starts index 0) (whole index 0 inside)
     ∙ ap prefixed (sym (get_or-map (label_of octets) starts index 0 [] inside))
 
 -- one more of the first labels adds its octets and its length octet
-module _ (labels : List (List ℕ)) (count : ℕ) (within : count < length labels) where
-  pub one_label_more : unrooted (take (count + 1) labels)
-      ≡ unrooted (take count labels) ++ prefixed (label_no labels count)
-  one_label_more =
-      ap (λ labels. unrooted labels) (take_more labels count [] within)
-      ∙ sym (flat_map_more prefixed [] (take count labels) (label_no labels count))
-
-  pub one_label_longer : length (unrooted (take (count + 1) labels))
-      ≡ length (unrooted (take count labels)) + length (prefixed (label_no labels count))
-  one_label_longer =
-      ap length one_label_more ∙ length-append (unrooted (take count labels)) (prefixed (label_no labels count))
+one_label_more : (labels : List (List ℕ)) (count : ℕ) → count < length labels
+    → unrooted (take (count + 1) labels) ≡ unrooted (take count labels) ++ prefixed (label_no labels count)
+one_label_more labels count within =
+    ap (λ labels. unrooted labels) (take_more labels count [] within)
+    ∙ sym (flat_map_more prefixed [] (take count labels) (label_no labels count))
 
 -- so the last of the first labels adds its own
 pub last_label : (labels : List (List ℕ)) (count : ℕ) (read : List ℕ) → 0 < count → count ≤ length labels
@@ -114,7 +103,8 @@ pub last_label : (labels : List (List ℕ)) (count : ℕ) (read : List ℕ) → 
 last_label labels count read some within is =
     let same : count ≡ count - 1 + 1 = omega (arith, some) in
     ap (λ n. length (unrooted (take n labels))) same
-    ∙ one_label_longer labels (count - 1) (omega (arith, some, within))
+    ∙ ap length (one_label_more labels (count - 1) (omega (arith, some, within)))
+    ∙ length-append (unrooted (take (count - 1) labels)) (prefixed (label_no labels (count - 1)))
     ∙ ap (λ o. length (unrooted (take (count - 1) labels)) + length o) (sym is)
 
 -- what is left of a name from its last label on
@@ -122,17 +112,16 @@ pub one_left : (labels : List (List ℕ)) (left : ℕ) → 0 < left → left ≤
     → drop (left - 1) labels ≡ label_no labels (left - 1) ∷ drop left labels
 one_left labels left some within =
     let same : left - 1 + 1 ≡ left = omega (arith, some) in
-    drop_more labels (left - 1) [] (omega (arith, some, within))
-    ∙ ap (λ n. label_no labels (left - 1) ∷ drop n labels) same
+    rw (drop_more labels (left - 1) [] (omega (arith, some, within)), same)
 
 -- fewer of the first labels don't have more octets
 pub fewer_shorter : (labels : List (List ℕ)) (few many : ℕ) → few ≤ many
     → length (unrooted (take few labels)) ≤ length (unrooted (take many labels))
 fewer_shorter labels few many less =
     let both = front_and_rest few (take many labels) in
-    let long = ap length both ∙ length-append (unrooted (take few (take many labels))) (unrooted (drop few (take many labels))) in
-    let same = ap (λ l. length (unrooted l)) (take-take few many labels less) in
-    omega (arith, long, same)
+    let long = ap length both
+    ∙ length-append (unrooted (take few (take many labels))) (unrooted (drop few (take many labels))) in
+    omega (arith, long, ap (λ l. length (unrooted l)) (take-take few many labels less))
 
 -- ---- labels that lie one after another
 
@@ -148,27 +137,20 @@ module _ (octets starts : List ℕ) (start end index : ℕ) (front : List ℕ) (
       let len = 1 + slice_index_or octets end 0 in
       let on : start + (end - start) ≡ end = omega (arith, ordered) in
       let all : end - start + len ≡ end + len - start = omega (arith, ordered) in
-      let label : prefixed (label_no (labels_at octets starts) index) ≡ take len (drop (end - start) (drop start octets)) =
-      sym (label_read octets starts index whole inside) ∙ ap (label_at octets) here
-      ∙ ap (λ n. take len (drop n octets)) (sym on) ∙ ap (take len) (sym (drop-drop (end - start) start octets)) in
-      ap (λ o. take (end - start) (drop start octets) ++ o) label
-      ∙ sym (take-add (end - start) len (drop start octets)) ∙ ap (λ n. take n (drop start octets)) all
+      rw (← label_read octets starts index whole inside, here, ← all, take-add (end - start) len (drop start octets))
+      (rw (drop-drop (end - start) start octets, on))
 
   -- to those of the labels before it
   pub run_more : unrooted (take index (labels_at octets starts)) ≡ front ++ take (end - start) (drop start octets)
       → unrooted (take (index + 1) (labels_at octets starts))
       ≡ front ++ take (end + (1 + slice_index_or octets end 0) - start) (drop start octets)
   run_more is =
-      let labels = labels_at octets starts in
-      one_label_more labels index inside ∙ ap (λ o. o ++ prefixed (label_no labels index)) is
-      ∙ append_assoc front (take (end - start) (drop start octets)) (prefixed (label_no labels index))
-      ∙ ap (λ o. front ++ o) next_taken
+      rw (one_label_more (labels_at octets starts) index inside, is, append_assoc front, next_taken)
 
   -- it is whole
   pub run_inside : end + (1 + slice_index_or octets end 0) ≤ length octets
   run_inside =
-      let size = length-map starts (label_of octets) in
-      subst (IsWhole octets) here (whole index 0 (omega (arith, inside, size)))
+      subst (IsWhole octets) here (whole index 0 (omega (arith, inside, length-map starts (label_of octets))))
 
 -- ---- labels that are left of a name
 
@@ -195,22 +177,19 @@ here_is w on l within has =
     let p = w.position in
     let same : p + 1 - 1 ≡ p = omega arith in
     let room = has.room in
-    let long = has.whole in
-    let some = has.some in
     let len = octet_is w (omega (arith, room, within)) in
-    let whole : IsWhole w.octets p = omega (arith, long, len, within, room) in
+    let whole : IsWhole w.octets p = omega (arith, has.whole, len, within, room) in
     let taken : p + 1 + octet w - (p + 1) ≡ slice_index_or w.octets p 0 = omega (arith, len) in
     let is : label_of w.octets p ≡ rest (part 1 w) =
     label_of_taken w.octets p whole ∙ ap (λ n. take n (drop (p + 1) w.octets)) (sym taken) in
     let size = length-take (p + 1 + octet w - (p + 1)) (drop (p + 1) w.octets) in
-    let left = length-drop (p + 1) w.octets in
     record {
       octets = ap (λ v. v.octets) has.after;
       end = ap (λ v. v.end) has.after;
       after = omega arith;
       whole = subst (IsWhole w.octets) (sym same) whole;
       label_is = ap (label_of w.octets) same ∙ is;
-      some = omega (arith, size, left, taken, whole, len, some);
+      some = omega (arith, size, length-drop (p + 1) w.octets, taken, whole, len, has.some);
     }
 
 -- and before the next label, wherever it is
@@ -220,7 +199,8 @@ next_place start w place on began within (NextLabel.here {l = l} has is) =
     subst (λ place. IsPlace w place on) (sym is) (here_is w on l within has)
 next_place start w place on began within (NextLabel.pointed {to = to} has more) =
     let it = next_place to (at to w) place on began within more in
-    record { octets = it.octets; end = it.end; after = it.after; whole = it.whole; label_is = it.label_is; some = it.some }
+    let label_is = it.label_is in
+    record { octets = it.octets; end = it.end; after = it.after; whole = it.whole; label_is = label_is; some = it.some }
 
 -- one more offset is known
 module _ (octets starts : List ℕ) (count place : ℕ) (within : count < length starts) where
@@ -229,20 +209,14 @@ module _ (octets starts : List ℕ) (count place : ℕ) (within : count < length
 
   pub more_whole : AreWhole octets (take count starts) → IsWhole octets place
       → AreWhole octets (take (count + 1) (slice_set starts count place))
-  more_whole all one = subst (AreWhole octets) (sym more_set)
-      (All-append (IsWhole octets) (take count starts) (place ∷ []) all only) where
-        only : AreWhole octets (place ∷ [])
-        only zero d inside = one
-        only (suc k) d inside = absurd (omega (arith, inside))
+  more_whole all one = rw more_set (All-push (IsWhole octets) (take count starts) place all one)
 
   pub more_labels : (label : List ℕ) (left all : List (List ℕ)) → label_of octets place ≡ label
       → labels_at octets (take count starts) ++ (label ∷ left) ≡ all
       → labels_at octets (take (count + 1) (slice_set starts count place)) ++ left ≡ all
   more_labels label left all is are =
-      ap (λ s. labels_at octets s ++ left) more_set
-      ∙ ap (λ labels. labels ++ left) (map-append (label_of octets) (take count starts) (place ∷ []))
-      ∙ append_assoc (labels_at octets (take count starts)) (label_of octets place ∷ []) left
-      ∙ ap (λ l. labels_at octets (take count starts) ++ (l ∷ left)) is ∙ are
+      rw (more_set, map-append (label_of octets) (take count starts) (place ∷ []))
+      (rw (append_assoc (labels_at octets (take count starts)), is) are)
 
 -- a name is read from the octets of its window
 pub source_is : {R : Type 0} {g : Ghosts R} (octets : List ℕ) (source : R) (parser : Parser R g) (w : Window)

@@ -1,39 +1,14 @@
 -- Searching for the labels of a name, the last one first.
-use Rattle.std.proofs.Common.{slice_index_or, IsTrue, if◌then◌else◌, ◌≡◌, ℕ, zero, suc, ◌+◌, ◌-◌, ◌<◌, ◌≤◌, None, List}
-use Rattle.std.proofs.Common.{[], ◌∷◌, length, take, drop, refl, sym, ap, ◌∙◌, subst, arith, is_some, true≢false}
-use Rattle.std.proofs.Common.{drop-drop, length-drop}
+use Rattle.std.proofs.Common.{slice_index_or, IsTrue, ◌≡◌, ℕ, zero, suc, ◌+◌, ◌-◌, ◌<◌, ◌≤◌, None, List, [], ◌∷◌}
+use Rattle.std.proofs.Common.{length, take, drop, refl, sym, ap, ◌∙◌, arith, is_some, true≢false, drop-drop}
+use Rattle.std.proofs.Common.{length-drop}
 use Rattle.std.specs.FinMap.{get}
-use Rattle.std.specs.Option.{option_or}
-use Rattle.octseq_dns_compress.specs.Agrees.{Agrees}
-use Rattle.octseq_dns_compress.specs.Ending.{Ends}
-use Rattle.octseq_dns_compress.specs.FoundNames.{place_there, none_found}
-use Rattle.octseq_dns_compress.specs.Key.{key, HasKeyAt, HasNoKey}
-use Rattle.octseq_dns_compress.specs.Known.{found, missing}
-use Rattle.octseq_dns_compress.specs.Names.{Names, at_or_zero, is_there, first_labels, label_no, last_place}
-use Rattle.octseq_dns_compress.specs.Names.{pointers_from, prefixed}
-use Rattle.octseq_dns_compress.specs.declared.table.Target.{Target}
+use Rattle.octseq_dns_compress.proofs.Words.{Agrees, Ends, place_there, none_found, key, HasKeyAt, HasNoKey, found}
+use Rattle.octseq_dns_compress.proofs.Words.{missing, Names, at_or_zero, is_there, first_labels, label_no, last_place}
+use Rattle.octseq_dns_compress.proofs.Words.{pointers_from, prefixed, Target}
 use Rattle.octseq_dns_compress.proofs.PlainLabels.{one_left}
 
 module _ {octets : List ℕ} {targets : List Target} (names : Names) (agrees : Agrees octets targets names) where
-  -- one more label is there
-  pub ends_before : (label : List ℕ) (rest : List (List ℕ)) (next pointers index : ℕ) (d : Target)
-      → Ends names rest next pointers → HasKeyAt octets targets (key next (prefixed label)) index
-      → Ends names (label ∷ rest) (slice_index_or targets index d).at ((slice_index_or targets index d).pointers + 1)
-  ends_before label rest next pointers index d ends has =
-      let key = subst (λ n. HasKeyAt octets targets (key n (prefixed label)) index) ends.next_is has in
-      let it = found agrees label rest index d ends.there key in
-      record {
-        there = ap is_some it.1;
-        next_is = ap (λ t. t.at) it.2 ∙ sym (ap at_or_zero it.1);
-        pointers_are = ap (λ t. t.pointers + 1) it.2 ∙ sym (ap pointers_from it.1);
-      }
-
-  -- or it isn't
-  pub none_before : (label : List ℕ) (rest : List (List ℕ)) (next pointers : ℕ) → Ends names rest next pointers
-      → HasNoKey octets targets (key next (prefixed label)) → get names (label ∷ rest) ≡ None
-  none_before label rest next pointers ends none =
-      missing agrees label rest (subst (λ n. HasNoKey octets targets (key n (prefixed label))) ends.next_is none)
-
   -- labels whose suffix isn't there aren't there
   not_there : (labels : List (List ℕ)) (k : ℕ) → k < length labels → get names (drop k labels) ≡ None
       → get names labels ≡ None
@@ -49,9 +24,8 @@ module _ {octets : List ℕ} {targets : List Target} (names : Names) (agrees : A
   pub all_new : (labels : List (List ℕ)) (last k : ℕ) → k ≤ last → last < length labels
       → get names (drop last labels) ≡ None → get names (drop k labels) ≡ None
   all_new labels last k before within none =
-      let left = length-drop k labels in
       let same : last ≡ k + (last - k) = omega (arith, before) in
-      not_there (drop k labels) (last - k) (omega (arith, left, within, before))
+      not_there (drop k labels) (last - k) (omega (arith, length-drop k labels, within, before))
       (ap (get names) (drop-drop (last - k) k labels ∙ ap (λ n. drop n labels) (sym same)) ∙ none)
 
   -- and the labels before those that are there are the first ones
@@ -62,17 +36,11 @@ module _ {octets : List ℕ} {targets : List Target} (names : Names) (agrees : A
   ending_is [] zero within there new = (refl, agrees.root)
   ending_is [] (suc w) within there new = absurd (omega (arith, within))
   ending_is (label ∷ labels) zero within there new =
-      let place = place_there names label labels there in (
-        ap (λ b. if b then [] else label ∷ first_labels names labels) (sym there),
-        place.1 ∙ ap (λ o. option_or o (last_place names labels)) (sym place.1),
-      )
+      let place = place_there names label labels there in (rw there, rw place.1)
   ending_is (label ∷ labels) (suc w) within there new =
       let first = new zero (omega arith) in
-      let rest = ending_is labels w (omega (arith, within)) there (λ k less. new (suc k) (omega (arith, less))) in (
-        ap (λ more. label ∷ more) rest.0
-            ∙ ap (λ b. if b then [] else label ∷ first_labels names labels) (sym (ap is_some first)),
-        rest.1 ∙ ap (λ o. option_or o (last_place names labels)) (sym first),
-      )
+      let rest = ending_is labels w (omega (arith, within)) there (λ k less. new (suc k) (omega (arith, less))) in
+      (rw (ap is_some first, rest.0), rw first rest.1)
 
 -- ---- by index
 
@@ -86,15 +54,17 @@ module _ (octets : List ℕ) (targets : List Target) (names : Names) (agrees : A
       → Ends names (drop (written - 1) labels) (slice_index_or targets index d).at
       ((slice_index_or targets index d).pointers + 1)
   ends_at index d has =
-      subst (λ all. Ends names all (slice_index_or targets index d).at ((slice_index_or targets index d).pointers + 1))
-      (sym (one_left labels written some within))
-      (ends_before names agrees (label_no labels (written - 1)) (drop written labels) next pointers index d ends
-      (subst (λ o. HasKeyAt octets targets (key next o) index) is has))
+      let it = found agrees (label_no labels (written - 1)) (drop written labels) index d ends.there
+      (rw (is, ends.next_is) at has) in
+      rw (one_left labels written some within) (record {
+        there = ap is_some it.1;
+        next_is = ap (λ t. t.at) it.2 ∙ sym (ap at_or_zero it.1);
+        pointers_are = ap (λ t. t.pointers + 1) it.2 ∙ sym (ap pointers_from it.1);
+      })
 
   -- or no target has its key, so neither it nor a label before it is there
   pub none_at : HasNoKey octets targets (key next read) → (k : ℕ) → k < written → get names (drop k labels) ≡ None
   none_at none k less =
       all_new names agrees labels (written - 1) k (omega (arith, less)) (omega (arith, some, within))
-      (ap (get names) (one_left labels written some within)
-      ∙ none_before names agrees (label_no labels (written - 1)) (drop written labels) next pointers ends
-      (subst (λ o. HasNoKey octets targets (key next o)) is none))
+      (rw (one_left labels written some within)
+      (missing agrees (label_no labels (written - 1)) (drop written labels) (rw (is, ends.next_is) at none)))

@@ -16,4 +16,4 @@ appended_grows {old = old} (Err e) appends = ([], appends.err ∙ sym (append-ni
 
 pub grown_length : (old new : List ℕ) → Grows old new → length old ≤ length new
 grown_length old new grows =
-    let long = ap length grows.1 ∙ length-append old grows.0 in omega (arith, long)
+    omega (arith, ap length grows.1 ∙ length-append old grows.0)

@@ -1,5 +1,5 @@
 -- How a name ends among names that are kept.
-use Rattle.std.specs.Prelude.{◌≡◌, ℕ, ◌-◌, ◌<◌, None, List, ◌∷◌, take, drop, IsTrue}
+use Rattle.std.specs.Prelude.{◌≡◌, ℕ, ◌-◌, ◌<◌, None, List, take, drop, IsTrue}
 use Rattle.std.specs.FinMap.{get}
 use Rattle.octseq_dns_compress.specs.Agrees.{place_of}
 use Rattle.octseq_dns_compress.specs.Key.{key, IsPosition}

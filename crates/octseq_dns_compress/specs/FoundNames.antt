@@ -38,20 +38,11 @@ get_other names labels others place other =
 
 -- ---- whether labels are there
 
--- by the result of a lookup
-abbrev there_by : List (List ℕ) → Option Place → Bool
-there_by [] found = true
-there_by (label ∷ labels) found = is_some found
-
-there_is : (names : Names) (labels : List (List ℕ)) → is_there names labels ≡ there_by labels (get names labels)
-there_is names [] = refl
-there_is names (label ∷ labels) = refl
-
 -- labels with the same lookup in two tables are there in both or in neither
 pub alike_there : (names others : Names) (labels : List (List ℕ)) → get names labels ≡ get others labels
     → is_there names labels ≡ is_there others labels
-alike_there names others labels same =
-    there_is names labels ∙ ap (there_by labels) same ∙ sym (there_is others labels)
+alike_there names others [] same = refl
+alike_there names others (label ∷ labels) same = ap is_some same
 
 found_place : (found : Option Place) → IsTrue (is_some found) → (place : Place) × (found ≡ Some place)
 found_place (Some place) some = (place, refl)

@@ -1,6 +1,6 @@
 -- The names that targets belong to. A name is found by its key, so there is only one table of these names.
-use Rattle.std.proofs.Common.{◌≡◌, ℕ, Some, None, List, [], ◌∷◌, length, drop, slice_index_or, IsTrue, refl, sym, ap}
-use Rattle.std.proofs.Common.{◌∙◌, subst, arith}
+use Rattle.std.proofs.Common.{◌≡◌, ℕ, Some, None, List, [], ◌∷◌, drop, slice_index_or, IsTrue, refl, sym, ap, ◌∙◌}
+use Rattle.std.proofs.Common.{subst, arith}
 use Rattle.std.proofs.Math.Logic.{∥∥₁_prop, ∥∥₁_elim}
 use Rattle.std.specs.Coded.{Coded, Coded-set, coded_list, coded_ℕ, coded×, code_by}
 use Rattle.std.specs.FinMap.{get, code, same_map}
@@ -26,22 +26,20 @@ key_there octets targets names label rest place has = record {
 }
 
 module _ {octets : List ℕ} {targets : List Target} {names : Names} (agrees : Agrees octets targets names) where
+  -- the root isn't at the offset of a name
+  root_apart : (label : List ℕ) (labels : List (List ℕ)) → IsTrue (is_there names (label ∷ labels))
+      → ¬ (place_of names [] ≡ place_of names (label ∷ labels))
+  root_apart label labels there same =
+      let place = place_there names label labels there in
+      let after = (agrees.all label labels place.0 place.1).after_header in
+      omega (arith, after, ap at_or_zero agrees.root, ap at_or_zero place.1, same)
+
   -- names that are there at one offset, or the root, are equal
   one_rest : (labels others : List (List ℕ)) → IsTrue (is_there names labels) → IsTrue (is_there names others)
       → place_of names labels ≡ place_of names others → labels ≡ others
   one_rest [] [] there here same = refl
-  one_rest [] (label ∷ others) there here same =
-      let place = place_there names label others here in
-      let after = (agrees.all label others place.0 place.1).after_header in
-      let zero = ap at_or_zero agrees.root in
-      let at = ap at_or_zero place.1 in
-      absurd (omega (arith, after, zero, at, same))
-  one_rest (label ∷ labels) [] there here same =
-      let place = place_there names label labels there in
-      let after = (agrees.all label labels place.0 place.1).after_header in
-      let zero = ap at_or_zero agrees.root in
-      let at = ap at_or_zero place.1 in
-      absurd (omega (arith, after, zero, at, same))
+  one_rest [] (label ∷ others) there here same = absurd (root_apart label others here same)
+  one_rest (label ∷ labels) [] there here same = absurd (root_apart label labels there (sym same))
   one_rest (label ∷ labels) (other ∷ others) there here same =
       let place = place_there names label labels there in
       let found = place_there names other others here in
@@ -62,10 +60,8 @@ module _ {octets : List ℕ} {targets : List Target} {names : Names} (agrees : A
       let same_rest : held.rest ≡ rest =
       one_rest held.rest rest mine.more there (ap (λ xs. slice_index_or xs 0 0) same) in (
         held.place,
-        ap (λ r. get names (label ∷ r)) (sym same_rest)
-            ∙ ap (λ l. get names (l ∷ held.rest)) (sym same_label) ∙ held.there,
-        held.target_is ∙ ap (λ l. target_of names l held.rest held.place) same_label
-            ∙ ap (λ r. target_of names label r held.place) same_rest,
+        rw (← same_label, ← same_rest) held.there,
+        rw (← same_label, ← same_rest) held.target_is,
       )
 
   -- if no target has its key, the name isn't there

@@ -1,7 +1,6 @@
 use Rattle.std.proofs.Common.{◌++◌, ap, ◌∙◌, length, length-append, take, arith, length-take}
-use Rattle.octseq_dns_compress.specs.Names.{ended, unrooted}
-use Rattle.octseq_dns_compress.specs.PlainNames.{plain_labels}
-use Rattle.octseq_dns_compress.proofs.Composes.{ending_of, name_refused, name_appended, name_taken_back}
+use Rattle.octseq_dns_compress.proofs.Words.{ended, unrooted, plain_labels}
+use Rattle.octseq_dns_compress.proofs.Composes.{name_refused, name_appended, name_taken_back}
 use Rattle.octseq_dns_compress.proofs.Grown.{known_targets}
 use Rattle.octseq_dns_compress.proofs.PlainLabels.{source_is, unrooted_longer}
 use Rattle.octseq_dns_compress.proofs.append.append_name.Goals as goal
@@ -19,14 +18,14 @@ pub returns-in-Err-clause-named : goal.returns-in-Err-clause-named
 returns-in-Err-clause-named g c old =
     rw (← c.new-plain.ensures)
     (name_refused old (plain_labels c.new-plain.result) c.search-ending.result
-    (ending_of _ _ _ _ _ _ c.as_ref-2.ensures.value c.as_slice.ensures c.search-ending.ensures.ending)
+    (rw (c.as_ref-2.ensures.value, c.as_slice.ensures) at c.search-ending.ensures.ending)
     c.in-Err.error c.in-Err.ensures.appended)
 
 pub returns-in-Err-keep-clause-named : goal.returns-in-Err-keep-clause-named
 returns-in-Err-keep-clause-named g c old =
     rw (← c.new-plain.ensures)
     (name_taken_back old (plain_labels c.new-plain.result) c.search-ending.result
-    (ending_of _ _ _ _ _ _ c.as_ref-2.ensures.value c.as_slice.ensures c.search-ending.ensures.ending)
+    (rw (c.as_ref-2.ensures.value, c.as_slice.ensures) at c.search-ending.ensures.ending)
     c.in_default.field-0 c.in_default.ensures.appended c.len-start.result c.len-start.ensures.content _
     c.keep.ensures.before _ _ c.truncate.ensures.content c.keep_before.ensures)
 
@@ -34,7 +33,7 @@ pub returns-clause-named : goal.returns-clause-named
 returns-clause-named g c old =
     rw (← c.new-plain.ensures)
     (name_appended old (plain_labels c.new-plain.result) c.search-ending.result
-    (ending_of _ _ _ _ _ _ c.as_ref-2.ensures.value c.as_slice.ensures c.search-ending.ensures.ending)
+    (rw (c.as_ref-2.ensures.value, c.as_slice.ensures) at c.search-ending.ensures.ending)
     c.in_default.field-0 c.in_default.ensures.appended c.len-start.result c.len-start.ensures.content _
     c.keep.ensures.before c.in_default-keep.ensures.kept c.keep.ensures.few c.append_encoded.ensures.most
     c.in_default.ensures.within)
@@ -51,6 +50,4 @@ returns-clause-least g c =
     let taken = length-take end.written labels in
     let within = c.search-ending.ensures.written in
     let found = c.search-ending.ensures.least in
-    let kept = c.keep.ensures.on in
-    let same = ap length c.new-plain.ensures in
-    omega (arith, long, both, each, taken, within, found, kept, same)
+    omega (arith, long, both, each, taken, within, found, c.keep.ensures.on, ap length c.new-plain.ensures)

@@ -1,7 +1,6 @@
-use Rattle.std.proofs.Common.{◌+◌, ◌++◌, ap, ◌∙◌, sym, length, length-append, take, arith, append_assoc}
-use Rattle.octseq_dns_compress.specs.Names.{unrooted}
-use Rattle.octseq_dns_compress.specs.PlainNames.{plain_labels}
-use Rattle.octseq_dns_compress.proofs.Limits.{within_fewer}
+use Rattle.std.proofs.Common.{◌++◌, ap, ◌∙◌, sym, length, length-append, take, arith, append_assoc}
+use Rattle.octseq_dns_compress.proofs.Words.{unrooted, plain_labels}
+use Rattle.octseq.proofs.Limits.{past_more, within_not_past}
 use Rattle.octseq_dns_compress.proofs.PlainLabels.{fewer_shorter}
 use Rattle.octseq_dns_compress.proofs.encode.append_labels.Goals as goal
 
@@ -14,11 +13,13 @@ returns-in-Err-clause-short g c short =
     let count = c.requires.count in
     let long = ap length so_far.content
     ∙ length-append (g.B.AsOctets.content c.args.octets.now) (unrooted (take index labels)) in
-    let read = ap length c.run-after.ensures.run ∙ length-append (unrooted (take index labels)) c.run-after.result.0.now in
+    let read = ap length c.run-after.ensures.run
+    ∙ length-append (unrooted (take index labels)) c.run-after.result.0.now in
     let within = c.run-after.ensures.within in
     let few = fewer_shorter labels c.run-after.result.1 c.args.count within in
-    within_fewer g.B.AsOctets.limit _ _ c.requires.room (omega (arith, long, read, few))
-    (c.in-Err.ensures.appended.short.0 short)
+    within_not_past g.B.AsOctets.limit _ c.requires.room (past_more g.B.AsOctets.limit _ _
+    (omega (arith, long, read, few))
+    (c.in-Err.ensures.appended.short.0 short))
 
 pub labels-preserved : goal.labels-preserved
 labels-preserved g c =

@@ -1,7 +1,6 @@
 -- This many labels are appended.
 use Rattle.std.proofs.Common.{◌-◌, ◌≡◌, ◌≤◌, ◌++◌, take}
-use Rattle.octseq_dns_compress.specs.Names.{unrooted}
-use Rattle.octseq_dns_compress.specs.PlainNames.{plain_labels}
+use Rattle.octseq_dns_compress.proofs.Words.{unrooted, plain_labels}
 use Rattle.octseq_dns_compress.proofs.encode.append_labels.Given as goal
 
 abbrev pub invariant-labels : goal.invariant-labels

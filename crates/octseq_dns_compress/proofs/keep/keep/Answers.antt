@@ -1,7 +1,6 @@
 use Rattle.std.proofs.Common.{◌≤◌, ◌<◌, ◌-◌, ap, ◌∙◌, refl, sym, length, arith, true≢false, nat_lt, filter}
 use Rattle.std.proofs.lemmas.List.Edits.{length-insert}
-use Rattle.octseq_dns_compress.specs.Key.{digest_of}
-use Rattle.octseq_dns_compress.specs.PlainNames.{plain_labels}
+use Rattle.octseq_dns_compress.proofs.Words.{digest_of, plain_labels}
 use Rattle.octseq_dns_compress.proofs.Keeping.{none_before, kept_none, kept_yet, kept_at, kept_far, kept_full, kept_all}
 use Rattle.octseq_dns_compress.proofs.PlainLabels.{last_label}
 use Rattle.octseq_dns_compress.proofs.keep.keep.Goals.{then-at-gt-PLACE_MAX-via-then-at-gt-PLACE_MAX}
@@ -13,24 +12,21 @@ returns-then-ending-gt-POINTERS_MAX-clause-kept g c octets names agrees ends wri
     kept_none g.T.Compressor.most agrees ends c.requires.written written c.if-ending-gt-POINTERS_MAX.true
 
 pub overflow_add-end : goal.overflow_add-end
-overflow_add-end g c = let start = c.requires.start in let short = c.requires.short in omega (arith, start, short)
+overflow_add-end g c = omega (arith, c.requires.start, c.requires.short)
 
 pub overflow_sub-at : goal.overflow_sub-at
 overflow_sub-at g c =
     let so_far = c.labels.invariant in
-    let within = so_far.within in
-    let all = c.requires.written in
     let begin = last_label (plain_labels c.args.name.now) c.labels.left c.label-label.result.now
-    (omega (arith, c.labels-test.true)) (omega (arith, within, all)) c.label-label.ensures in
-    let end = so_far.end in
-    omega (arith, begin, end)
+    (omega (arith, c.labels-test.true)) (omega (arith, so_far.within, c.requires.written)) c.label-label.ensures in
+    omega (arith, begin, so_far.end)
 
 pub labels-init : goal.labels-init
 labels-init g c =
     let all = ap length c.as_slice-older.ensures in
     record {
       within = omega arith;
-      end = (let len = c.requires.len in omega (arith, len));
+      end = (omega (arith, c.requires.len));
       position = c.requires.position;
       more = omega (arith, all);
       few = c.requires.few;
@@ -49,7 +45,7 @@ returns-then-at-gt-PLACE_MAX-clause-kept g c octets names agrees ends written =
     let kept = so_far.kept octets names agrees ends written in
     let some : 0 < c.labels.left = omega (arith, c.labels-test.true) in
     let begin = last_label (plain_labels c.args.name.now) c.labels.left c.label-label.result.now some
-    (let within = so_far.within in let all = c.requires.written in omega (arith, within, all)) c.label-label.ensures in
+    (omega (arith, so_far.within, c.requires.written)) c.label-label.ensures in
     let end = so_far.end in
     let at = c.labels.end - length c.label-label.result.now in
     elim c.then-at-gt-PLACE_MAX.branch [
@@ -69,25 +65,22 @@ labels-preserved g c =
     let long = ap length inserted ∙ length-insert held c.labels.position _ so_far.position in
     let within = so_far.within in
     let more = so_far.more in
-    let turned = so_far.turned in
     let few = so_far.few in
     let tick = c.tick.ensures in
     let room : ¬ (g.T.Compressor.most ≤ length held) = λ full. true≢false (sym (c.if-is_full.ensures.1 full)) in
     let begin = last_label (plain_labels c.args.name.now) c.labels.left c.label-label.result.now
-    (omega (arith, c.labels-test.true)) (let all = c.requires.written in omega (arith, within, all))
+    (omega (arith, c.labels-test.true)) (omega (arith, within, c.requires.written))
     c.label-label.ensures in
     let end = so_far.end in
-    let few_pointers = c.if-ending-gt-POINTERS_MAX.false in
-    let near = c.if-at-gt-PLACE_MAX.false in
     record {
       within = omega (arith, within);
       end = omega (arith, begin, end);
       position = omega (arith, long, more);
       more = omega (arith, long, more);
       few = omega (arith, long, room);
-      turned = omega (arith, turned, tick, c.labels-test.true);
-      least = (let least = so_far.least in omega (arith, least, long, tick));
-      on = (let on = so_far.on in omega (arith, on, tick));
+      turned = omega (arith, so_far.turned, tick, c.labels-test.true);
+      least = (omega (arith, so_far.least, long, tick));
+      on = (omega (arith, so_far.on, tick));
       before = ap (filter (λ t. nat_lt t.at c.args.start)) inserted
           ∙ none_before c.args.start held c.labels.position _ (omega (arith, begin, end)) ∙ so_far.before;
       kept = λ octets names agrees ends written.
@@ -96,12 +89,11 @@ labels-preserved g c =
           (omega (arith, c.labels-test.true)) within (c.labels.end - length c.label-label.result.now)
           (omega (arith, begin, end)) (g.T.Compressor.held c.insert.new.self) _
           (c.digest.ensures ∙ ap digest_of c.label-label.ensures) end
-          inserted (omega (arith, near)) (omega (arith, few_pointers)) room;
+          inserted (omega (arith, c.if-at-gt-PLACE_MAX.false)) (omega (arith, c.if-ending-gt-POINTERS_MAX.false)) room;
     }
 
 pub returns-clause-kept : goal.returns-clause-kept
 returns-clause-kept g c octets names agrees ends written =
     let so_far = c.labels.invariant in
-    let none = c.labels-test.false in
     kept_all g.T.Compressor.most agrees ends c.requires.written written (so_far.kept octets names agrees ends written)
-    (omega (arith, none))
+    (omega (arith, c.labels-test.false))

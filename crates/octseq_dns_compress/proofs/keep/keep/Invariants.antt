@@ -1,10 +1,6 @@
 -- The labels after those that are left are kept.
 use Rattle.std.proofs.Common.{nat_lt, filter, ◌≡◌, ◌≤◌, ◌+◌, ℕ, List, length, drop, take}
-use Rattle.octseq_dns_compress.specs.Agrees.{Agrees}
-use Rattle.octseq_dns_compress.specs.Ending.{IsEnding}
-use Rattle.octseq_dns_compress.specs.Names.{Names, unrooted, with_labels}
-use Rattle.octseq_dns_compress.specs.PlainNames.{plain_labels}
-use Rattle.octseq_dns_compress.specs.Written.{IsWritten}
+use Rattle.octseq_dns_compress.proofs.Words.{Agrees, IsEnding, Names, unrooted, with_labels, plain_labels, IsWritten}
 use Rattle.octseq_dns_compress.proofs.KeptSoFar.{KeptSoFar, place_after}
 use Rattle.octseq_dns_compress.proofs.keep.keep.Given as goal
 

@@ -2,8 +2,7 @@ use Rattle.std.proofs.Common.{◌≡◌, ◌<◌, ◌-◌, ◌++◌, ap, ◌∙�
 use Rattle.octseq_dns_name.specs.Name.{wire_length}
 use Rattle.octseq_dns_name.specs.NextLabel.{ahead_of}
 use Rattle.octseq_dns_name.specs.Read.{label_place, labels_left, labels_of, place_of}
-use Rattle.octseq_dns_compress.specs.Key.{IsWhole}
-use Rattle.octseq_dns_compress.specs.PlainName.{label_of, labels_at}
+use Rattle.octseq_dns_compress.proofs.Words.{IsWhole, label_of, labels_at}
 use Rattle.octseq_dns_compress.proofs.PlainLabels.{next_place, more_whole, more_labels}
 use Rattle.octseq_dns_compress.proofs.plain.place_labels.Goals as goal
 
@@ -19,9 +18,7 @@ overflow_sub-starts g c =
     let whole_octets = ap (λ w. length w.octets) at_name in
     let it = next_place _ (ahead_of c.places.label-iterator) (label_place c.in-Some.label) _ _
     (omega (arith, end, long, within, c.len-end.ensures.end, whole_end, whole_octets)) c.in-Some.ensures.steps.1 in
-    let after = it.after in
-    let pos = c.pos.ensures in
-    omega (arith, after, pos)
+    omega (arith, it.after, c.pos.ensures)
 
 pub places-preserved : goal.places-preserved
 places-preserved g c =
@@ -36,20 +33,17 @@ places-preserved g c =
     let whole_octets = ap (λ w. length w.octets) at_name in
     let here = ahead_of c.places.label-iterator in
     let place = label_place c.in-Some.label in
-    let it = next_place _ here place _ _ (omega (arith, end, size, within, c.len-end.ensures.end, whole_end, whole_octets)) c.in-Some.ensures.steps.1 in
-    let pos = c.pos.ensures in
-    let at : c.pos.result - 1 ≡ place.position - 1 = omega (arith, pos) in
-    let few = so_far.few in
+    let it = next_place _ here place _ _
+    (omega (arith, end, size, within, c.len-end.ensures.end, whole_end, whole_octets)) c.in-Some.ensures.steps.1 in
+    let at : c.pos.result - 1 ≡ place.position - 1 = omega (arith, c.pos.ensures) in
     let wire = ap wire_length c.in-Some.ensures.steps.0 in
-    let some = it.some in
     let inside : c.places.count < length c.places.starts =
-    (let few = so_far.within in let room = so_far.room in omega (arith, few, room, c.if-count.false)) in
+    (omega (arith, so_far.within, so_far.room, c.if-count.false)) in
     record {
-      few = omega (arith, few, wire, some);
-      summed = (let summed = so_far.summed in let size = ap length c.as_slice.ensures.octets in
-          omega (arith, summed, wire, size));
-      most = (let most = so_far.most in let size = c.as_slice.ensures.most in omega (arith, most, size));
-      within = (let few = so_far.within in omega (arith, few, c.if-count.false));
+      few = omega (arith, so_far.few, wire, it.some);
+      summed = (omega (arith, so_far.summed, wire, ap length c.as_slice.ensures.octets));
+      most = (omega (arith, so_far.most, c.as_slice.ensures.most));
+      within = (omega (arith, so_far.within, c.if-count.false));
       room = length-set c.places.starts c.places.count (c.pos.result - 1) ∙ so_far.room;
       same = it.octets ∙ same;
       end = it.end ∙ end;

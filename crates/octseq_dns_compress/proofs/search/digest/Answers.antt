@@ -17,12 +17,9 @@ unfolding digest_of
 returns c =
     let label = c.args.label.now in
     let last = length label in
-    let third = c.from-third.ensures in
-    let second = c.from-second.ensures in
-    let first = c.from.ensures in
     let same : 240 * c.from-third.result + 16 * c.from-second.result + c.from.result
     ≡ 240 * slice_index_or label (last - 3) 0 + 16 * slice_index_or label (last - 2) 0
-    + slice_index_or label (last - 1) 0 = omega (arith, third, second, first) in
+    + slice_index_or label (last - 1) 0 = omega (arith, c.from-third.ensures, c.from-second.ensures, c.from.ensures) in
     same ∙ sym (ap (λ few. if few then 0
     else 240 * slice_index_or label (last - 3) 0 + 16 * slice_index_or label (last - 2) 0
     + slice_index_or label (last - 1) 0) (le-ltb last 3 (omega (arith, c.if-len-lt3.false))))

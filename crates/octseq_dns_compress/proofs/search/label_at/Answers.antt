@@ -1,4 +1,4 @@
-use Rattle.std.proofs.Common.{◌≡◌, ◌+◌, ◌-◌, ap, ◌∙◌, take, drop, arith, slice_index_or}
+use Rattle.std.proofs.Common.{◌≡◌, ◌+◌, ◌-◌, ap, ◌∙◌, arith, slice_index_or}
 use Rattle.octseq_dns_compress.specs.Key.{label_at}
 use Rattle.octseq_dns_compress.proofs.search.label_at.Goals as goal
 
@@ -6,8 +6,6 @@ pub returns : goal.returns
 unfolding label_at
 returns c =
     let octets = c.args.octets.now in
-    let len = c.from-len.ensures ∙ ap (λ n. slice_index_or octets n 0) c.from-at.ensures in
     let long : c.from-at.result + 1 + c.from-len.result - c.from-at.result ≡ 1 + slice_index_or octets c.args.at 0 =
-    omega (arith, len) in
-    ap (λ n. take n (drop c.from-at.result octets)) long
-    ∙ ap (λ n. take (1 + slice_index_or octets c.args.at 0) (drop n octets)) c.from-at.ensures
+    omega (arith, c.from-len.ensures ∙ ap (λ n. slice_index_or octets n 0) c.from-at.ensures) in
+    rw (long, c.from-at.ensures)

@@ -1,9 +1,6 @@
 -- The labels after those that are left are there.
 use Rattle.std.proofs.Common.{◌≡◌, ◌≤◌, ◌+◌, ◌*◌, length, drop, take}
-use Rattle.octseq_dns_compress.specs.Agrees.{Agrees}
-use Rattle.octseq_dns_compress.specs.Ending.{Ends}
-use Rattle.octseq_dns_compress.specs.Names.{Names, unrooted}
-use Rattle.octseq_dns_compress.specs.PlainNames.{plain_labels}
+use Rattle.octseq_dns_compress.proofs.Words.{Agrees, Ends, Names, unrooted, plain_labels}
 use Rattle.octseq_dns_compress.proofs.search.search.Given as goal
 
 abbrev pub invariant-labels : goal.invariant-labels

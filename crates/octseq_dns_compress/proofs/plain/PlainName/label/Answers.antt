@@ -10,6 +10,6 @@ returns c =
     let starts = c.args.self.now.starts.now in
     let start = slice_index_or starts c.args.index 0 in
     let long : start + 1 + c.from-len.result - start ≡ 1 + slice_index_or octets start 0 =
-    (let len = c.from-len.ensures in omega (arith, len)) in
+    (omega (arith, c.from-len.ensures)) in
     ap (λ n. take n (drop start octets)) long
     ∙ label_read octets starts c.args.index c.args.self.now.whole c.requires

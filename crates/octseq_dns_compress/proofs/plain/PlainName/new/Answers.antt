@@ -1,21 +1,17 @@
 use Rattle.std.proofs.Common.{ap, sym, ◌∙◌, length, arith, subst}
 use Rattle.octseq_dns_name.specs.Read.{labels_of}
-use Rattle.octseq_dns_compress.specs.Names.{unrooted}
-use Rattle.octseq_dns_compress.specs.PlainName.{AreWhole, labels_at}
+use Rattle.octseq_dns_compress.proofs.Words.{unrooted, AreWhole, labels_at}
 use Rattle.octseq_dns_compress.proofs.PlainLabels.{wire_of_unrooted}
 use Rattle.octseq_dns_compress.proofs.plain.PlainName.new.Goals as goal
 
 pub invariant_of-result : goal.invariant_of-result
 invariant_of-result g c =
     let same = ap (λ o. labels_at o c.args.starts.now) c.requires.source ∙ c.requires.labels in
-    let size = ap (λ labels. length (unrooted labels)) same in
     let wire = wire_of_unrooted (labels_of c.args.name.now) in
-    let len = c.requires.len in
-    let most = c.if-len-gt-UNROOTED_MAX.false in
     record {
       whole = subst (λ o. AreWhole o c.args.starts.now) (sym c.requires.source) c.requires.whole;
-      measured = omega (arith, len, wire, size);
-      short = omega (arith, most);
+      measured = omega (arith, c.requires.len, wire, ap (λ labels. length (unrooted labels)) same);
+      short = omega (arith, c.if-len-gt-UNROOTED_MAX.false);
     }
 
 pub returns : goal.returns
@@ -23,8 +19,4 @@ returns g c = ap (λ o. labels_at o c.args.starts.now) c.requires.source ∙ c.r
 
 pub unreachable-requires : goal.unreachable-requires
 unreachable-requires g c =
-    let long = c.if-len-gt-UNROOTED_MAX.true in
-    let len = c.requires.len in
-    let counted = c.len-len.ensures.len in
-    let most = c.len-len.ensures.most in
-    absurd (omega (arith, long, len, counted, most))
+    absurd (omega (arith, c.if-len-gt-UNROOTED_MAX.true, c.requires.len, c.len-len.ensures.len, c.len-len.ensures.most))

@@ -1,7 +1,6 @@
 use Rattle.std.proofs.Common.{◌≡◌, ◌+◌, ◌-◌, ◌<◌, ◌++◌, ap, ◌∙◌, sym, length, take, drop, refl, arith, slice_index_or}
 use Rattle.std.proofs.Common.{append-nil}
-use Rattle.octseq_dns_compress.specs.Names.{unrooted}
-use Rattle.octseq_dns_compress.specs.PlainNames.{plain_labels}
+use Rattle.octseq_dns_compress.proofs.Words.{unrooted, plain_labels}
 use Rattle.octseq_dns_compress.proofs.PlainLabels.{run_inside, run_more}
 use Rattle.octseq_dns_compress.proofs.plain.PlainName.run.Goals as goal
 
@@ -15,8 +14,7 @@ labels-init c =
     let start = slice_index_or starts c.args.from 0 in
     let inside : c.args.from < length (plain_labels self) = omega (arith, c.requires.some, c.requires.within) in
     let none : start - start ≡ 0 = omega arith in
-    let len = c.from.ensures in
-    let end : start + (1 + slice_index_or octets start 0) ≡ start + 1 + c.from.result = omega (arith, len) in
+    let end : start + (1 + slice_index_or octets start 0) ≡ start + 1 + c.from.result = omega (arith, c.from.ensures) in
     let whole = run_inside octets starts start start c.args.from first self.whole inside refl (omega arith) in
     record {
       some = omega arith;
@@ -38,7 +36,6 @@ labels-preserved c =
     let start = slice_index_or starts c.args.from 0 in
     let so_far = c.labels.invariant in
     let ordered = so_far.ordered in
-    let some = so_far.some in
     let inside : c.labels.index < length (plain_labels self) = omega (arith, c.labels-test.true, c.requires.within) in
     let here = c.if-self-index.true in
     let len = c.from-in-labels.ensures in
@@ -46,7 +43,7 @@ labels-preserved c =
     omega (arith, len) in
     let whole = run_inside octets starts start c.labels.end c.labels.index first self.whole inside here ordered in
     record {
-      some = omega (arith, some);
+      some = omega (arith, so_far.some);
       within = omega (arith, c.labels-test.true);
       ordered = omega (arith, ordered);
       inside = omega (arith, whole, end);

@@ -1,7 +1,6 @@
 -- The octets so far are those of the labels from the first one up to the index.
 use Rattle.std.proofs.Common.{◌≡◌, ◌-◌, ◌<◌, ◌≤◌, ◌++◌, length, take, drop}
-use Rattle.octseq_dns_compress.specs.Names.{unrooted}
-use Rattle.octseq_dns_compress.specs.PlainNames.{plain_labels}
+use Rattle.octseq_dns_compress.proofs.Words.{unrooted, plain_labels}
 use Rattle.octseq_dns_compress.proofs.plain.PlainName.run.Given as goal
 
 abbrev pub invariant-labels : goal.invariant-labels
