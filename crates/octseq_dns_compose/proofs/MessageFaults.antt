@@ -9,14 +9,15 @@ use Rattle.octseq_dns_text.specs.Scans.{IsFault}
 use Rattle.octseq_dns_message.specs.declared.header.Header.{Header}
 use Rattle.octseq_dns_compose.specs.HeaderLine.{IsHeaderLine}
 use Rattle.octseq_dns_compose.specs.MessageText.{AreEntries, Entry, IsAnyText, IsEntryLine}
-use Rattle.octseq_dns_compose.specs.MessageText.{IsStop, section_of}
+use Rattle.octseq_dns_compose.specs.MessageText.{section_of}
 use Rattle.octseq_dns_compose.specs.QuestionText.{IsAnyQuestion}
 use Rattle.octseq_dns_compose.specs.RecordText.{IsAnyRecord}
 use Rattle.octseq_dns_compose.specs.TextLines.{BeginsWithLines, IsFaultyHeader, IsFaultyLine, IsLineFault, IsNextLine}
 use Rattle.octseq_dns_compose.specs.TextLines.{IsNoneOf, IsUnended, Splits}
+use Rattle.octseq_dns_compose.specs.TooLong.{data_octets}
 use Rattle.octseq_dns_compose.proofs.Faults.{Leads, first_fault, led_fault, some_word}
 use Rattle.octseq_dns_compose.proofs.HeaderLines.{HeaderTexts}
-use Rattle.octseq_dns_compose.proofs.LineFaults.{LeadsLines, Line, led_line_fault}
+use Rattle.octseq_dns_compose.proofs.LineFaults.{LeadsLines, Line}
 use Rattle.octseq_dns_compose.proofs.Records.{record_goes}
 
 -- ---- the first line of a text
@@ -239,7 +240,7 @@ pub record IsSection (section : ℕ) (word : List ℕ) (Texts : Line → List �
   pub makes : (words : Line) (octets : List ℕ) → Texts words octets
       → (entry : Entry) × (section_of entry ≡ section) × IsEntryLine entry (word ∷ words)
   pub takes : (entry : Entry) (words : Line) → section_of entry ≡ section → IsEntryLine entry (word ∷ words)
-      → (octets : List ℕ) × Texts words octets
+      → Texts words (data_octets entry)
 
 section_next : (section from : ℕ) (word : List ℕ) (Texts : Line → List ℕ → Type 0) → IsSection section word Texts
     → from ≤ section → Leads (IsNextLine (AnyEntries from) []) Texts (word ∷ [])
@@ -251,7 +252,7 @@ section_next section from word Texts of less = record {
   out = λ words octets next.
       let all = next.1.1 in
       let same = sym (section_is all.0) ∙ ap section_in (sym (word_is all.0 word words all.4)) ∙ of.first in
-      of.takes all.0 words same all.4;
+      (data_octets all.0, of.takes all.0 words same all.4);
 }
 
 front_empty : (xs ys : List ℕ) → xs ++ ys ≡ [] → xs ≡ []
@@ -354,37 +355,35 @@ other_fault from text number less some none =
       ends = λ over. absurd (some (split.2.whole ∙ over));
     }
 
-none_case : (from to section : ℕ) (text ahead : List ℕ) → NoneFrom from section text
-    → ((entry : Entry) → section_of entry ≡ section → IsNoneOf (word_of entry) ahead) → (entry : Entry) (is : Bool)
-    → nat_eq (section_of entry) section ≡ is → from ≤ section_of entry → section_of entry < section + 1
-    → ahead ≡ text → IsNoneOf (word_of entry) ahead
-none_case from to section text ahead none here entry true is after before same =
+none_case : (from section : ℕ) (word text : List ℕ) → word ≡ word_in section → NoneFrom from section text
+    → IsNoneOf word text → (entry : Entry) (is : Bool) → nat_eq (section_of entry) section ≡ is
+    → from ≤ section_of entry → section_of entry < section + 1 → IsNoneOf (word_of entry) text
+none_case from section word text same none here entry true is after before =
     let at : section_of entry ≡ section = grind (arith, nat_tests) in
-    here entry at
-none_case from to section text ahead none here entry false is after before same =
+    subst (λ w. IsNoneOf w text) (same ∙ ap word_in (sym at) ∙ sym (in_section entry)) here
+none_case from section word text same none here entry false is after before =
     let other : ¬ (section_of entry ≡ section) = grind (arith, nat_tests) in
-    subst (IsNoneOf (word_of entry)) (sym same) (none entry after (omega (arith, other, before)))
+    none entry after (omega (arith, other, before))
 
-pub here_none : (section : ℕ) (word text : List ℕ) → word ≡ word_in section → IsNoneOf word text → (entry : Entry)
-    → section_of entry ≡ section → IsNoneOf (word_of entry) text
-here_none section word text is none entry here =
-    subst (λ w. IsNoneOf w text) (is ∙ ap word_in (sym here) ∙ sym (in_section entry)) none
+-- where a section is over, none of its lines is next either
+pub none_step : (from section : ℕ) (word text : List ℕ) → word ≡ word_in section → NoneFrom from section text
+    → IsNoneOf word text → NoneFrom from (section + 1) text
+none_step from section word text same none here entry =
+    none_case from section word text same none here entry (nat_eq (section_of entry) section) refl
 
--- past the lines of a section, it is over too
-pub none_step : (from to section : ℕ) (word text ahead : List ℕ) → word ≡ word_in section → NoneFrom from section text
-    → IsNoneOf word ahead → IsReached to from section text ahead → NoneFrom to (section + 1) ahead
-none_step from to section word text ahead is none none_here (inl same) entry after before =
-    here_none section word ahead is none_here entry (omega (arith, same, after, before))
-none_step from to section word text ahead is none none_here (inr same) entry after before =
+-- past lines of a section, those of earlier ones are over
+pub none_past : (to from section : ℕ) (text ahead : List ℕ) → IsReached to from section text ahead
+    → NoneFrom from section text → NoneFrom to section ahead
+none_past to from section text ahead (inl same) none entry after before = absurd (omega (arith, same, after, before))
+none_past to from section text ahead (inr same) none entry after before =
     let first = same.0 in
-    none_case from to section text ahead none (here_none section word ahead is none_here) entry
-    (nat_eq (section_of entry) section) refl (omega (arith, first, after)) before same.1
+    subst (IsNoneOf (word_of entry)) (sym same.1) (none entry (omega (arith, first, after)) before)
 
 -- ---- the sections
 
 question_taken : (entry : Entry) (words : Line) → section_of entry ≡ 0 → IsEntryLine entry (codes "question" ∷ words)
-    → (octets : List ℕ) × IsAnyQuestion words octets
-question_taken (Entry.question q) words here is = ([], (q.labels, q.qclass, q.qtype, is.1))
+    → IsAnyQuestion words (data_octets entry)
+question_taken (Entry.question q) words here is = (q.labels, q.qclass, q.qtype, is.1)
 question_taken entry words here is = absurd (omega (arith, here))
 
 pub of_questions : IsSection 0 (codes "question") IsAnyQuestion
@@ -397,8 +396,8 @@ of_questions = record {
 }
 
 answer_taken : (entry : Entry) (words : Line) → section_of entry ≡ 1 → IsEntryLine entry (codes "answer" ∷ words)
-    → (octets : List ℕ) × IsAnyRecord None words octets
-answer_taken (Entry.answer said) words here is = (said.octets, (said.head, is.1))
+    → IsAnyRecord None words (data_octets entry)
+answer_taken (Entry.answer said) words here is = (said.head, is.1)
 answer_taken entry words here is = absurd (omega (arith, here))
 
 pub of_answers : IsSection 1 (codes "answer") (IsAnyRecord None)
@@ -410,8 +409,8 @@ of_answers = record {
 }
 
 authority_taken : (entry : Entry) (words : Line) → section_of entry ≡ 2
-    → IsEntryLine entry (codes "authority" ∷ words) → (octets : List ℕ) × IsAnyRecord None words octets
-authority_taken (Entry.authority said) words here is = (said.octets, (said.head, is.1))
+    → IsEntryLine entry (codes "authority" ∷ words) → IsAnyRecord None words (data_octets entry)
+authority_taken (Entry.authority said) words here is = (said.head, is.1)
 authority_taken entry words here is = absurd (omega (arith, here))
 
 pub of_authorities : IsSection 2 (codes "authority") (IsAnyRecord None)
@@ -423,8 +422,8 @@ of_authorities = record {
 }
 
 additional_taken : (entry : Entry) (words : Line) → section_of entry ≡ 3
-    → IsEntryLine entry (codes "additional" ∷ words) → (octets : List ℕ) × IsAnyRecord None words octets
-additional_taken (Entry.additional said) words here is = (said.octets, (said.head, is.1))
+    → IsEntryLine entry (codes "additional" ∷ words) → IsAnyRecord None words (data_octets entry)
+additional_taken (Entry.additional said) words here is = (said.head, is.1)
 additional_taken entry words here is = absurd (omega (arith, here))
 
 pub of_additionals : IsSection 3 (codes "additional") (IsAnyRecord None)
@@ -434,19 +433,3 @@ of_additionals = record {
   makes = λ words octets is. (Entry.additional (record { head = is.0; octets = octets }), refl, (refl, is.1));
   takes = additional_taken;
 }
-
--- ---- where reading stops
-
-pub stop_fault : {A : Type 0} (make : A → Entry) (IsText : A → Line → Type 0) (section from : ℕ) (word : List ℕ)
-    (Texts : Line → List ℕ → Type 0) (text : List ℕ) (first number offset : ℕ) → SaysAs make IsText section
-    → IsSection section word Texts → from ≤ section → IsStop IsText word Texts text first number offset
-    → IsLineFault (AnyEntries from) text first number offset
-stop_fault make IsText section from word Texts text first number offset says of less stop =
-    let read = stop.read in
-    let past =
-    past_section make IsText section from stop.values read.lines text stop.ahead says less read.begins read.are in
-    led_line_fault (AnyEntries from) (AnyEntries past.to) read.lines past.leads text stop.ahead first stop.now number
-    offset read.begins read.place
-    (subst (λ n. IsLineFault (AnyEntries past.to) stop.ahead stop.now n offset) (sym stop.at)
-    (entry_fault section past.to word Texts stop.ahead stop.now offset of
-    (reached_most past.to from section text stop.ahead less past.reached) stop.fault))
