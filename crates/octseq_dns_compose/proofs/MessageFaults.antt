@@ -152,7 +152,7 @@ no_entry (Entry.answer said) is = is
 no_entry (Entry.authority said) is = is
 no_entry (Entry.additional said) is = is
 
-same_section : (entry other : Entry) (words : Line) → IsEntryLine entry words → IsEntryLine other words
+pub same_section : (entry other : Entry) (words : Line) → IsEntryLine entry words → IsEntryLine other words
     → section_of entry ≡ section_of other
 same_section entry other [] is also = absurd (no_entry entry is)
 same_section entry other (word ∷ words) is also =

@@ -19,17 +19,7 @@ use Rattle.octseq_dns_compose.proofs.LineFaults.{Line, lines_more}
 
 bare_rtype : (p : ParsedRdata) → rtype_of (bare_rdata p) ≡ read.rtype_of p
 bare_rtype (ParsedRdata.a octets) = refl
-bare_rtype (ParsedRdata.aaaa octets) = refl
-bare_rtype (ParsedRdata.ns name) = refl
-bare_rtype (ParsedRdata.cname name) = refl
-bare_rtype (ParsedRdata.ptr name) = refl
-bare_rtype (ParsedRdata.mx it) = refl
-bare_rtype (ParsedRdata.soa it) = refl
-bare_rtype (ParsedRdata.txt strings) = refl
-bare_rtype (ParsedRdata.srv it) = refl
-bare_rtype (ParsedRdata.naptr it) = refl
-bare_rtype (ParsedRdata.local k found) = refl
-bare_rtype (ParsedRdata.unknown rtype octets) = refl
+bare_rtype p = refl
 
 pub record_said : (said : Said) (labels : List (List ℕ)) (p : ParsedRdata) → labels ≡ said.head.labels
     → read.rtype_of p ≡ said.head.rtype

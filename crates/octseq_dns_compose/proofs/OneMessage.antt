@@ -1,8 +1,7 @@
 -- A text is of one message.
-use Rattle.std.proofs.Common.{◌≡◌, ◌⊎◌, ℕ, Bool, true, false, not, ◌&&◌, None, List, [], ◌∷◌, ◌++◌, length, codes}
-use Rattle.std.proofs.Common.{refl, sym, ap, ◌∙◌, subst, inl, inr}
+use Rattle.std.proofs.Common.{◌≡◌, ◌⊎◌, ℕ, Bool, true, false, ◌&&◌, None, List, [], ◌∷◌, ◌++◌, length}
+use Rattle.std.proofs.Common.{refl, sym, ap, ◌∙◌, subst, inl, inr, arith}
 use Rattle.std.proofs.lemmas.Bool.{and_parts}
-use Rattle.std.specs.Prelude.{bytes_eq}
 use Rattle.octseq.specs.Window.{whole}
 use Rattle.octseq_dns.specs.Contents.{Message, Question, Record}
 use Rattle.octseq_dns.specs.Rdata.{bare_rdata, rdata_fields}
@@ -23,8 +22,9 @@ use Rattle.octseq_dns_compose.specs.RecordText.{IsClassWord, IsNameWord, IsRecor
 use Rattle.octseq_dns_compose.specs.RecordText.{TtlAndClass}
 use Rattle.octseq_dns_compose.specs.Take.{IsUpTo, Then}
 use Rattle.octseq_dns_compose.specs.TextLines.{AreLines}
-use Rattle.octseq_dns_compose.proofs.Flags.{is_apart, not_picked, not_same}
+use Rattle.octseq_dns_compose.proofs.Flags.{is_apart, not_picked}
 use Rattle.octseq_dns_compose.proofs.LineFaults.{Line, line_once, some_line}
+use Rattle.octseq_dns_compose.proofs.MessageFaults.{no_entry, same_section}
 use Rattle.octseq_dns_compose.proofs.Named.{no_number}
 use Rattle.octseq_dns_compose.proofs.Samples.{one_class, one_rtype}
 
@@ -202,15 +202,9 @@ record_once said other (owner ∷ words) one two =
 
 -- ---- entries
 
-apart : {A : Type 0} (a b word : List ℕ) → not (bytes_eq a b) ≡ true → word ≡ a → word ≡ b → A
-apart a b word other one two = absurd (not_same a b other (sym one ∙ two))
-
 pub entry_once : (entry other : Entry) (words : Line) → IsEntryLine entry words → IsEntryLine other words
     → entry ≡ other
-entry_once (Entry.question q) other [] one two = absurd one
-entry_once (Entry.answer said) other [] one two = absurd one
-entry_once (Entry.authority said) other [] one two = absurd one
-entry_once (Entry.additional said) other [] one two = absurd one
+entry_once entry other [] one two = absurd (no_entry entry one)
 entry_once (Entry.question q) (Entry.question p) (word ∷ words) one two =
     ap Entry.question (question_once q p words one.1 two.1)
 entry_once (Entry.answer said) (Entry.answer other) (word ∷ words) one two =
@@ -219,30 +213,9 @@ entry_once (Entry.authority said) (Entry.authority other) (word ∷ words) one t
     ap Entry.authority (record_once said other words one.1 two.1)
 entry_once (Entry.additional said) (Entry.additional other) (word ∷ words) one two =
     ap Entry.additional (record_once said other words one.1 two.1)
-entry_once (Entry.question a) (Entry.answer b) (word ∷ words) one two =
-    apart (codes "question") (codes "answer") word refl one.0 two.0
-entry_once (Entry.question a) (Entry.authority b) (word ∷ words) one two =
-    apart (codes "question") (codes "authority") word refl one.0 two.0
-entry_once (Entry.question a) (Entry.additional b) (word ∷ words) one two =
-    apart (codes "question") (codes "additional") word refl one.0 two.0
-entry_once (Entry.answer a) (Entry.question b) (word ∷ words) one two =
-    apart (codes "answer") (codes "question") word refl one.0 two.0
-entry_once (Entry.answer a) (Entry.authority b) (word ∷ words) one two =
-    apart (codes "answer") (codes "authority") word refl one.0 two.0
-entry_once (Entry.answer a) (Entry.additional b) (word ∷ words) one two =
-    apart (codes "answer") (codes "additional") word refl one.0 two.0
-entry_once (Entry.authority a) (Entry.question b) (word ∷ words) one two =
-    apart (codes "authority") (codes "question") word refl one.0 two.0
-entry_once (Entry.authority a) (Entry.answer b) (word ∷ words) one two =
-    apart (codes "authority") (codes "answer") word refl one.0 two.0
-entry_once (Entry.authority a) (Entry.additional b) (word ∷ words) one two =
-    apart (codes "authority") (codes "additional") word refl one.0 two.0
-entry_once (Entry.additional a) (Entry.question b) (word ∷ words) one two =
-    apart (codes "additional") (codes "question") word refl one.0 two.0
-entry_once (Entry.additional a) (Entry.answer b) (word ∷ words) one two =
-    apart (codes "additional") (codes "answer") word refl one.0 two.0
-entry_once (Entry.additional a) (Entry.authority b) (word ∷ words) one two =
-    apart (codes "additional") (codes "authority") word refl one.0 two.0
+entry_once entry other (word ∷ words) one two =
+    let same = same_section entry other (word ∷ words) one two in
+    absurd (omega (arith, same))
 
 entries_once : (from : ℕ) (entries others : List Entry) (lines : List Line) → AreEntries from entries lines
     → AreEntries from others lines → entries ≡ others

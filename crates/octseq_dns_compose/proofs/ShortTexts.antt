@@ -1,5 +1,5 @@
 -- A text of which each line was taken isn't too long.
-use Rattle.std.proofs.Common.{◌≡◌, ◌⊎◌, ℕ, ◌+◌, ◌<◌, ◌≤◌, Option, Some, None, List, [], ◌∷◌, ◌++◌, length, append-nil}
+use Rattle.std.proofs.Common.{◌≡◌, ◌⊎◌, ℕ, ◌<◌, ◌≤◌, Option, Some, None, List, [], ◌∷◌, ◌++◌, length, append-nil}
 use Rattle.std.proofs.Common.{append_assoc, refl, sym, ap, ◌∙◌, subst, inl, inr, arith}
 use Rattle.std.specs.List.{AllByRecursion}
 use Rattle.octseq.specs.Limit.{IsPast}
@@ -293,9 +293,7 @@ short_line fault short entry words here are is late = short (record {
 
 pub no_question_data : (entry : Entry) → section_of entry ≡ 0 → ¬ (65535 < length (data_octets entry))
 no_question_data (Entry.question q) here late = omega (arith, late)
-no_question_data (Entry.answer said) here late = absurd (omega (arith, here))
-no_question_data (Entry.authority said) here late = absurd (omega (arith, here))
-no_question_data (Entry.additional said) here late = absurd (omega (arith, here))
+no_question_data entry here late = absurd (omega (arith, here))
 
 -- where a record is refused
 pub record_refused : {make : Said → Entry} {section : ℕ} {word : List ℕ} {more : Message → Record → Message}
