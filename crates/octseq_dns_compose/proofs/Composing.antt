@@ -23,7 +23,7 @@ use Rattle.octseq_dns_compose.specs.TooLong.{BeginsWithEntries, Exceeds, HasList
 use Rattle.octseq_dns_compose.specs.TooLong.{IsRecordWord, IsTooLong, data_octets}
 use Rattle.octseq_dns_compose.proofs.LineFaults.{LeadsLines, Line, led_line_fault, lines_end, lines_more}
 use Rattle.octseq_dns_compose.proofs.MessageFaults.{AnyEntries, IsSection, NoneFrom, SaysAs, after_header, entry_fault}
-use Rattle.octseq_dns_compose.proofs.MessageFaults.{of_additionals, of_answers, of_authorities, of_questions}
+use Rattle.octseq_dns_compose.proofs.MessageFaults.{of_questions, of_records}
 use Rattle.octseq_dns_compose.proofs.MessageFaults.{none_past, none_step, other_fault, past_section, reached_most}
 use Rattle.octseq_dns_compose.proofs.Overrun.{counts_most, header_past, past_limit}
 
@@ -77,8 +77,6 @@ pub section_entries : {A : Type 0} (make : A → Entry) (IsText : A → Line →
     (lines : List Line) → SaysAs make IsText section → from ≤ section → AllZip IsText values lines
     → AreEntries from (map make values) lines
 section_entries make IsText section from [] [] says less all = refl
-section_entries make IsText section from [] (words ∷ lines) says less all = absurd all
-section_entries make IsText section from (a ∷ values) [] says less all = absurd all
 section_entries make IsText section from (a ∷ values) (words ∷ lines) says less all =
     let here = says.of a in (
       make a,
@@ -88,6 +86,7 @@ section_entries make IsText section from (a ∷ values) (words ∷ lines) says l
       says.is a words all.0,
       section_entries make IsText section (section_of (make a)) values lines says (omega (arith, here)) all.1,
     )
+section_entries make IsText section from values lines says less all = absurd all
 
 pub section_up_to : {A : Type 0} (make : A → Entry) (section : ℕ) (values : List A)
     → ((a : A) → section_of (make a) ≡ section) → UpTo section (map make values)
@@ -291,8 +290,8 @@ abbrev pub PushesRecords : (Said → Entry) → (Message → Record → Message)
 PushesRecords make more count section word =
     Pushes make (IsRecordLine word) (IsSmallRecord (Some 65535)) more count section word (IsAnyRecord None)
 
-pub questions : Pushes Entry.question IsQuestionLine IsAsked more_questions (λ counts. counts.qdcount) 0 (codes "question")
-    IsAnyQuestion
+pub questions : Pushes Entry.question IsQuestionLine IsAsked more_questions (λ counts. counts.qdcount) 0
+    (codes "question") IsAnyQuestion
 questions = record {
   sect = record { says = record { of = λ q. refl; is = λ q words is. is }; of = of_questions; few = omega arith };
   adds = λ m q asked is. ap (more_questions m) is;
@@ -302,7 +301,10 @@ questions = record {
 
 pub answers : PushesRecords Entry.answer more_answers (λ counts. counts.ancount) 1 (codes "answer")
 answers = record {
-  sect = record { says = record { of = λ said. refl; is = λ said words is. is }; of = of_answers; few = omega arith };
+  sect =
+      let says : SaysAs Entry.answer (IsRecordLine (codes "answer")) 1 =
+      record { of = λ said. refl; is = λ said words is. is } in
+      record { says = says; of = of_records Entry.answer 1 _ says refl refl (omega arith); few = omega arith };
   adds = λ m said r is. (r, is.0, refl);
   small = λ said r is. is.1;
   counted = λ m. (counts_most m).1;
@@ -310,7 +312,10 @@ answers = record {
 
 pub authorities : PushesRecords Entry.authority more_authorities (λ counts. counts.nscount) 2 (codes "authority")
 authorities = record {
-  sect = record { says = record { of = λ said. refl; is = λ said words is. is }; of = of_authorities; few = omega arith };
+  sect =
+      let says : SaysAs Entry.authority (IsRecordLine (codes "authority")) 2 =
+      record { of = λ said. refl; is = λ said words is. is } in
+      record { says = says; of = of_records Entry.authority 2 _ says refl refl (omega arith); few = omega arith };
   adds = λ m said r is. (r, is.0, refl);
   small = λ said r is. is.1;
   counted = λ m. (counts_most m).2;
@@ -318,7 +323,10 @@ authorities = record {
 
 pub additionals : PushesRecords Entry.additional more_additionals (λ counts. counts.arcount) 3 (codes "additional")
 additionals = record {
-  sect = record { says = record { of = λ said. refl; is = λ said words is. is }; of = of_additionals; few = omega arith };
+  sect =
+      let says : SaysAs Entry.additional (IsRecordLine (codes "additional")) 3 =
+      record { of = λ said. refl; is = λ said words is. is } in
+      record { says = says; of = of_records Entry.additional 3 _ says refl refl (omega arith); few = omega arith };
   adds = λ m said r is. (r, is.0, refl);
   small = λ said r is. is.1;
   counted = λ m. (counts_most m).3;
@@ -328,10 +336,9 @@ pub with_values : {A R : Type 0} (make : A → Entry) (Is : A → R → Type 0) 
     → ((m : Message) (a : A) (r : R) → Is a r → IsWith m (make a) (more m r)) → (m : Message) (values : List A)
     (all : List R) → AllZip Is values all → IsWithAll m (map make values) (all_more more m all)
 with_values make Is more adds m [] [] are = refl
-with_values make Is more adds m [] (r ∷ all) are = absurd are
-with_values make Is more adds m (a ∷ values) [] are = absurd are
 with_values make Is more adds m (a ∷ values) (r ∷ all) are =
     (more m r, adds m a r are.0, with_values make Is more adds (more m r) values all are.1)
+with_values make Is more adds m values all are = absurd are
 
 all_small : {A R : Type 0} (make : A → Entry) (Is : A → R → Type 0) → ((a : A) (r : R) → Is a r → IsSmall (make a))
     → (values : List A) (all : List R) → AllZip Is values all → AllByRecursion IsSmall (map make values)

@@ -5,13 +5,13 @@ use Rattle.std.proofs.Common.{append_assoc}
 use Rattle.std.proofs.lemmas.List.{length-append, append-nil}
 use Rattle.octseq_dns_scan.specs.Word.{AreWords, TakesWord}
 use Rattle.octseq_dns_scan.proofs.Taken.{words_once}
-use Rattle.octseq_dns_text.specs.Scans.{IsFault}
+use Rattle.octseq_dns_text.specs.Scans.{BeginsWithWords, IsFault}
 use Rattle.octseq_dns_compose.specs.TextLines.{IsLine, EndsLine, TakesLine, AreLines, BeginsWithLines, Splits}
 use Rattle.octseq_dns_compose.specs.TextLines.{IsNextLine}
 use Rattle.octseq_dns_compose.specs.RecordText.{BeginsWithList}
 use Rattle.octseq_dns_compose.specs.TextLines.{IsUnended, IsLineFault, IsFaultyLine, IsNoneOf}
 use Rattle.octseq_dns_compose.specs.TooLong.{IsListLine}
-use Rattle.octseq_dns_compose.proofs.Faults.{Leads, led_fault, no_text}
+use Rattle.octseq_dns_compose.proofs.Faults.{Leads, are_more, led_fault, no_text}
 
 abbrev pub Line : Type 0
 Line = List (List ℕ)
@@ -78,6 +78,27 @@ lines_after (words ∷ front) (other ∷ lines) text rest begins are =
 
 -- ---- texts after lines
 
+-- a fault in a line, or only the lack of its line feed
+abbrev pub Broken : (Line → List ℕ → Type 0) → (text after : List ℕ) (start offset : ℕ) → Type 0
+Broken Is text after start offset = IsFault Is text start offset ⊎ IsUnended Is text after start offset
+
+pub led_broken : (Is Rest : Line → List ℕ → Type 0) (front : Line) → Leads Is Rest front
+    → (text ahead after : List ℕ) (start next offset : ℕ) → BeginsWithWords front text ahead
+    → next + length ahead ≡ start + length text → Broken Rest ahead after next offset
+    → Broken Is text after start offset
+led_broken Is Rest front leads text ahead after start next offset begins place (inl fault) =
+    inl (led_fault Is Rest front leads text ahead start next offset begins place fault)
+led_broken Is Rest front leads text ahead after start next offset begins place (inr fault) =
+    let all = leads.into fault.words fault.octets fault.is in
+    inr (record {
+      words = front ++ fault.words;
+      octets = all.0;
+      are = are_more front fault.words text ahead begins fault.are;
+      is = all.1;
+      ends = fault.ends;
+      place = fault.place ∙ place;
+    })
+
 -- After lines at its front, a text of one kind is a text of another.
 pub record LeadsLines (Is Rest : List Line → Type 0) (front : List Line) : Type 0 where
   pub into : (lines : List Line) → Rest lines → Is (front ++ lines)
@@ -91,29 +112,6 @@ next_leads Is Rest front more leads = record {
   out = λ words octets next.
       ([], (next.0, leads.out _ (subst Is (append_assoc front more (words ∷ next.0)) next.1)));
 }
-
-led_unended : (Is Rest : List Line → Type 0) (front more : List Line) → LeadsLines Is Rest front
-    → (line after : List ℕ) (offset : ℕ) → IsUnended (IsNextLine Rest more) line after 0 offset
-    → IsUnended (IsNextLine Is (front ++ more)) line after 0 offset
-led_unended Is Rest front more leads line after offset fault = record {
-  words = fault.words;
-  octets = fault.octets;
-  are = fault.are;
-  is = (fault.is.0, subst Is (sym (append_assoc front more (fault.words ∷ fault.is.0))) (leads.into _ fault.is.1));
-  ends = fault.ends;
-  place = fault.place;
-}
-
-led_either : (Is Rest : List Line → Type 0) (front more : List Line) → LeadsLines Is Rest front
-    → (line after : List ℕ) (offset : ℕ)
-    → IsFault (IsNextLine Rest more) line 0 offset ⊎ IsUnended (IsNextLine Rest more) line after 0 offset
-    → IsFault (IsNextLine Is (front ++ more)) line 0 offset
-    ⊎ IsUnended (IsNextLine Is (front ++ more)) line after 0 offset
-led_either Is Rest front more leads line after offset (inl fault) =
-    inl (led_fault (IsNextLine Is (front ++ more)) (IsNextLine Rest more) [] (next_leads Is Rest front more leads)
-    line line 0 0 offset refl refl fault)
-led_either Is Rest front more leads line after offset (inr fault) =
-    inr (led_unended Is Rest front more leads line after offset fault)
 
 pub led_line_fault : (Is Rest : List Line → Type 0) (front : List Line) → LeadsLines Is Rest front
     → (text ahead : List ℕ) (first next number offset : ℕ) → BeginsWithLines front text ahead
@@ -130,29 +128,26 @@ led_line_fault Is Rest front leads text ahead first next number offset begins pl
       let size = length-append front fault.front in
       let here = fault.place in
       omega (arith, size, here, place);
-  fault = led_either Is Rest front fault.front leads fault.line fault.after offset fault.fault;
+  fault = led_broken (IsNextLine Is (front ++ fault.front)) (IsNextLine Rest fault.front) []
+      (next_leads Is Rest front fault.front leads) fault.line fault.line fault.after 0 0 offset refl refl fault.fault;
   ends = λ over is. fault.ends over (leads.out fault.front is);
 }
 
 -- where a fault is, no text goes on with a line
 pub no_next : (Is : List Line → Type 0) (front others : List Line) (words : Line) (line after rest : List ℕ)
     (offset : ℕ) → IsLine line → EndsLine after
-    → IsFault (IsNextLine Is front) line 0 offset ⊎ IsUnended (IsNextLine Is front) line after 0 offset
-    → TakesLine words (line ++ after) rest → ¬ Is (front ++ words ∷ others)
+    → Broken (IsNextLine Is front) line after 0 offset → TakesLine words (line ++ after) rest → ¬ Is (front ++ words ∷ others)
 no_next Is front others words line after rest offset is ends fault takes whole =
     let both = line_same takes.0 line rest after takes.2 is ends (sym takes.1) in
     none fault both.1 (subst (AreWords words) both.0 takes.3)
   where
-    none : IsFault (IsNextLine Is front) line 0 offset ⊎ IsUnended (IsNextLine Is front) line after 0 offset
-        → after ≡ 10 ∷ rest → AreWords words line → ⊥
+    none : Broken (IsNextLine Is front) line after 0 offset → after ≡ 10 ∷ rest → AreWords words line → ⊥
     none (inl fault) feed are = no_text (IsNextLine Is front) line 0 offset fault words [] are (others, whole)
     none (inr fault) feed are = let over = fault.ends in absurd (cc (feed, over))
 
 -- so there is no text
 not_next : (Is : List Line → Type 0) (front others : List Line) (line after : List ℕ) (offset : ℕ) → IsLine line
-    → EndsLine after
-    → IsFault (IsNextLine Is front) line 0 offset ⊎ IsUnended (IsNextLine Is front) line after 0 offset
-    → (line ++ after ≡ [] → ¬ Is front) → AreLines others (line ++ after) → ¬ Is (front ++ others)
+    → EndsLine after → Broken (IsNextLine Is front) line after 0 offset → (line ++ after ≡ [] → ¬ Is front) → AreLines others (line ++ after) → ¬ Is (front ++ others)
 not_next Is front [] line after offset is ends fault over are whole =
     over are (subst Is (append-nil front) whole)
 not_next Is front (words ∷ others) line after offset is ends fault over are whole =

@@ -69,7 +69,8 @@ no_long_fault first Is limit text line after rest start offset split taken fault
     let same =
     splits_same long.line line long.after after long.split.is_line split.is_line long.split.ends split.ends
     (sym long.split.whole ∙ split.whole) in
-    let one = word_once first first line long.rest rest (subst (λ l. TakesWord first l long.rest) same.0 long.taken) taken
+    let one =
+    word_once first first line long.rest rest (subst (λ l. TakesWord first l long.rest) same.0 long.taken) taken
     in
     no_text Is rest start offset fault long.words long.octets (subst (AreWords long.words) one.1 long.are) long.is
 
@@ -81,7 +82,8 @@ no_long_read first Is limit text line after rest words split taken are small lon
     let same =
     splits_same long.line line long.after after long.split.is_line split.is_line long.split.ends split.ends
     (sym long.split.whole ∙ split.whole) in
-    let one = word_once first first line long.rest rest (subst (λ l. TakesWord first l long.rest) same.0 long.taken) taken
+    let one =
+    word_once first first line long.rest rest (subst (λ l. TakesWord first l long.rest) same.0 long.taken) taken
     in
     let both = words_once long.words words rest (subst (AreWords long.words) one.1 long.are) are in
     not_past limit (length long.octets) (small long.octets (subst (λ ws. Is ws long.octets) both long.is)) long.past

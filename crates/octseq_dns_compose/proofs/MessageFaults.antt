@@ -5,29 +5,29 @@ use Rattle.std.proofs.Common.{codes, refl, sym, ap, ◌∙◌, subst, inl, inr, 
 use Rattle.std.proofs.lemmas.Bool.Decides.{nat_tests}
 use Rattle.std.specs.List.{AllZip}
 use Rattle.octseq_dns_scan.specs.Word.{TakesWord}
-use Rattle.octseq_dns_text.specs.Scans.{IsFault}
+use Rattle.octseq_dns_text.specs.Scans.{BeginsWithWords}
 use Rattle.octseq_dns_message.specs.declared.header.Header.{Header}
 use Rattle.octseq_dns_compose.specs.HeaderLine.{IsHeaderLine}
 use Rattle.octseq_dns_compose.specs.MessageText.{AreEntries, Entry, IsAnyText, IsEntryLine}
-use Rattle.octseq_dns_compose.specs.MessageText.{section_of}
+use Rattle.octseq_dns_compose.specs.MessageText.{IsRecordLine, Said, section_of}
 use Rattle.octseq_dns_compose.specs.QuestionText.{IsAnyQuestion}
 use Rattle.octseq_dns_compose.specs.RecordText.{IsAnyRecord}
 use Rattle.octseq_dns_compose.specs.TextLines.{BeginsWithLines, IsFaultyHeader, IsFaultyLine, IsLineFault, IsNextLine}
-use Rattle.octseq_dns_compose.specs.TextLines.{IsNoneOf, IsUnended, Splits}
+use Rattle.octseq_dns_compose.specs.TextLines.{IsNoneOf, Splits}
 use Rattle.octseq_dns_compose.specs.TooLong.{data_octets}
-use Rattle.octseq_dns_compose.proofs.Faults.{Leads, first_fault, led_fault, some_word}
+use Rattle.octseq_dns_compose.proofs.Faults.{Leads, first_fault, some_word}
 use Rattle.octseq_dns_compose.proofs.HeaderLines.{HeaderTexts}
-use Rattle.octseq_dns_compose.proofs.LineFaults.{LeadsLines, Line}
+use Rattle.octseq_dns_compose.proofs.LineFaults.{Broken, LeadsLines, Line, led_broken}
 use Rattle.octseq_dns_compose.proofs.Records.{record_goes}
 
 -- ---- the first line of a text
 
--- a line of a kind, where texts of another kind are all that follows
-line_fault : (Is : List Line → Type 0) (Texts : Line → List ℕ → Type 0) (text line after : List ℕ)
-    (number offset : ℕ) → Leads (IsNextLine Is []) Texts [] → Splits text line after
-    → IsFault Texts line 0 offset ⊎ IsUnended Texts line after 0 offset → (line ++ after ≡ [] → ¬ Is [])
-    → IsLineFault Is text number number offset
-line_fault Is Texts text line after number offset leads split either ends = record {
+-- a line of a kind, where texts of another kind are all that follows its first words
+line_fault : (Is : List Line → Type 0) (Texts : Line → List ℕ → Type 0) (front : Line) (text line after rest : List ℕ)
+    (number start offset : ℕ) → Leads (IsNextLine Is []) Texts front → Splits text line after
+    → BeginsWithWords front line rest → start + length rest ≡ length line → Broken Texts rest after start offset
+    → (line ++ after ≡ [] → ¬ Is []) → IsLineFault Is text number number offset
+line_fault Is Texts front text line after rest number start offset leads split begins place fault ends = record {
   front = [];
   line = line;
   after = after;
@@ -35,23 +35,10 @@ line_fault Is Texts text line after number offset leads split either ends = reco
   is_line = split.is_line;
   ended = split.ends;
   place = omega arith;
-  fault = next either;
+  fault = led_broken (IsNextLine Is []) Texts front leads line rest after 0 start offset begins (omega (arith, place))
+      fault;
   ends = ends;
 }
-  where
-    next : IsFault Texts line 0 offset ⊎ IsUnended Texts line after 0 offset
-        → IsFault (IsNextLine Is []) line 0 offset ⊎ IsUnended (IsNextLine Is []) line after 0 offset
-    next (inl fault) = inl (led_fault (IsNextLine Is []) Texts [] leads line line 0 0 offset refl refl fault)
-    next (inr fault) =
-        let one = leads.into fault.words fault.octets fault.is in
-        inr (record {
-          words = fault.words;
-          octets = one.0;
-          are = fault.are;
-          is = one.1;
-          ends = fault.ends;
-          place = fault.place;
-        })
 
 -- ---- the header
 
@@ -85,8 +72,8 @@ no_lines_at_all (header, entries, say) = absurd (cc (say.lines_are))
 
 pub header_fault : (text : List ℕ) (offset : ℕ) → IsFaultyHeader text offset → IsLineFault IsAnyText text 1 1 offset
 header_fault text offset fault =
-    line_fault IsAnyText HeaderTexts text fault.line fault.after 1 offset header_next fault.split fault.fault
-    (λ over. no_lines_at_all)
+    line_fault IsAnyText HeaderTexts [] text fault.line fault.after fault.line 1 0 offset header_next fault.split refl
+    (omega arith) fault.fault (λ over. no_lines_at_all)
 
 -- ---- entries
 
@@ -130,27 +117,19 @@ word_in section = cond (nat_eq section 0) (codes "question") (cond (nat_eq secti
 
 in_section : (entry : Entry) → word_of entry ≡ word_in (section_of entry)
 in_section (Entry.question q) = refl
-in_section (Entry.answer said) = refl
-in_section (Entry.authority said) = refl
-in_section (Entry.additional said) = refl
+in_section entry = refl
 
 pub word_is : (entry : Entry) (word : List ℕ) (words : Line) → IsEntryLine entry (word ∷ words) → word ≡ word_of entry
 word_is (Entry.question q) word words is = is.0
-word_is (Entry.answer said) word words is = is.0
-word_is (Entry.authority said) word words is = is.0
-word_is (Entry.additional said) word words is = is.0
+word_is entry word words is = is.0
 
 pub section_is : (entry : Entry) → section_in (word_of entry) ≡ section_of entry
 section_is (Entry.question q) = refl
-section_is (Entry.answer said) = refl
-section_is (Entry.authority said) = refl
-section_is (Entry.additional said) = refl
+section_is entry = refl
 
 pub no_entry : (entry : Entry) → ¬ IsEntryLine entry []
 no_entry (Entry.question q) is = is
-no_entry (Entry.answer said) is = is
-no_entry (Entry.authority said) is = is
-no_entry (Entry.additional said) is = is
+no_entry entry is = is
 
 pub same_section : (entry other : Entry) (words : Line) → IsEntryLine entry words → IsEntryLine other words
     → section_of entry ≡ section_of other
@@ -190,8 +169,6 @@ more_entries : {A : Type 0} (make : A → Entry) (IsText : A → Line → Type 0
     → AllZip IsText values lines → LeadsLines (AnyEntries from) (AnyEntries section) (words ∷ lines)
 more_entries make IsText section from value words [] [] of is less one all =
     one_entry (make value) words from section (is value words one) (of value) less
-more_entries make IsText section from value words [] (w ∷ lines) of is less one all = absurd all
-more_entries make IsText section from value words (v ∷ values) [] of is less one all = absurd all
 more_entries make IsText section from value words (v ∷ values) (w ∷ lines) of is less one all =
     let first = one_entry (make value) words from section (is value words one) (of value) less in
     let rest = more_entries make IsText section section v w values lines of is (omega arith) all.0 all.1 in
@@ -199,6 +176,7 @@ more_entries make IsText section from value words (v ∷ values) (w ∷ lines) o
       into = λ others entries. first.into (w ∷ (lines ++ others)) (rest.into others entries);
       out = λ others entries. rest.out others (first.out (w ∷ (lines ++ others)) entries);
     }
+more_entries make IsText section from value words values lines of is less one all = absurd all
 
 -- where the section of the last line is, past the lines of a section
 abbrev pub IsReached : (to from section : ℕ) (text ahead : List ℕ) → Type 0
@@ -223,13 +201,12 @@ past_section make IsText section from [] [] text ahead says less begins all = re
   reached = inr (refl, sym begins);
   leads = record { into = λ lines entries. entries; out = λ lines entries. entries };
 }
-past_section make IsText section from [] (w ∷ lines) text ahead says less begins all = absurd all
-past_section make IsText section from (v ∷ values) [] text ahead says less begins all = absurd all
 past_section make IsText section from (v ∷ values) (w ∷ lines) text ahead says less begins all = record {
   to = section;
   reached = inl refl;
   leads = more_entries make IsText section from v w values lines says.of says.is less all.0 all.1;
 }
+past_section make IsText section from values lines text ahead says less begins all = absurd all
 
 -- ---- a line of a section
 
@@ -259,43 +236,14 @@ front_empty : (xs ys : List ℕ) → xs ++ ys ≡ [] → xs ≡ []
 front_empty [] ys none = refl
 front_empty (x ∷ xs) ys none = absurd (cc)
 
-either_fault : (section from : ℕ) (word : List ℕ) (Texts : Line → List ℕ → Type 0) (offset : ℕ)
-    → IsSection section word Texts → from ≤ section → (line after rest : List ℕ) (start : ℕ)
-    → TakesWord word line rest → start + length rest ≡ length line
-    → IsFault Texts rest start offset ⊎ IsUnended Texts rest after start offset
-    → IsFault (IsNextLine (AnyEntries from) []) line 0 offset
-    ⊎ IsUnended (IsNextLine (AnyEntries from) []) line after 0 offset
-either_fault section from word Texts offset of less line after rest start taken place (inl fault) =
-    inl (led_fault (IsNextLine (AnyEntries from) []) Texts (word ∷ []) (section_next section from word Texts of less)
-    line rest 0 start offset (rest, taken, refl) (omega (arith, place)) fault)
-either_fault section from word Texts offset of less line after rest start taken place (inr fault) =
-    let next = (section_next section from word Texts of less).into fault.words fault.octets fault.is in
-    let here = fault.place in
-    inr (record {
-      words = word ∷ fault.words;
-      octets = next.0;
-      are = (rest, taken, fault.are);
-      is = next.1;
-      ends = fault.ends;
-      place = omega (arith, here, place);
-    })
-
 pub entry_fault : (section from : ℕ) (word : List ℕ) (Texts : Line → List ℕ → Type 0) (text : List ℕ)
     (number offset : ℕ) → IsSection section word Texts → from ≤ section → IsFaultyLine word Texts text offset
     → IsLineFault (AnyEntries from) text number number offset
-entry_fault section from word Texts text number offset of less faulty = record {
-  front = [];
-  line = faulty.line;
-  after = faulty.after;
-  begins = faulty.split.whole;
-  is_line = faulty.split.is_line;
-  ended = faulty.split.ends;
-  place = omega arith;
-  fault = either_fault section from word Texts offset of less faulty.line faulty.after faulty.rest faulty.start
-      faulty.taken faulty.place faulty.fault;
-  ends = λ over.
-      absurd (some_word word faulty.line faulty.rest faulty.taken (front_empty faulty.line faulty.after over));
-}
+entry_fault section from word Texts text number offset of less faulty =
+    line_fault (AnyEntries from) Texts (word ∷ []) text faulty.line faulty.after faulty.rest number faulty.start offset
+    (section_next section from word Texts of less) faulty.split (faulty.rest, faulty.taken, refl) faulty.place
+    faulty.fault (λ over. absurd (some_word word faulty.line faulty.rest faulty.taken
+    (front_empty faulty.line faulty.after over)))
 
 -- ---- a line of no section that may follow
 
@@ -326,9 +274,7 @@ NoneFrom from to text =
 
 pub below_four : (entry : Entry) → section_of entry < 4
 below_four (Entry.question q) = omega arith
-below_four (Entry.answer said) = omega arith
-below_four (Entry.authority said) = omega arith
-below_four (Entry.additional said) = omega arith
+below_four entry = omega arith
 
 pub other_fault : (from : ℕ) (text : List ℕ) (number : ℕ) → from ≤ 3 → ¬ (text ≡ []) → NoneFrom from 4 text
     → IsLineFault (AnyEntries from) text number number 0
@@ -395,41 +341,20 @@ of_questions = record {
   takes = question_taken;
 }
 
-answer_taken : (entry : Entry) (words : Line) → section_of entry ≡ 1 → IsEntryLine entry (codes "answer" ∷ words)
-    → IsAnyRecord None words (data_octets entry)
-answer_taken (Entry.answer said) words here is = (said.head, is.1)
-answer_taken entry words here is = absurd (omega (arith, here))
+record_taken : (entry : Entry) (word : List ℕ) (words : Line) → 1 ≤ section_of entry
+    → IsEntryLine entry (word ∷ words) → IsAnyRecord None words (data_octets entry)
+record_taken (Entry.question q) word words late is = absurd (omega (arith, late))
+record_taken (Entry.answer said) word words late is = (said.head, is.1)
+record_taken (Entry.authority said) word words late is = (said.head, is.1)
+record_taken (Entry.additional said) word words late is = (said.head, is.1)
 
-pub of_answers : IsSection 1 (codes "answer") (IsAnyRecord None)
-of_answers = record {
-  first = refl;
-  word_is = refl;
-  makes = λ words octets is. (Entry.answer (record { head = is.0; octets = octets }), refl, (refl, is.1));
-  takes = answer_taken;
-}
-
-authority_taken : (entry : Entry) (words : Line) → section_of entry ≡ 2
-    → IsEntryLine entry (codes "authority" ∷ words) → IsAnyRecord None words (data_octets entry)
-authority_taken (Entry.authority said) words here is = (said.head, is.1)
-authority_taken entry words here is = absurd (omega (arith, here))
-
-pub of_authorities : IsSection 2 (codes "authority") (IsAnyRecord None)
-of_authorities = record {
-  first = refl;
-  word_is = refl;
-  makes = λ words octets is. (Entry.authority (record { head = is.0; octets = octets }), refl, (refl, is.1));
-  takes = authority_taken;
-}
-
-additional_taken : (entry : Entry) (words : Line) → section_of entry ≡ 3
-    → IsEntryLine entry (codes "additional" ∷ words) → IsAnyRecord None words (data_octets entry)
-additional_taken (Entry.additional said) words here is = (said.head, is.1)
-additional_taken entry words here is = absurd (omega (arith, here))
-
-pub of_additionals : IsSection 3 (codes "additional") (IsAnyRecord None)
-of_additionals = record {
-  first = refl;
-  word_is = refl;
-  makes = λ words octets is. (Entry.additional (record { head = is.0; octets = octets }), refl, (refl, is.1));
-  takes = additional_taken;
+pub of_records : (make : Said → Entry) (section : ℕ) (word : List ℕ) → SaysAs make (IsRecordLine word) section
+    → section_in word ≡ section → word ≡ word_in section → 1 ≤ section → IsSection section word (IsAnyRecord None)
+of_records make section word says first is late = record {
+  first = first;
+  word_is = is;
+  makes = λ words octets found.
+      let said : Said = record { head = found.0; octets = octets } in
+      (make said, says.of said, says.is said (word ∷ words) (refl, found.1));
+  takes = λ entry words here. record_taken entry word words (omega (arith, late, here));
 }

@@ -50,9 +50,8 @@ record_said said labels p same kind says =
 pub zip_snoc : {A B : Type 0} (R : A → B → Type 0) (xs : List A) (ys : List B) (x : A) (y : B) → AllZip R xs ys → R x y
     → AllZip R (xs ++ x ∷ []) (ys ++ y ∷ [])
 zip_snoc R [] [] x y all one = (one, tt)
-zip_snoc R [] (b ∷ ys) x y all one = absurd all
-zip_snoc R (a ∷ xs) [] x y all one = absurd all
 zip_snoc R (a ∷ xs) (b ∷ ys) x y all one = (all.0, zip_snoc R xs ys x y all.1 one)
+zip_snoc R xs ys x y all one = absurd all
 
 more_snoc : {A : Type 0} (more : Message → A → Message) (m : Message) (xs : List A) (x : A)
     → all_more more m (xs ++ x ∷ []) ≡ more (all_more more m xs) x

@@ -65,10 +65,6 @@ picked_once : (names : List (List ℕ)) (picked others : List Bool) → are_apar
     → length picked ≡ length names → length others ≡ length names
     → picked_words names picked ≡ picked_words names others → picked ≡ others
 picked_once [] [] [] apart many too same = refl
-picked_once [] [] (b ∷ others) apart many too same = absurd (cc)
-picked_once [] (a ∷ picked) others apart many too same = absurd (cc)
-picked_once (name ∷ names) [] others apart many too same = absurd (cc)
-picked_once (name ∷ names) (a ∷ picked) [] apart many too same = absurd (cc)
 picked_once (name ∷ names) (true ∷ picked) (true ∷ others) apart many too same =
     let parts = and_parts (is_apart name names) (are_apart names) apart in
     let rest = picked_once names picked others parts.1 (cc) (cc) (cc) in
@@ -83,6 +79,7 @@ picked_once (name ∷ names) (true ∷ picked) (false ∷ others) apart many too
 picked_once (name ∷ names) (false ∷ picked) (true ∷ others) apart many too same =
     let parts = and_parts (is_apart name names) (are_apart names) apart in
     absurd (not_picked name names _ parts.0 (subst (ArePicked names) same (words_picked names picked)))
+picked_once names picked others apart many too same = absurd (cc)
 
 flags_once : (flags others : Flags) (words : List (List ℕ)) → AreFlags flags words → AreFlags others words
     → flags ≡ others

@@ -119,7 +119,8 @@ module _ {A : Type 0} {entry : A → Entry} {FitsOne : A → Type 0} {Reaches : 
       let wanted = with_entry most (composed most m) (entry one) in
       let long = header_length m.header (counts_of (more m one)) in
       let first = twelve_first most m in
-      let grown = grown_length (composed most m).octets wanted.octets (entry_grows most (composed most m) (entry one)) in (
+      let grown =
+      grown_length (composed most m).octets wanted.octets (entry_grows most (composed most m) (entry one)) in (
         grown,
         ap (λ s. length s.octets) (composed_more takes most m one before)
             ∙ headed_length (header_octets m.header (counts_of (more m one))) long wanted (omega (arith, first, grown)),

@@ -89,11 +89,15 @@ whole_with header questions answers authorities additionals rs us ds r_are u_are
     let e3 = map Entry.additional additionals ++ [] in
     let e2 = map Entry.authority authorities ++ e3 in
     let e1 = map Entry.answer answers ++ e2 in
-    let with_q = with_values Entry.question (λ q asked. asked ≡ q) more_questions (λ m q asked is. ap (more_questions m) is) m0
+    let with_q =
+    with_values Entry.question (λ q asked. asked ≡ q) more_questions (λ m q asked is. ap (more_questions m) is) m0
     questions questions (each_is questions) in
-    let with_r = with_values Entry.answer IsRecordOf more_answers (λ m said r is. (r, is, refl)) m1 answers rs r_are in
-    let with_u = with_values Entry.authority IsRecordOf more_authorities (λ m said r is. (r, is, refl)) m2 authorities us u_are in
-    let with_d = with_values Entry.additional IsRecordOf more_additionals (λ m said r is. (r, is, refl)) m3 additionals ds d_are in
+    let with_r =
+    with_values Entry.answer IsRecordOf more_answers (λ m said r is. (r, is, refl)) m1 answers rs r_are in
+    let with_u =
+    with_values Entry.authority IsRecordOf more_authorities (λ m said r is. (r, is, refl)) m2 authorities us u_are in
+    let with_d =
+    with_values Entry.additional IsRecordOf more_additionals (λ m said r is. (r, is, refl)) m3 additionals ds d_are in
     with_more m0 m1 m4 (map Entry.question questions) e1 with_q
     (with_more m1 m2 m4 (map Entry.answer answers) e2 with_r
     (with_more m2 m3 m4 (map Entry.authority authorities) e3 with_u

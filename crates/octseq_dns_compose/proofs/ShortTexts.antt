@@ -12,8 +12,8 @@ use Rattle.octseq_dns_message.specs.declared.header.HeaderCounts.{HeaderCounts}
 use Rattle.octseq_dns_scan.specs.Word.{AreWords, TakesWord}
 use Rattle.octseq_dns_scan.proofs.Taken.{word_once, words_once}
 use Rattle.octseq_dns_compose.specs.HeaderLine.{IsHeaderLine}
-use Rattle.octseq_dns_compose.specs.MessageText.{AreEntries, Entry, IsAnyText, IsEntryLine, IsWith, IsWithAll, SayEntries}
-use Rattle.octseq_dns_compose.specs.MessageText.{IsRecordLine, Said, headed_message, section_of}
+use Rattle.octseq_dns_compose.specs.MessageText.{AreEntries, Entry, IsAnyText, IsEntryLine, IsWith, IsWithAll}
+use Rattle.octseq_dns_compose.specs.MessageText.{IsRecordLine, SayEntries, Said, headed_message, section_of}
 use Rattle.octseq_dns_compose.specs.Progress.{IsSmallRecord, PushedUpTo}
 use Rattle.octseq_dns_compose.specs.RecordText.{IsAnyRecord}
 use Rattle.octseq_dns_compose.specs.TextLines.{IsFaultyLine, IsLineFault, IsLongLine, IsUnended, Splits, TakesLine}
@@ -203,10 +203,11 @@ module _ {B T : Type 0} {most : ℕ} {limit : Option ℕ} {text ahead : List ℕ
       → Compared TakesLine long.front.lines now.said.front.lines long.ahead ahead → IsEntryLine long.entry long.words
       → ⊥
   no_long_data long (Compared.equal p q) is =
+      let header = long.front.header in
       let entries = long.front.entries ++ long.entry ∷ [] in
       (at_stop long.words [] long.line long.after (subst (λ t. Splits t long.line long.after) q long.split) long.are
-      (long.front.header, entries, subst (λ l. SayEntries (l ++ long.words ∷ []) long.front.header entries) p long.say)).1
-      long.entry is long.past
+      (header, entries, subst (λ l. SayEntries (l ++ long.words ∷ []) header entries) p long.say)).1 long.entry is
+      long.past
   no_long_data long (Compared.shorter words more after e takes) is =
       let front = now.said.front in
       let say = subst (λ l. SayEntries l front.header front.entries) e front.say in
@@ -224,8 +225,8 @@ module _ {B T : Type 0} {most : ℕ} {limit : Option ℕ} {text ahead : List ℕ
       at_line words (more ++ long.words ∷ []) after takes (
         long.front.header,
         entries,
-        subst (λ l. SayEntries l long.front.header entries)
-            (ap (λ l. l ++ long.words ∷ []) e ∙ append_assoc now.said.front.lines (words ∷ more) (long.words ∷ [])) long.say,
+        subst (λ l. SayEntries l long.front.header entries) (ap (λ l. l ++ long.words ∷ []) e
+            ∙ append_assoc now.said.front.lines (words ∷ more) (long.words ∷ [])) long.say,
       )
 
   pub not_long : ¬ IsTooLong most (message_limit limit) text
@@ -234,8 +235,8 @@ module _ {B T : Type 0} {most : ℕ} {limit : Option ℕ} {text ahead : List ℕ
       long.front.begins now.said.front.begins)
   not_long (inr long) =
       let front = long.front in
-      let rest = (others_are front.lines (long.words ∷ []) front.header front.header front.entries _ front.say long.say).1
-      in
+      let rest =
+      (others_are front.lines (long.words ∷ []) front.header front.header front.entries _ front.say long.say).1 in
       no_long_data long (compared_lines front.lines now.said.front.lines text long.ahead ahead front.begins
       now.said.front.begins)
       (last_line 0 front.say.others long.words front.entries long.entry front.say.entries_are
