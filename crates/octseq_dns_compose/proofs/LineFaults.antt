@@ -136,7 +136,8 @@ led_line_fault Is Rest front leads text ahead first next number offset begins pl
 -- where a fault is, no text goes on with a line
 pub no_next : (Is : List Line → Type 0) (front others : List Line) (words : Line) (line after rest : List ℕ)
     (offset : ℕ) → IsLine line → EndsLine after
-    → Broken (IsNextLine Is front) line after 0 offset → TakesLine words (line ++ after) rest → ¬ Is (front ++ words ∷ others)
+    → Broken (IsNextLine Is front) line after 0 offset → TakesLine words (line ++ after) rest
+    → ¬ Is (front ++ words ∷ others)
 no_next Is front others words line after rest offset is ends fault takes whole =
     let both = line_same takes.0 line rest after takes.2 is ends (sym takes.1) in
     none fault both.1 (subst (AreWords words) both.0 takes.3)
@@ -147,7 +148,8 @@ no_next Is front others words line after rest offset is ends fault takes whole =
 
 -- so there is no text
 not_next : (Is : List Line → Type 0) (front others : List Line) (line after : List ℕ) (offset : ℕ) → IsLine line
-    → EndsLine after → Broken (IsNextLine Is front) line after 0 offset → (line ++ after ≡ [] → ¬ Is front) → AreLines others (line ++ after) → ¬ Is (front ++ others)
+    → EndsLine after → Broken (IsNextLine Is front) line after 0 offset → (line ++ after ≡ [] → ¬ Is front)
+    → AreLines others (line ++ after) → ¬ Is (front ++ others)
 not_next Is front [] line after offset is ends fault over are whole =
     over are (subst Is (append-nil front) whole)
 not_next Is front (words ∷ others) line after offset is ends fault over are whole =

@@ -8,7 +8,7 @@ use Rattle.octseq_dns_scan.specs.Word.{TakesWord}
 use Rattle.octseq_dns_text.specs.Scans.{BeginsWithWords}
 use Rattle.octseq_dns_message.specs.declared.header.Header.{Header}
 use Rattle.octseq_dns_compose.specs.HeaderLine.{IsHeaderLine}
-use Rattle.octseq_dns_compose.specs.MessageText.{AreEntries, Entry, IsAnyText, IsEntryLine}
+use Rattle.octseq_dns_compose.specs.MessageText.{AreEntries, Entry, IsAnyText, IsEntryLine, SayEntries}
 use Rattle.octseq_dns_compose.specs.MessageText.{IsRecordLine, Said, section_of}
 use Rattle.octseq_dns_compose.specs.QuestionText.{IsAnyQuestion}
 use Rattle.octseq_dns_compose.specs.RecordText.{IsAnyRecord}
@@ -44,23 +44,10 @@ line_fault Is Texts front text line after rest number start offset leads split b
 
 header_next : Leads (IsNextLine IsAnyText []) HeaderTexts []
 header_next = record {
-  into = λ words octets is. (
-    [],
-    (
-      [],
-      (
-        is.0,
-        [],
-        record {
-          first = words;
-          others = [];
-          lines_are = refl;
-          header_is = is.1;
-          entries_are = refl;
-        },
-      ),
-    ),
-  );
+  into = λ words octets is.
+      let say : SayEntries (words ∷ []) is.0 [] =
+      record { first = words; others = []; lines_are = refl; header_is = is.1; entries_are = refl } in
+      ([], ([], (is.0, [], say)));
   out = λ words octets next.
       let say = next.1.2 in
       let same : words ≡ say.first = cc (say.lines_are) in
@@ -83,17 +70,10 @@ AnyEntries from lines = (entries : List Entry) × AreEntries from entries lines
 pub after_header : (header : Header) (first : Line) → IsHeaderLine header first
     → LeadsLines IsAnyText (AnyEntries 0) (first ∷ [])
 after_header header first is = record {
-  into = λ lines all. (
-    header,
-    all.0,
-    record {
-      first = first;
-      others = lines;
-      lines_are = refl;
-      header_is = is;
-      entries_are = all.1;
-    },
-  );
+  into = λ lines all.
+      let say : SayEntries (first ∷ lines) header all.0 =
+      record { first = first; others = lines; lines_are = refl; header_is = is; entries_are = all.1 } in
+      (header, all.0, say);
   out = λ lines all.
       let say = all.2 in
       let same : lines ≡ say.others = cc (say.lines_are) in
@@ -142,17 +122,9 @@ same_section entry other (word ∷ words) is also =
 one_entry : (entry : Entry) (words : Line) (from section : ℕ) → IsEntryLine entry words → section_of entry ≡ section
     → from ≤ section → LeadsLines (AnyEntries from) (AnyEntries section) (words ∷ [])
 one_entry entry words from section is here less = record {
-  into = λ lines all. (
-    entry ∷ all.0,
-    (
-      entry,
-      all.0,
-      refl,
-      omega (arith, here, less),
-      is,
-      subst (λ s. AreEntries s all.0 lines) (sym here) all.1,
-    ),
-  );
+  into = λ lines all.
+      let after = subst (λ s. AreEntries s all.0 lines) (sym here) all.1 in
+      (entry ∷ all.0, (entry, all.0, refl, omega (arith, here, less), is, after));
   out = λ lines all.
       let same = same_section all.1.0 entry words all.1.4 is ∙ here in
       (all.1.1, subst (λ s. AreEntries s all.1.1 lines) same all.1.5);

@@ -1,5 +1,5 @@
 -- A text is of one message.
-use Rattle.std.proofs.Common.{◌≡◌, ◌⊎◌, ℕ, Bool, true, false, ◌&&◌, None, List, [], ◌∷◌, ◌++◌, length}
+use Rattle.std.proofs.Common.{◌≡◌, ◌⊎◌, ℕ, Bool, true, false, ◌&&◌, None, List, [], ◌∷◌, length}
 use Rattle.std.proofs.Common.{refl, sym, ap, ◌∙◌, subst, inl, inr, arith}
 use Rattle.std.proofs.lemmas.Bool.{and_parts}
 use Rattle.octseq.specs.Window.{whole}
@@ -14,7 +14,7 @@ use Rattle.octseq_dns_name.proofs.Readings.{name_once}
 use Rattle.octseq_dns_text.proofs.OneReading.{data_one}
 use Rattle.octseq_dns_text.specs.DataText.{IsDataText}
 use Rattle.octseq_dns_compose.specs.Alone.{SaysAlone}
-use Rattle.octseq_dns_compose.specs.HeaderLine.{IsHeaderLine, AreFlags, ArePicked, flag_names, flag_word}
+use Rattle.octseq_dns_compose.specs.HeaderLine.{IsHeaderLine, AreFlags, ArePicked, flag_names}
 use Rattle.octseq_dns_compose.specs.MessageText.{AreEntries, Entry, IsEntryLine, IsMessageText, IsRecordOf, IsWith}
 use Rattle.octseq_dns_compose.specs.MessageText.{IsWithAll, Said, SayEntries, headed_message, section_of}
 use Rattle.octseq_dns_compose.specs.QuestionText.{IsQuestionText}
@@ -22,7 +22,7 @@ use Rattle.octseq_dns_compose.specs.RecordText.{IsClassWord, IsNameWord, IsRecor
 use Rattle.octseq_dns_compose.specs.RecordText.{TtlAndClass}
 use Rattle.octseq_dns_compose.specs.Take.{IsUpTo, Then}
 use Rattle.octseq_dns_compose.specs.TextLines.{AreLines}
-use Rattle.octseq_dns_compose.proofs.Flags.{is_apart, not_picked}
+use Rattle.octseq_dns_compose.proofs.Flags.{is_apart, not_picked, picked_words, words_picked}
 use Rattle.octseq_dns_compose.proofs.LineFaults.{Line, line_once, some_line}
 use Rattle.octseq_dns_compose.proofs.MessageFaults.{no_entry, same_section}
 use Rattle.octseq_dns_compose.proofs.Named.{no_number}
@@ -42,24 +42,9 @@ lines_once text (words ∷ lines) (more ∷ others) one two =
 
 -- ---- the header
 
--- the words of those names that are picked
-abbrev picked_words : List (List ℕ) → List Bool → List (List ℕ)
-picked_words [] picked = []
-picked_words (name ∷ names) [] = []
-picked_words (name ∷ names) (is ∷ picked) = flag_word is name ++ picked_words names picked
-
 abbrev are_apart : List (List ℕ) → Bool
 are_apart [] = true
 are_apart (name ∷ names) = is_apart name names && are_apart names
-
-none_picked : (names : List (List ℕ)) → ArePicked names []
-none_picked [] = refl
-none_picked (name ∷ names) = (false, [], refl, none_picked names)
-
-words_picked : (names : List (List ℕ)) (picked : List Bool) → ArePicked names (picked_words names picked)
-words_picked [] picked = refl
-words_picked (name ∷ names) [] = none_picked (name ∷ names)
-words_picked (name ∷ names) (is ∷ picked) = (is, picked_words names picked, refl, words_picked names picked)
 
 picked_once : (names : List (List ℕ)) (picked others : List Bool) → are_apart names ≡ true
     → length picked ≡ length names → length others ≡ length names
