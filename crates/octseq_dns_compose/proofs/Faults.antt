@@ -1,9 +1,10 @@
 -- How the faults of texts of words are put together.
 use Rattle.std.proofs.Common.{◌≡◌, ℕ, ◌+◌, List, [], ◌∷◌, ◌++◌, length, refl, sym, ap, ◌∙◌, subst, arith}
-use Rattle.std.proofs.Common.{append_assoc}
+use Rattle.std.proofs.Common.{None, append_assoc}
 use Rattle.std.proofs.lemmas.List.{length-append, append-nil}
 use Rattle.octseq_dns_scan.specs.Word.{TakesWord, AreWords}
 use Rattle.octseq_dns_scan.proofs.Taken.{word_once}
+use Rattle.octseq_dns_compose.specs.Take.{Takes}
 use Rattle.octseq_dns_text.specs.Scans.{Goes, BeginsWithWords, IsFault}
 
 -- ---- words at the front of a text
@@ -42,6 +43,20 @@ pub only_word : (Is : List ℕ → Type 0) (word ahead rest : List ℕ) → Take
     → (other left : List ℕ) → TakesWord other ahead left → ¬ Is other
 only_word Is word ahead rest taken not other left also is =
     not (subst Is (word_once other word ahead left rest also taken).0 is)
+
+-- no word is next, or another one, and the text stays
+pub takes_none : {A : Type 0} (Is : A → List ℕ → Type 0) {ahead : List ℕ}
+    → ((word rest : List ℕ) → ¬ TakesWord word ahead rest) → Takes Is None ahead ahead
+takes_none Is none =
+    record { some = tt; none = λ _ word rest value taken. absurd (none word rest taken); kept = refl }
+
+pub takes_other : {A : Type 0} (Is : A → List ℕ → Type 0) {word ahead rest : List ℕ} → TakesWord word ahead rest
+    → ((value : A) → ¬ Is value word) → Takes Is None ahead ahead
+takes_other Is taken other = record {
+  some = tt;
+  none = λ _ next left value also. only_word (Is value) _ _ _ taken (other value) next left also;
+  kept = refl;
+}
 
 -- ---- texts after words
 

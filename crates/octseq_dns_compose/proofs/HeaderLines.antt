@@ -127,12 +127,12 @@ past_rcode n word is = record {
   out = λ words octets all. ([], (all.0, all.1.1.1));
 }
 
-pub past_field : (name : List ℕ) (most n : ℕ) (Is Mid Rest : List (List ℕ) → List ℕ → Type 0)
+pub past_field : {name : List ℕ} {most n : ℕ} {Is Mid Rest : List (List ℕ) → List ℕ → Type 0}
     {text ahead after : List ℕ} {start next then : ℕ} → PastField name most Mid Rest
     → Reached Is Mid text start ahead next
     → ((mid word : List ℕ) × TakesWord name ahead mid × TakesWord word mid after × IsUpTo most n word)
     → then + length after ≡ next + length ahead → Reached Is Rest text start after then
-past_field name most n Is Mid Rest past so_far taken place =
+past_field {name = name} {n = n} past so_far taken place =
     past_words (name ∷ taken.1 ∷ []) so_far (past n taken.1 taken.4) (_, taken.2, (_, taken.3, refl)) place
 
 -- ---- the flags

@@ -61,29 +61,30 @@ pub not_past : (limit : Option ℕ) (n : ℕ) → IsWithin limit n → ¬ IsPast
 not_past (Some limit) n within past = omega (arith, within, past)
 not_past None n within past = past
 
+-- what a long line says after its first word
+long_words : (first : List ℕ) (Is : Line → List ℕ → Type 0) (limit : Option ℕ) (text line after rest : List ℕ)
+    → Splits text line after → TakesWord first line rest → (long : IsLongLine first Is limit text)
+    → AreWords long.words rest
+long_words first Is limit text line after rest split taken long =
+    let same =
+    splits_same long.line line long.after after long.split.is_line split.is_line long.split.ends split.ends
+    (sym long.split.whole ∙ split.whole) in
+    let one =
+    word_once first first line long.rest rest (subst (λ l. TakesWord first l long.rest) same.0 long.taken) taken in
+    subst (AreWords long.words) one.1 long.are
+
 -- words that aren't those of a record have no data
 pub no_long_fault : (first : List ℕ) (Is : Line → List ℕ → Type 0) (limit : Option ℕ) (text line after rest : List ℕ)
     (start offset : ℕ) → Splits text line after → TakesWord first line rest → IsFault Is rest start offset
     → ¬ IsLongLine first Is limit text
 no_long_fault first Is limit text line after rest start offset split taken fault long =
-    let same =
-    splits_same long.line line long.after after long.split.is_line split.is_line long.split.ends split.ends
-    (sym long.split.whole ∙ split.whole) in
-    let one =
-    word_once first first line long.rest rest (subst (λ l. TakesWord first l long.rest) same.0 long.taken) taken
-    in
-    no_text Is rest start offset fault long.words long.octets (subst (AreWords long.words) one.1 long.are) long.is
+    no_text Is rest start offset fault long.words long.octets
+    (long_words first Is limit text line after rest split taken long) long.is
 
 -- words that are those of a record have its data alone
 pub no_long_read : (first : List ℕ) (Is : Line → List ℕ → Type 0) (limit : Option ℕ) (text line after rest : List ℕ)
     (words : Line) → Splits text line after → TakesWord first line rest → AreWords words rest
     → ((octets : List ℕ) → Is words octets → IsWithin limit (length octets)) → ¬ IsLongLine first Is limit text
 no_long_read first Is limit text line after rest words split taken are small long =
-    let same =
-    splits_same long.line line long.after after long.split.is_line split.is_line long.split.ends split.ends
-    (sym long.split.whole ∙ split.whole) in
-    let one =
-    word_once first first line long.rest rest (subst (λ l. TakesWord first l long.rest) same.0 long.taken) taken
-    in
-    let both = words_once long.words words rest (subst (AreWords long.words) one.1 long.are) are in
+    let both = words_once long.words words rest (long_words first Is limit text line after rest split taken long) are in
     not_past limit (length long.octets) (small long.octets (subst (λ ws. Is ws long.octets) both long.is)) long.past

@@ -220,13 +220,13 @@ pub record HeadRead (origin : Option (List (List ℕ))) (ahead after : List ℕ)
       ⊎ (IsClassWord head.class first × IsTtlWord head.ttl second)
   pub is_rtype : IsRtypeWord head.rtype kind
 
-pub head_read : {ahead a b after : List ℕ} (origin : Option (List (List ℕ))) (head : Head)
-    → ((word : List ℕ) × TakesWord word ahead a × IsNameWord origin head.labels word)
+pub head_read : {ahead a b after : List ℕ} (origin : Option (List (List ℕ))) (labels : List (List ℕ))
+    (ttl class rtype : ℕ) → ((word : List ℕ) × TakesWord word ahead a × IsNameWord origin labels word)
     → ((first second mid : List ℕ) × TakesWord first a mid × TakesWord second mid b
-    × ((IsTtlWord head.ttl first × IsClassWord head.class second)
-    ⊎ (IsClassWord head.class first × IsTtlWord head.ttl second)))
-    → ((word : List ℕ) × TakesWord word b after × IsRtypeWord head.rtype word) → HeadRead origin ahead after head
-head_read origin head owner order kind = record {
+    × ((IsTtlWord ttl first × IsClassWord class second) ⊎ (IsClassWord class first × IsTtlWord ttl second)))
+    → ((word : List ℕ) × TakesWord word b after × IsRtypeWord rtype word)
+    → HeadRead origin ahead after (record { labels = labels; ttl = ttl; class = class; rtype = rtype })
+head_read origin labels ttl class rtype owner order kind = record {
   owner = owner.0;
   first = order.0;
   second = order.1;
