@@ -1,12 +1,12 @@
 -- The line of a header, and where it is none.
 use Rattle.std.proofs.Common.{◌≡◌, ℕ, ◌+◌, false, List, [], ◌∷◌, length, codes}
 use Rattle.std.proofs.Common.{refl, subst, arith}
-use Rattle.std.proofs.lemmas.List.{append-nil}
 use Rattle.octseq_dns_scan.specs.Word.{TakesWord, AreWords}
+use Rattle.octseq_dns_text.proofs.ReadTexts.{begins_all}
 use Rattle.octseq_dns_text.specs.Scans.{BeginsWithWords, IsFault}
 use Rattle.octseq_dns_compose.specs.Take.{IsGiven, IsUpTo, Then}
 use Rattle.octseq_dns_compose.specs.HeaderLine.{Field, IsNoField, AreFlags, IsHeaderLine, Picks, flag_names}
-use Rattle.octseq_dns_compose.proofs.Faults.{Leads, Reached, are_more, first_fault, kept_fault, led_fault, past_words}
+use Rattle.octseq_dns_compose.proofs.Faults.{Leads, Reached, first_fault, kept_fault, led_fault, past_words}
 use Rattle.octseq_dns_compose.proofs.Flags.{flags_fault}
 use Rattle.octseq_dns_message.specs.declared.header.Flags.{Flags}
 use Rattle.octseq_dns_message.specs.declared.header.Header.{Header}
@@ -156,11 +156,6 @@ fault_after_flags ahead mid rest words start next offset taken place picks on so
 
 -- ---- a line that is read
 
-all_words : (words : List (List ℕ)) (text rest : List ℕ) → BeginsWithWords words text rest → rest ≡ []
-    → AreWords words text
-all_words words text rest begins over =
-    subst (λ ws. AreWords ws text) (append-nil words) (are_more words [] text rest begins over)
-
 pub line_words : (ahead a b c d e f g rest : List ℕ) (two four six : List ℕ) (words : List (List ℕ)) (header : Header)
     → TakesWord (codes "id") ahead a → TakesWord two a b → IsUpTo 65535 header.id two
     → TakesWord (codes "opcode") b c → TakesWord four c d → IsUpTo 15 header.opcode four
@@ -169,6 +164,6 @@ pub line_words : (ahead a b c d e f g rest : List ℕ) (two four six : List ℕ)
     → (all : List (List ℕ)) × AreWords all ahead × IsHeaderLine header all
 line_words ahead a b c d e f g rest two four six words header w1 w2 is2 w3 w4 is4 w5 w6 is6 w7 picks over flags = (
   codes "id" ∷ two ∷ codes "opcode" ∷ four ∷ codes "rcode" ∷ six ∷ codes "flags" ∷ words,
-  (a, w1, (b, w2, (c, w3, (d, w4, (e, w5, (f, w6, (g, w7, all_words words g rest picks.begins over))))))),
+  (a, w1, (b, w2, (c, w3, (d, w4, (e, w5, (f, w6, (g, w7, begins_all words g (subst (BeginsWithWords words g) over picks.begins)))))))),
   (refl, (is2, (refl, (is4, (refl, (is6, (refl, flags))))))),
 )

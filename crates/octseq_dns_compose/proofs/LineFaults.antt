@@ -5,13 +5,14 @@ use Rattle.std.proofs.Common.{append_assoc}
 use Rattle.std.proofs.lemmas.List.{length-append, append-nil}
 use Rattle.octseq_dns_scan.specs.Word.{AreWords, TakesWord}
 use Rattle.octseq_dns_scan.proofs.Taken.{words_once}
+use Rattle.octseq_dns_text.proofs.ReadTexts.{words_more}
 use Rattle.octseq_dns_text.specs.Scans.{BeginsWithWords, IsFault}
 use Rattle.octseq_dns_compose.specs.TextLines.{IsLine, EndsLine, TakesLine, AreLines, BeginsWithLines, Splits}
 use Rattle.octseq_dns_compose.specs.TextLines.{IsNextLine}
 use Rattle.octseq_dns_compose.specs.RecordText.{BeginsWithList}
 use Rattle.octseq_dns_compose.specs.TextLines.{IsUnended, IsLineFault, IsFaultyLine, IsNoneOf}
 use Rattle.octseq_dns_compose.specs.TooLong.{IsListLine}
-use Rattle.octseq_dns_compose.proofs.Faults.{Leads, are_more, led_fault, no_text}
+use Rattle.octseq_dns_compose.proofs.Faults.{Leads, led_fault, no_text}
 
 abbrev pub Line : Type 0
 Line = List (List ℕ)
@@ -93,7 +94,7 @@ led_broken Is Rest front leads text ahead after start next offset begins place (
     inr (record {
       words = front ++ fault.words;
       octets = all.0;
-      are = are_more front fault.words text ahead begins fault.are;
+      are = words_more front fault.words text ahead begins fault.are;
       is = all.1;
       ends = fault.ends;
       place = fault.place ∙ place;

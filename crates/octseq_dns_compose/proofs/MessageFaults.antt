@@ -5,6 +5,7 @@ use Rattle.std.proofs.Common.{codes, refl, sym, ap, ◌∙◌, subst, inl, inr, 
 use Rattle.std.proofs.lemmas.Bool.Decides.{nat_tests}
 use Rattle.std.specs.List.{AllZip}
 use Rattle.octseq_dns_scan.specs.Word.{TakesWord}
+use Rattle.octseq_dns_text.proofs.ReadTexts.{takes_some}
 use Rattle.octseq_dns_text.specs.Scans.{BeginsWithWords}
 use Rattle.octseq_dns_message.specs.declared.header.Header.{Header}
 use Rattle.octseq_dns_compose.specs.HeaderLine.{IsHeaderLine}
@@ -15,7 +16,7 @@ use Rattle.octseq_dns_compose.specs.RecordText.{IsAnyRecord}
 use Rattle.octseq_dns_compose.specs.TextLines.{BeginsWithLines, IsFaultyHeader, IsFaultyLine, IsLineFault, IsNextLine}
 use Rattle.octseq_dns_compose.specs.TextLines.{IsNoneOf, Splits}
 use Rattle.octseq_dns_compose.specs.TooLong.{data_octets}
-use Rattle.octseq_dns_compose.proofs.Faults.{Leads, first_fault, some_word}
+use Rattle.octseq_dns_compose.proofs.Faults.{Leads, first_fault}
 use Rattle.octseq_dns_compose.proofs.HeaderLines.{HeaderTexts}
 use Rattle.octseq_dns_compose.proofs.LineFaults.{Broken, LeadsLines, Line, led_broken}
 use Rattle.octseq_dns_compose.proofs.Records.{record_goes}
@@ -214,7 +215,7 @@ pub entry_fault : (section from : ℕ) (word : List ℕ) (Texts : Line → List 
 entry_fault section from word Texts text number offset of less faulty =
     line_fault (AnyEntries from) Texts (word ∷ []) text faulty.line faulty.after faulty.rest number faulty.start offset
     (section_next section from word Texts of less) faulty.split (faulty.rest, faulty.taken, refl) faulty.place
-    faulty.fault (λ over. absurd (some_word word faulty.line faulty.rest faulty.taken
+    faulty.fault (λ over. absurd (takes_some word faulty.line faulty.rest faulty.taken
     (front_empty faulty.line faulty.after over)))
 
 -- ---- a line of no section that may follow

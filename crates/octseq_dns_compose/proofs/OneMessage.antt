@@ -12,6 +12,7 @@ use Rattle.octseq_dns_message.specs.declared.header.Flags.{Flags}
 use Rattle.octseq_dns_message.specs.declared.header.Header.{Header}
 use Rattle.octseq_dns_name.proofs.Readings.{name_once}
 use Rattle.octseq_dns_text.proofs.OneReading.{data_one}
+use Rattle.octseq_dns_text.proofs.TypesTexts.{type_once}
 use Rattle.octseq_dns_text.specs.DataText.{IsDataText}
 use Rattle.octseq_dns_compose.specs.Alone.{SaysAlone}
 use Rattle.octseq_dns_compose.specs.HeaderLine.{IsHeaderLine, AreFlags, ArePicked, flag_names}
@@ -26,7 +27,7 @@ use Rattle.octseq_dns_compose.proofs.Flags.{is_apart, not_picked, picked_words, 
 use Rattle.octseq_dns_compose.proofs.LineFaults.{Line, line_once, some_line}
 use Rattle.octseq_dns_compose.proofs.MessageFaults.{no_entry, same_section}
 use Rattle.octseq_dns_compose.proofs.Named.{no_number}
-use Rattle.octseq_dns_compose.proofs.Samples.{one_class, one_rtype}
+use Rattle.octseq_dns_compose.proofs.Samples.{one_class}
 
 -- ---- lines
 
@@ -117,7 +118,7 @@ question_once q p (a ∷ b ∷ c ∷ words) (name, (class, (rtype, over)))
     (owner, (kind, (other, end))) =
     let labels = owner_once q.labels p.labels a name owner in
     let qclass = one_class b q.qclass p.qclass class kind in
-    let qtype = one_rtype c q.qtype p.qtype rtype other in
+    let qtype = type_once c q.qtype p.qtype rtype other in
     λ i. record { labels = labels i; qtype = qtype i; qclass = qclass i }
 
 -- a TTL and a class, in either order
@@ -162,7 +163,7 @@ after_once said other (a ∷ b ∷ c ∷ more) one two =
     let x = either_parts said.head.ttl said.head.class (IsAfterOrder said) a b (c ∷ more) one in
     let y = either_parts other.head.ttl other.head.class (IsAfterOrder other) a b (c ∷ more) two in
     let both = either_once said.head.ttl other.head.ttl said.head.class other.head.class a b x.0 y.0 in
-    let rtype = one_rtype c said.head.rtype other.head.rtype x.1.0 y.1.0 in
+    let rtype = type_once c said.head.rtype other.head.rtype x.1.0 y.1.0 in
     let found = subst (λ t. IsDataText None t other.head.class more other.octets) (sym rtype) y.1.1 in
     let too = subst (λ n. IsDataText None said.head.rtype n more other.octets) (sym both.1) found in (
       both.0,
