@@ -1,6 +1,6 @@
 -- The text of a message, section by section.
 use Rattle.std.proofs.Common.{◌≡◌, ◌⊎◌, ℕ, ◌+◌, ◌≤◌, Option, Some, None, List, [], ◌∷◌, ◌++◌, map, length, codes}
-use Rattle.std.proofs.Common.{Bool, true, append_assoc, refl, sym, ap, ◌∙◌, subst, inl, inr, arith}
+use Rattle.std.proofs.Common.{Bool, true, refl, sym, ap, ◌∙◌, subst, inl, inr, arith}
 use Rattle.std.proofs.lemmas.List.{length-append}
 use Rattle.std.specs.List.{AllByRecursion, AllZip}
 use Rattle.octseq.specs.Limit.{IsPast, IsWithin}
@@ -21,10 +21,10 @@ use Rattle.octseq_dns_compose.specs.RecordText.{IsAnyRecord}
 use Rattle.octseq_dns_compose.specs.TextLines.{IsFaultyLine, IsLineFault, IsLongLine, IsNoneOf, TakesLine}
 use Rattle.octseq_dns_compose.specs.TooLong.{BeginsWithEntries, Exceeds, HasListLine, IsListLine}
 use Rattle.octseq_dns_compose.specs.TooLong.{IsRecordWord, IsTooLong, data_octets}
-use Rattle.octseq_dns_compose.proofs.LineFaults.{LeadsLines, Line, led_line_fault, lines_end, lines_more}
+use Rattle.octseq_dns_compose.proofs.LineFaults.{LeadsLines, Line, leads_on, led_line_fault, lines_end, lines_more}
 use Rattle.octseq_dns_compose.proofs.MessageFaults.{AnyEntries, IsSection, NoneFrom, SaysAs, after_header, entry_fault}
-use Rattle.octseq_dns_compose.proofs.MessageFaults.{of_questions, of_records}
-use Rattle.octseq_dns_compose.proofs.MessageFaults.{none_past, none_step, other_fault, past_section, reached_most}
+use Rattle.octseq_dns_compose.proofs.MessageFaults.{of_questions, of_records, section_in, word_in}
+use Rattle.octseq_dns_compose.proofs.MessageFaults.{none_step, other_fault, past_section}
 use Rattle.octseq_dns_compose.proofs.Overrun.{counts_most, header_past, past_limit}
 
 -- ---- entries after others
@@ -185,13 +185,6 @@ says_more lines more header entries others section say last are = record {
   entries_are = entries_after 0 section entries others say.others more (omega arith) say.entries_are last are;
 }
 
-leads_on : {Is Mid Rest : List Line → Type 0} (front more : List Line) → LeadsLines Is Mid front
-    → LeadsLines Mid Rest more → LeadsLines Is Rest (front ++ more)
-leads_on {Is = Is} front more one two = record {
-  into = λ lines rest. subst Is (sym (append_assoc front more lines)) (one.into (more ++ lines) (two.into lines rest));
-  out = λ lines all. two.out lines (one.out (more ++ lines) (subst Is (append_assoc front more lines) all));
-}
-
 -- ---- one section more
 
 -- A section: its entries, what their lines say, the word for it and what may follow that.
@@ -229,7 +222,7 @@ module _ {A : Type 0} {make : A → Entry} {IsText : A → Line → Type 0} {sec
       let front = now.front in
       let past =
       past_section make IsText section now.to values read.lines a b sect.says now.less read.begins read.are in
-      let most = reached_most past.to now.to section a b now.less past.reached in
+      let most = past.most in
       let small = sect.few in
       record {
         front = section_front b j values read;
@@ -243,7 +236,7 @@ module _ {A : Type 0} {make : A → Entry} {IsText : A → Line → Type 0} {sec
         less = most;
         few = omega (arith, most, small);
         leads = leads_on front.lines read.lines now.leads past.leads;
-        none = none_past past.to now.to section a b past.reached now.none;
+        none = past.none now.none;
       }
 
   -- past all of them
@@ -299,12 +292,16 @@ questions = record {
   counted = λ m. (counts_most m).0;
 }
 
+record_section : (make : Said → Entry) (section : ℕ) (word : List ℕ) → SaysAs make (IsRecordLine word) section
+    → section_in word ≡ section → word ≡ word_in section → 1 ≤ section → section ≤ 3
+    → Section make (IsRecordLine word) section word (IsAnyRecord None)
+record_section make section word says first is late few =
+    record { says = says; of = of_records make section word says first is late; few = few }
+
 pub answers : PushesRecords Entry.answer more_answers (λ counts. counts.ancount) 1 (codes "answer")
 answers = record {
-  sect =
-      let says : SaysAs Entry.answer (IsRecordLine (codes "answer")) 1 =
-      record { of = λ said. refl; is = λ said words is. is } in
-      record { says = says; of = of_records Entry.answer 1 _ says refl refl (omega arith); few = omega arith };
+  sect = record_section Entry.answer 1 (codes "answer") (record { of = λ said. refl; is = λ said words is. is })
+      refl refl (omega arith) (omega arith);
   adds = λ m said r is. (r, is.0, refl);
   small = λ said r is. is.1;
   counted = λ m. (counts_most m).1;
@@ -312,10 +309,8 @@ answers = record {
 
 pub authorities : PushesRecords Entry.authority more_authorities (λ counts. counts.nscount) 2 (codes "authority")
 authorities = record {
-  sect =
-      let says : SaysAs Entry.authority (IsRecordLine (codes "authority")) 2 =
-      record { of = λ said. refl; is = λ said words is. is } in
-      record { says = says; of = of_records Entry.authority 2 _ says refl refl (omega arith); few = omega arith };
+  sect = record_section Entry.authority 2 (codes "authority") (record { of = λ said. refl; is = λ said words is. is })
+      refl refl (omega arith) (omega arith);
   adds = λ m said r is. (r, is.0, refl);
   small = λ said r is. is.1;
   counted = λ m. (counts_most m).2;
@@ -323,10 +318,8 @@ authorities = record {
 
 pub additionals : PushesRecords Entry.additional more_additionals (λ counts. counts.arcount) 3 (codes "additional")
 additionals = record {
-  sect =
-      let says : SaysAs Entry.additional (IsRecordLine (codes "additional")) 3 =
-      record { of = λ said. refl; is = λ said words is. is } in
-      record { says = says; of = of_records Entry.additional 3 _ says refl refl (omega arith); few = omega arith };
+  sect = record_section Entry.additional 3 (codes "additional") (record { of = λ said. refl; is = λ said words is. is })
+      refl refl (omega arith) (omega arith);
   adds = λ m said r is. (r, is.0, refl);
   small = λ said r is. is.1;
   counted = λ m. (counts_most m).3;

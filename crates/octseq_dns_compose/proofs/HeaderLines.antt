@@ -162,8 +162,9 @@ pub line_words : (ahead a b c d e f g rest : List ℕ) (two four six : List ℕ)
     → TakesWord (codes "rcode") d e → TakesWord six e f → IsUpTo 15 header.rcode six
     → TakesWord (codes "flags") f g → Picks flag_names g words rest → rest ≡ [] → AreFlags header.flags words
     → (all : List (List ℕ)) × AreWords all ahead × IsHeaderLine header all
-line_words ahead a b c d e f g rest two four six words header w1 w2 is2 w3 w4 is4 w5 w6 is6 w7 picks over flags = (
-  codes "id" ∷ two ∷ codes "opcode" ∷ four ∷ codes "rcode" ∷ six ∷ codes "flags" ∷ words,
-  (a, w1, (b, w2, (c, w3, (d, w4, (e, w5, (f, w6, (g, w7, begins_all words g (subst (BeginsWithWords words g) over picks.begins)))))))),
-  (refl, (is2, (refl, (is4, (refl, (is6, (refl, flags))))))),
-)
+line_words ahead a b c d e f g rest two four six words header w1 w2 is2 w3 w4 is4 w5 w6 is6 w7 picks over flags =
+    let last = begins_all words g (subst (BeginsWithWords words g) over picks.begins) in (
+      codes "id" ∷ two ∷ codes "opcode" ∷ four ∷ codes "rcode" ∷ six ∷ codes "flags" ∷ words,
+      (a, w1, (b, w2, (c, w3, (d, w4, (e, w5, (f, w6, (g, w7, last))))))),
+      (refl, (is2, (refl, (is4, (refl, (is6, (refl, flags))))))),
+    )

@@ -105,6 +105,13 @@ pub record LeadsLines (Is Rest : List Line → Type 0) (front : List Line) : Typ
   pub into : (lines : List Line) → Rest lines → Is (front ++ lines)
   pub out : (lines : List Line) → Is (front ++ lines) → Rest lines
 
+pub leads_on : {Is Mid Rest : List Line → Type 0} (front more : List Line) → LeadsLines Is Mid front
+    → LeadsLines Mid Rest more → LeadsLines Is Rest (front ++ more)
+leads_on {Is = Is} front more one two = record {
+  into = λ lines rest. subst Is (sym (append_assoc front more lines)) (one.into (more ++ lines) (two.into lines rest));
+  out = λ lines all. two.out lines (one.out (more ++ lines) (subst Is (append_assoc front more lines) all));
+}
+
 next_leads : (Is Rest : List Line → Type 0) (front more : List Line) → LeadsLines Is Rest front
     → Leads (IsNextLine Is (front ++ more)) (IsNextLine Rest more) []
 next_leads Is Rest front more leads = record {

@@ -1,7 +1,7 @@
 -- Where a text is that of no message.
-use Rattle.std.proofs.Common.{◌≡◌, ◌⊎◌, ℕ, ◌+◌, ◌<◌, ◌≤◌, Bool, true, false, nat_eq, cond, None, List, [], ◌∷◌, ◌++◌}
+use Rattle.std.proofs.Common.{◌≡◌, ℕ, ◌+◌, ◌<◌, ◌≤◌, Bool, true, false, nat_eq, cond, None, List, [], ◌∷◌, ◌++◌}
 use Rattle.std.proofs.Common.{length}
-use Rattle.std.proofs.Common.{codes, refl, sym, ap, ◌∙◌, subst, inl, inr, arith}
+use Rattle.std.proofs.Common.{codes, refl, sym, ap, ◌∙◌, subst, inl, arith}
 use Rattle.std.proofs.lemmas.Bool.Decides.{nat_tests}
 use Rattle.std.specs.List.{AllZip}
 use Rattle.octseq_dns_scan.specs.Word.{TakesWord}
@@ -18,7 +18,7 @@ use Rattle.octseq_dns_compose.specs.TextLines.{IsNoneOf, Splits}
 use Rattle.octseq_dns_compose.specs.TooLong.{data_octets}
 use Rattle.octseq_dns_compose.proofs.Faults.{Leads, first_fault}
 use Rattle.octseq_dns_compose.proofs.HeaderLines.{HeaderTexts}
-use Rattle.octseq_dns_compose.proofs.LineFaults.{Broken, LeadsLines, Line, led_broken}
+use Rattle.octseq_dns_compose.proofs.LineFaults.{Broken, LeadsLines, Line, leads_on, led_broken}
 use Rattle.octseq_dns_compose.proofs.Records.{record_goes}
 
 -- ---- the first line of a text
@@ -136,48 +136,43 @@ pub record SaysAs {A : Type 0} (make : A → Entry) (IsText : A → Line → Typ
   pub of : (a : A) → section_of (make a) ≡ section
   pub is : (a : A) (words : Line) → IsText a words → IsEntryLine (make a) words
 
-more_entries : {A : Type 0} (make : A → Entry) (IsText : A → Line → Type 0) (section from : ℕ) (value : A)
-    (words : Line) (values : List A) (lines : List Line) → ((a : A) → section_of (make a) ≡ section)
-    → ((a : A) (ws : Line) → IsText a ws → IsEntryLine (make a) ws) → from ≤ section → IsText value words
-    → AllZip IsText values lines → LeadsLines (AnyEntries from) (AnyEntries section) (words ∷ lines)
-more_entries make IsText section from value words [] [] of is less one all =
-    one_entry (make value) words from section (is value words one) (of value) less
-more_entries make IsText section from value words (v ∷ values) (w ∷ lines) of is less one all =
-    let first = one_entry (make value) words from section (is value words one) (of value) less in
-    let rest = more_entries make IsText section section v w values lines of is (omega arith) all.0 all.1 in
-    record {
-      into = λ others entries. first.into (w ∷ (lines ++ others)) (rest.into others entries);
-      out = λ others entries. rest.out others (first.out (w ∷ (lines ++ others)) entries);
-    }
-more_entries make IsText section from value words values lines of is less one all = absurd all
+leads_section : {A : Type 0} (make : A → Entry) (IsText : A → Line → Type 0) (section : ℕ) (values : List A)
+    (lines : List Line) → SaysAs make IsText section → AllZip IsText values lines
+    → LeadsLines (AnyEntries section) (AnyEntries section) lines
+leads_section make IsText section [] [] says all =
+    record { into = λ lines entries. entries; out = λ lines entries. entries }
+leads_section make IsText section (v ∷ values) (w ∷ lines) says all =
+    leads_on (w ∷ []) lines (one_entry (make v) w section section (says.is v w all.0) (says.of v) (omega arith))
+    (leads_section make IsText section values lines says all.1)
+leads_section make IsText section values lines says all = absurd all
 
--- where the section of the last line is, past the lines of a section
-abbrev pub IsReached : (to from section : ℕ) (text ahead : List ℕ) → Type 0
-IsReached to from section text ahead = (to ≡ section) ⊎ ((to ≡ from) × (ahead ≡ text))
-
-pub reached_most : (to from section : ℕ) (text ahead : List ℕ) → from ≤ section → IsReached to from section text ahead
-    → to ≤ section
-reached_most to from section text ahead less (inl same) = omega (arith, same)
-reached_most to from section text ahead less (inr same) = let first = same.0 in omega (arith, first, less)
+-- none of the sections from `from` on, and before `to`, is next
+abbrev pub NoneFrom : ℕ → ℕ → List ℕ → Type 0
+NoneFrom from to text =
+    (entry : Entry) → from ≤ section_of entry → section_of entry < to → IsNoneOf (word_of entry) text
 
 -- Past the lines of a section: if there are some, those of earlier sections are over.
 pub record PastSection (from section : ℕ) (text ahead : List ℕ) (lines : List Line) : Type 0 where
   pub to : ℕ
-  pub reached : IsReached to from section text ahead
+  pub most : to ≤ section
   pub leads : LeadsLines (AnyEntries from) (AnyEntries to) lines
+  pub none : NoneFrom from section text → NoneFrom to section ahead
 
 pub past_section : {A : Type 0} (make : A → Entry) (IsText : A → Line → Type 0) (section from : ℕ) (values : List A)
     (lines : List Line) (text ahead : List ℕ) → SaysAs make IsText section → from ≤ section
     → BeginsWithLines lines text ahead → AllZip IsText values lines → PastSection from section text ahead lines
 past_section make IsText section from [] [] text ahead says less begins all = record {
   to = from;
-  reached = inr (refl, sym begins);
+  most = less;
   leads = record { into = λ lines entries. entries; out = λ lines entries. entries };
+  none = subst (NoneFrom from section) begins;
 }
 past_section make IsText section from (v ∷ values) (w ∷ lines) text ahead says less begins all = record {
   to = section;
-  reached = inl refl;
-  leads = more_entries make IsText section from v w values lines says.of says.is less all.0 all.1;
+  most = omega arith;
+  leads = leads_on (w ∷ []) lines (one_entry (make v) w from section (says.is v w all.0) (says.of v) less)
+      (leads_section make IsText section values lines says all.1);
+  none = λ none entry after before. absurd (omega (arith, after, before));
 }
 past_section make IsText section from values lines text ahead says less begins all = absurd all
 
@@ -240,11 +235,6 @@ split_text : (text : List ℕ) → (line after : List ℕ) × Splits text line a
 split_text [] = ([], [], record { whole = refl; is_line = tt; ends = tt })
 split_text (x ∷ text) = split_octet x text (nat_eq x 10) refl (split_text text)
 
--- none of the sections from `from` on, and before `to`, is next
-abbrev pub NoneFrom : ℕ → ℕ → List ℕ → Type 0
-NoneFrom from to text =
-    (entry : Entry) → from ≤ section_of entry → section_of entry < to → IsNoneOf (word_of entry) text
-
 pub below_four : (entry : Entry) → section_of entry < 4
 below_four (Entry.question q) = omega arith
 below_four entry = omega arith
@@ -289,14 +279,6 @@ pub none_step : (from section : ℕ) (word text : List ℕ) → word ≡ word_in
     → IsNoneOf word text → NoneFrom from (section + 1) text
 none_step from section word text same none here entry =
     none_case from section word text same none here entry (nat_eq (section_of entry) section) refl
-
--- past lines of a section, those of earlier ones are over
-pub none_past : (to from section : ℕ) (text ahead : List ℕ) → IsReached to from section text ahead
-    → NoneFrom from section text → NoneFrom to section ahead
-none_past to from section text ahead (inl same) none entry after before = absurd (omega (arith, same, after, before))
-none_past to from section text ahead (inr same) none entry after before =
-    let first = same.0 in
-    subst (IsNoneOf (word_of entry)) (sym same.1) (none entry (omega (arith, first, after)) before)
 
 -- ---- the sections
 

@@ -55,8 +55,8 @@ spelled_low (x ∷ text) (y ∷ name) same low =
     let more = spelled_low text name rest parts.1 in
     cc (one, more)
 
-read_ascii : (word : List ℕ) (names : Names) (text : List ℕ) (n : ℕ) → is_low word ≡ true → all_named is_low names ≡ true
-    → Reads word names text n → IsAscii text
+read_ascii : (word : List ℕ) (names : Names) (text : List ℕ) (n : ℕ) → is_low word ≡ true
+    → all_named is_low names ≡ true → Reads word names text n → IsAscii text
 read_ascii word names text n low all (inl is) =
     low_ascii text (spelled_low text is.name is.spelled (named_so is_low names (n, is.name) all is.named))
 read_ascii word names text n low all (inr is) =
