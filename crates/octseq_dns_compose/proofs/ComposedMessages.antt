@@ -21,7 +21,7 @@ use Rattle.octseq_dns_compose.proofs.PlainData.{says_alone}
 use Rattle.octseq_dns_compose.proofs.ShownMessages.{AreRows, message_shown}
 use Rattle.octseq_dns_compose.proofs.ShownRecords.{record_fit}
 use Rattle.octseq_dns.specs.Contents.{Message, Question, Record}
-use Rattle.octseq_dns.specs.Writes.{all_more, more_answers, more_authorities, more_questions}
+use Rattle.octseq_dns.specs.Writes.{all_more, more_additionals, more_answers, more_authorities, more_questions}
 use Rattle.octseq_dns_message.specs.declared.header.Header.{Header}
 use Rattle.octseq_dns_compose.specs.MessageShown.{IsMessageOf, SaysLines, entries_said}
 use Rattle.octseq_dns_compose.specs.MessageText.{Entry, IsMessageText, IsRecordOf, IsWith, IsWithAll, Said, SayEntries}
@@ -36,67 +36,43 @@ split_all m all (x ∷ xs) ys (more, one, rest) =
     let (mid, front, after) = split_all more all xs ys rest in
     (mid, (more, one, front), after)
 
--- A section of a message: its values, and the message with others.
-record IsPlace {A : Type 0} (get : Message → List A) (put : Message → List A → Message) : Type 0 where
-  same : (m : Message) → put m (get m) ≡ m
-  last : (m : Message) (xs ys : List A) → put (put m xs) ys ≡ put m ys
-  there : (m : Message) (xs : List A) → get (put m xs) ≡ xs
-
-module _ {A : Type 0} (get : Message → List A) (put : Message → List A → Message) (place : IsPlace get put) where
-  none_put : (m : Message) → put m (get m ++ []) ≡ m
-  none_put m = ap (put m) (append-nil (get m)) ∙ place.same m
-
-  -- one more value, and then others
-  then_put : (m more : Message) (x : A) (xs : List A) → more ≡ put m (get m ++ x ∷ [])
-      → put more (get more ++ xs) ≡ put m (get m ++ x ∷ xs)
-  then_put m more x xs is =
-      let one = get m ++ x ∷ [] in
-      ap (λ (n : Message). put n (get n ++ xs)) is ∙ place.last m one (get (put m one) ++ xs)
-      ∙ ap (λ l. put m (l ++ xs)) (place.there m one) ∙ ap (put m) (append_assoc (get m) (x ∷ []) xs)
-
-  all_put : (m : Message) (xs : List A) → all_more (λ n x. put n (get n ++ x ∷ [])) m xs ≡ put m (get m ++ xs)
-  all_put m [] = sym (none_put m)
-  all_put m (x ∷ xs) =
-      let more = put m (get m ++ x ∷ []) in
-      all_put more xs ∙ then_put m more x xs refl
-
-  -- entries of the section, each with a value of it
-  module _ {S : Type 0} (make : S → Entry) (Is : S → A → Type 0)
-      (one : (m more : Message) (s : S) → IsWith m (make s) more → (x : A) × Is s x × (more ≡ put m (get m ++ x ∷ [])))
-    where
-      entries_put : (m mid : Message) (said : List S) → IsWithAll m (map make said) mid
-          → (xs : List A) × AllZip Is said xs × (mid ≡ put m (get m ++ xs))
-      entries_put m mid [] is = ([], tt, is ∙ sym (none_put m))
-      entries_put m mid (s ∷ said) (more, first, rest) =
-          let (x, is, same) = one m more s first in
-          let (xs, are, all) = entries_put more mid said rest in
-          (x ∷ xs, (is, are), all ∙ then_put m more x xs same)
+-- entries of a section, each with a value of it
+all_made : {A S : Type 0} (make : S → Entry) (Is : S → A → Type 0) (more : Message → A → Message)
+    → ((m all : Message) (s : S) → IsWith m (make s) all → (x : A) × Is s x × (all ≡ more m x)) → (m all : Message)
+    (said : List S) → IsWithAll m (map make said) all
+    → (xs : List A) × AllZip Is said xs × (all ≡ all_more more m xs)
+all_made make Is more one m all [] is = ([], tt, is)
+all_made make Is more one m all (s ∷ said) (next, first, rest) =
+    let (x, is, same) = one m next s first in
+    let (xs, are, others) = all_made make Is more one next all said rest in
+    (x ∷ xs, (is, are), others ∙ ap (λ n. all_more more n xs) same)
 
 -- ---- the sections
 
-abbrev put_questions : Message → List Question → Message
-put_questions m xs = record m { questions = xs }
+all_questions : (m : Message) (xs : List Question)
+    → all_more more_questions m xs ≡ record m { questions = m.questions ++ xs }
+all_questions m [] = λ i. record m { questions = sym (append-nil m.questions) i }
+all_questions m (x ∷ xs) =
+    all_questions (more_questions m x) xs ∙ (λ i. record m { questions = append_assoc m.questions (x ∷ []) xs i })
 
-abbrev put_answers : Message → List Record → Message
-put_answers m xs = record m { answers = xs }
+all_answers : (m : Message) (xs : List Record) → all_more more_answers m xs ≡ record m { answers = m.answers ++ xs }
+all_answers m [] = λ i. record m { answers = sym (append-nil m.answers) i }
+all_answers m (x ∷ xs) =
+    all_answers (more_answers m x) xs ∙ (λ i. record m { answers = append_assoc m.answers (x ∷ []) xs i })
 
-abbrev put_authorities : Message → List Record → Message
-put_authorities m xs = record m { authorities = xs }
+all_authorities : (m : Message) (xs : List Record)
+    → all_more more_authorities m xs ≡ record m { authorities = m.authorities ++ xs }
+all_authorities m [] = λ i. record m { authorities = sym (append-nil m.authorities) i }
+all_authorities m (x ∷ xs) =
+    all_authorities (more_authorities m x) xs
+    ∙ (λ i. record m { authorities = append_assoc m.authorities (x ∷ []) xs i })
 
-abbrev put_additionals : Message → List Record → Message
-put_additionals m xs = record m { additionals = xs }
-
-questions_place : IsPlace (λ (m : Message). m.questions) put_questions
-questions_place = record { same = λ m. refl; last = λ m xs ys. refl; there = λ m xs. refl }
-
-answers_place : IsPlace (λ (m : Message). m.answers) put_answers
-answers_place = record { same = λ m. refl; last = λ m xs ys. refl; there = λ m xs. refl }
-
-authorities_place : IsPlace (λ (m : Message). m.authorities) put_authorities
-authorities_place = record { same = λ m. refl; last = λ m xs ys. refl; there = λ m xs. refl }
-
-additionals_place : IsPlace (λ (m : Message). m.additionals) put_additionals
-additionals_place = record { same = λ m. refl; last = λ m xs ys. refl; there = λ m xs. refl }
+all_additionals : (m : Message) (xs : List Record)
+    → all_more more_additionals m xs ≡ record m { additionals = m.additionals ++ xs }
+all_additionals m [] = λ i. record m { additionals = sym (append-nil m.additionals) i }
+all_additionals m (x ∷ xs) =
+    all_additionals (more_additionals m x) xs
+    ∙ (λ i. record m { additionals = append_assoc m.additionals (x ∷ []) xs i })
 
 abbrev message_with : Header → List Question → List Record → List Record → List Record → Message
 message_with header questions answers authorities additionals = record {
@@ -113,14 +89,10 @@ whole_is header questions rs us ds =
     let m1 = all_more more_questions (headed_message header) questions in
     let m2 = all_more more_answers m1 rs in
     let m3 = all_more more_authorities m2 us in
-    let m0 = headed_message header in
-    let first = all_put (λ (m : Message). m.questions) put_questions questions_place m0 questions in
-    let second = all_put (λ (m : Message). m.answers) put_answers answers_place m1 rs in
-    let third = all_put (λ (m : Message). m.authorities) put_authorities authorities_place m2 us in
-    let fourth = all_put (λ (m : Message). m.additionals) put_additionals additionals_place m3 ds in
-    fourth ∙ ap (λ (m : Message). put_additionals m (m.additionals ++ ds))
-    (third ∙ ap (λ (m : Message). put_authorities m (m.authorities ++ us))
-    (second ∙ ap (λ (m : Message). put_answers m (m.answers ++ rs)) first))
+    all_additionals m3 ds ∙ ap (λ (m : Message). record m { additionals = m.additionals ++ ds })
+    (all_authorities m2 us ∙ ap (λ (m : Message). record m { authorities = m.authorities ++ us })
+    (all_answers m1 rs ∙ ap (λ (m : Message). record m { answers = m.answers ++ rs })
+    (all_questions (headed_message header) questions)))
 
 -- what entries say of a message
 message_of : (header : Header) (questions : List Question) (answers authorities additionals : List Said) (m : Message)
@@ -135,18 +107,16 @@ message_of header questions answers authorities additionals m is =
     let (m2, two, rest2) = split_all m1 m (map Entry.answer answers) e2 rest1 in
     let (m3, three, rest3) = split_all m2 m (map Entry.authority authorities) e3 rest2 in
     let (m4, four, same) = split_all m3 m (map Entry.additional additionals) [] rest3 in
-    let (qs, q_are, q_is) = entries_put (λ (n : Message). n.questions) put_questions questions_place Entry.question
-    (λ q other. other ≡ q) (λ n more q it. (q, refl, it)) m0 m1 questions one in
-    let (rs, r_are, r_is) = entries_put (λ (n : Message). n.answers) put_answers answers_place Entry.answer IsRecordOf
-    (λ n more s it. it) m1 m2 answers two in
-    let (us, u_are, u_is) = entries_put (λ (n : Message). n.authorities) put_authorities authorities_place
-    Entry.authority IsRecordOf (λ n more s it. it) m2 m3 authorities three in
-    let (ds, d_are, d_is) = entries_put (λ (n : Message). n.additionals) put_additionals additionals_place
-    Entry.additional IsRecordOf (λ n more s it. it) m3 m4 additionals four in
+    let (qs, q_are, q_is) = all_made Entry.question (λ q other. other ≡ q) more_questions (λ n more q it. (q, refl, it))
+    m0 m1 questions one in
+    let (rs, r_are, r_is) = all_made Entry.answer IsRecordOf more_answers (λ n more s it. it) m1 m2 answers two in
+    let (us, u_are, u_is) =
+    all_made Entry.authority IsRecordOf more_authorities (λ n more s it. it) m2 m3 authorities three in
+    let (ds, d_are, d_is) =
+    all_made Entry.additional IsRecordOf more_additionals (λ n more s it. it) m3 m4 additionals four in
     let all : m ≡ message_with header qs rs us ds =
-    same ∙ d_is ∙ ap (λ (n : Message). put_additionals n (n.additionals ++ ds))
-    (u_is ∙ ap (λ (n : Message). put_authorities n (n.authorities ++ us))
-    (r_is ∙ ap (λ (n : Message). put_answers n (n.answers ++ rs)) q_is)) in
+    same ∙ d_is ∙ ap (λ n. all_more more_additionals n ds) (u_is ∙ ap (λ n. all_more more_authorities n us)
+    (r_is ∙ ap (λ n. all_more more_answers n rs) q_is)) ∙ whole_is header qs rs us ds in
     record {
       header_is = ap (λ (n : Message). n.header) all;
       questions_are = ap (λ (n : Message). n.questions) all ∙ each_same questions qs q_are;

@@ -1,29 +1,30 @@
 -- The text of a message, section by section.
 use Rattle.std.proofs.Common.{◌≡◌, ◌⊎◌, ℕ, ◌+◌, ◌≤◌, Option, Some, None, List, [], ◌∷◌, ◌++◌, map, length, codes}
-use Rattle.std.proofs.Common.{Bool, true, append_assoc, refl, sym, ap, ◌∙◌, subst, inl, inr, arith}
+use Rattle.std.proofs.Common.{Bool, true, refl, sym, ap, ◌∙◌, subst, inl, inr, arith}
 use Rattle.std.proofs.lemmas.List.{length-append}
 use Rattle.std.specs.List.{AllByRecursion, AllZip}
 use Rattle.octseq.specs.Limit.{IsPast, IsWithin}
-use Rattle.octseq_dns.specs.Contents.{Message, Question, Record, counts_of, entries_of}
+use Rattle.octseq_dns.specs.Contents.{Message, Record, counts_of, entries_of}
 use Rattle.octseq_dns.specs.Writes.{Building, Writes, all_more, least_limit, more_additionals, more_answers}
 use Rattle.octseq_dns.specs.Writes.{more_authorities, more_questions}
 use Rattle.octseq_dns_compress.specs.Composed.{message_limit}
 use Rattle.octseq_dns_message.specs.declared.header.Header.{Header}
 use Rattle.octseq_dns_message.specs.declared.header.HeaderCounts.{HeaderCounts}
 use Rattle.octseq_dns_compose.specs.HeaderLine.{IsHeaderLine}
-use Rattle.octseq_dns_compose.specs.MessageText.{AreEntries, Entry, HasRead, HasWritten, IsAnyText, IsMessageText}
-use Rattle.octseq_dns_compose.specs.MessageText.{IsQuestionLine, IsStop}
-use Rattle.octseq_dns_compose.specs.MessageText.{IsRecordLine, IsRecordOf, IsWith, IsWithAll, Said, SayEntries}
+use Rattle.octseq_dns_compose.specs.MessageText.{AreEntries, Entry, IsAnyText, IsMessageText}
+use Rattle.octseq_dns_compose.specs.MessageText.{IsQuestionLine}
+use Rattle.octseq_dns_compose.specs.MessageText.{IsRecordLine, IsWith, IsWithAll, Said, SayEntries}
 use Rattle.octseq_dns_compose.specs.MessageText.{headed_message, section_of}
+use Rattle.octseq_dns_compose.specs.Progress.{ExceedsNext, HasPushed, HasRead, IsAsked, IsSmallRecord, PushedUpTo}
 use Rattle.octseq_dns_compose.specs.QuestionText.{IsAnyQuestion}
 use Rattle.octseq_dns_compose.specs.RecordText.{IsAnyRecord}
-use Rattle.octseq_dns_compose.specs.TextLines.{IsLineFault, IsLongLine, IsNoneOf, TakesLine}
-use Rattle.octseq_dns_compose.specs.TooLong.{BeginsWithEntries, Exceeds, ExceedsWith, HasListLine, IsListLine}
-use Rattle.octseq_dns_compose.specs.TooLong.{IsRecordWord, IsTooLong, ReadUpTo, data_octets}
-use Rattle.octseq_dns_compose.proofs.LineFaults.{LeadsLines, Line, led_line_fault, lines_end, lines_more}
-use Rattle.octseq_dns_compose.proofs.MessageFaults.{AnyEntries, IsSection, NoneFrom, SaysAs, after_header, none_step}
-use Rattle.octseq_dns_compose.proofs.MessageFaults.{of_additionals, of_answers, of_authorities, of_questions}
-use Rattle.octseq_dns_compose.proofs.MessageFaults.{other_fault, past_section, reached_most, stop_fault}
+use Rattle.octseq_dns_compose.specs.TextLines.{IsFaultyLine, IsLineFault, IsLongLine, IsNoneOf, TakesLine}
+use Rattle.octseq_dns_compose.specs.TooLong.{BeginsWithEntries, Exceeds, HasListLine, IsListLine}
+use Rattle.octseq_dns_compose.specs.TooLong.{IsRecordWord, IsTooLong, data_octets}
+use Rattle.octseq_dns_compose.proofs.LineFaults.{LeadsLines, Line, leads_on, led_line_fault, lines_end, lines_more}
+use Rattle.octseq_dns_compose.proofs.MessageFaults.{AnyEntries, IsSection, NoneFrom, SaysAs, after_header, entry_fault}
+use Rattle.octseq_dns_compose.proofs.MessageFaults.{of_questions, of_records, section_in, word_in}
+use Rattle.octseq_dns_compose.proofs.MessageFaults.{none_step, other_fault, past_section}
 use Rattle.octseq_dns_compose.proofs.Overrun.{counts_most, header_past, past_limit}
 
 -- ---- entries after others
@@ -39,10 +40,10 @@ weaker from to entries (words ∷ lines) less are =
 abbrev UpTo : ℕ → List Entry → Type 0
 UpTo section entries = AllByRecursion (λ entry. section_of entry ≤ section) entries
 
-up_to_more : (section : ℕ) (entries others : List Entry) → UpTo section entries → UpTo section others
-    → UpTo section (entries ++ others)
-up_to_more section [] others are more = more
-up_to_more section (entry ∷ entries) others are more = (are.0, up_to_more section entries others are.1 more)
+all_append : {A : Type 0} (P : A → Type 0) (xs ys : List A) → AllByRecursion P xs → AllByRecursion P ys
+    → AllByRecursion P (xs ++ ys)
+all_append P [] ys are more = more
+all_append P (x ∷ xs) ys are more = (are.0, all_append P xs ys are.1 more)
 
 up_to_later : (from section : ℕ) (entries : List Entry) → from ≤ section → UpTo from entries → UpTo section entries
 up_to_later from section [] less are = tt
@@ -76,8 +77,6 @@ pub section_entries : {A : Type 0} (make : A → Entry) (IsText : A → Line →
     (lines : List Line) → SaysAs make IsText section → from ≤ section → AllZip IsText values lines
     → AreEntries from (map make values) lines
 section_entries make IsText section from [] [] says less all = refl
-section_entries make IsText section from [] (words ∷ lines) says less all = absurd all
-section_entries make IsText section from (a ∷ values) [] says less all = absurd all
 section_entries make IsText section from (a ∷ values) (words ∷ lines) says less all =
     let here = says.of a in (
       make a,
@@ -87,6 +86,7 @@ section_entries make IsText section from (a ∷ values) (words ∷ lines) says l
       says.is a words all.0,
       section_entries make IsText section (section_of (make a)) values lines says (omega (arith, here)) all.1,
     )
+section_entries make IsText section from values lines says less all = absurd all
 
 pub section_up_to : {A : Type 0} (make : A → Entry) (section : ℕ) (values : List A)
     → ((a : A) → section_of (make a) ≡ section) → UpTo section (map make values)
@@ -108,22 +108,19 @@ pub record SaidUpTo (text ahead : List ℕ) (now next : ℕ) : Type 0 where
   pub leads : LeadsLines IsAnyText (AnyEntries to) front.lines
   pub none : NoneFrom to next ahead
 
--- They are those of a message, which is written with no push limit.
-pub record Stage {B T : Type 0} (most : ℕ) (text ahead : List ℕ) (now next : ℕ) (b : Building B T) : Type 0 where
+abbrev pub IsSmall : Entry → Type 0
+IsSmall entry = length (data_octets entry) ≤ 65535
+
+-- They are those of a message, which is written within a limit, with no push limit, and none has long data.
+pub record Stage {B T : Type 0} (most : ℕ) (limit : Option ℕ) (text ahead : List ℕ) (now next : ℕ)
+    (b : Building B T) : Type 0 where
   pub said : SaidUpTo text ahead now next
   pub m : Message
   pub message_is : IsWithAll (headed_message said.front.header) said.front.entries m
+  pub small : AllByRecursion IsSmall said.front.entries
   pub writes : Writes most m b.state b.header b.counts
+  pub within : IsWithin (message_limit limit) (length b.state.octets)
   pub free : b.push_limit ≡ None
-
-pub same_stage : {B T : Type 0} {most : ℕ} {text ahead : List ℕ} {now next : ℕ} {a b : Building B T} → b ≡ a
-    → Stage most text ahead now next a → Stage most text ahead now next b
-same_stage {most = most} {text = text} {ahead = ahead} {now = now} {next = next} same =
-    subst (Stage most text ahead now next) (sym same)
-
-pub within_same : {B T : Type 0} (limit : Option ℕ) (a b : Building B T) → b ≡ a
-    → IsWithin limit (length a.state.octets) → IsWithin limit (length b.state.octets)
-within_same limit a b same = subst (λ (x : Building _ _). IsWithin limit (length x.state.octets)) (sym same)
 
 abbrev header_front : (text ahead : List ℕ) (header : Header) (first : Line) → TakesLine first text ahead
     → IsHeaderLine header first → BeginsWithEntries text ahead
@@ -140,26 +137,31 @@ abbrev ReadsHeader : (text ahead : List ℕ) (number now : ℕ) → Header → T
 ReadsHeader text ahead number now header =
     (first : Line) × TakesLine first text ahead × IsHeaderLine header first × (now ≡ number + 1)
 
-pub header_stage : {B T : Type 0} {most : ℕ} {text whole ahead : List ℕ} {number now : ℕ} (header : Header)
-    (b : Building B T) → whole ≡ text → number ≡ 1 → ReadsHeader whole ahead number now header
-    → Writes most (headed_message header) b.state b.header b.counts → b.push_limit ≡ None
-    → Stage most text ahead now 0 b
-header_stage {text = text} {ahead = ahead} header b same one read writes free = record {
-  said = record {
-    front = header_front text ahead header read.0 (subst (λ t. TakesLine read.0 t ahead) same read.1) read.2;
-    last = tt;
-    place = let two = read.3 in omega (arith, one, two);
-    to = 0;
-    less = omega arith;
-    few = omega arith;
-    leads = after_header header read.0 read.2;
-    none = λ entry after before. absurd (omega (arith, before));
-  };
-  m = headed_message header;
-  message_is = refl;
-  writes = writes;
-  free = free;
-}
+pub header_stage : {B T : Type 0} {most : ℕ} {limit : Option ℕ} {text whole ahead : List ℕ} {number now : ℕ}
+    {b other : Building B T} (header : Header) → other ≡ b → whole ≡ text → number ≡ 1
+    → ReadsHeader whole ahead number now header → Writes most (headed_message header) b.state b.header b.counts
+    → IsWithin (message_limit limit) (length b.state.octets) → b.push_limit ≡ None
+    → Stage most limit text ahead now 0 other
+header_stage {most = most} {limit = limit} {text = text} {ahead = ahead} {now = now} header also same one read writes
+    within free =
+    subst (Stage most limit text ahead now 0) (sym also) (record {
+      said = record {
+        front = header_front text ahead header read.0 (subst (λ t. TakesLine read.0 t ahead) same read.1) read.2;
+        last = tt;
+        place = let two = read.3 in omega (arith, one, two);
+        to = 0;
+        less = omega arith;
+        few = omega arith;
+        leads = after_header header read.0 read.2;
+        none = λ entry after before. absurd (omega (arith, before));
+      };
+      m = headed_message header;
+      message_is = refl;
+      small = tt;
+      writes = writes;
+      within = within;
+      free = free;
+    })
 
 pub long_header : {text whole ahead : List ℕ} {now : ℕ} (number most : ℕ) (limit : Option ℕ) (header : Header)
     → whole ≡ text → ReadsHeader whole ahead number now header → IsPast limit 12
@@ -181,13 +183,6 @@ says_more lines more header entries others section say last are = record {
   lines_are = ap (λ l. l ++ more) say.lines_are;
   header_is = say.header_is;
   entries_are = entries_after 0 section entries others say.others more (omega arith) say.entries_are last are;
-}
-
-leads_on : {Is Mid Rest : List Line → Type 0} (front more : List Line) → LeadsLines Is Mid front
-    → LeadsLines Mid Rest more → LeadsLines Is Rest (front ++ more)
-leads_on {Is = Is} front more one two = record {
-  into = λ lines rest. subst Is (sym (append_assoc front more lines)) (one.into (more ++ lines) (two.into lines rest));
-  out = λ lines all. two.out lines (one.out (more ++ lines) (subst Is (append_assoc front more lines) all));
 }
 
 -- ---- one section more
@@ -217,38 +212,55 @@ module _ {A : Type 0} {make : A → Entry} {IsText : A → Line → Type 0} {sec
 
   section_last : (values : List A) → UpTo section (now.front.entries ++ map make values)
   section_last values =
-      up_to_more section now.front.entries (map make values) now.last
+      all_append (λ entry. section_of entry ≤ section) now.front.entries (map make values) now.last
       (section_up_to make section values sect.says.of)
 
-  abbrev section_said : (b : List ℕ) (j : ℕ) (values : List A) → HasRead IsText a b i j values → IsNoneOf word b
-      → SaidUpTo text b j (section + 1)
-  section_said b j values read none =
+  -- past some of its lines
+  abbrev section_said : (b : List ℕ) (j : ℕ) (values : List A) → HasRead IsText a b i j values
+      → SaidUpTo text b j section
+  section_said b j values read =
       let front = now.front in
       let past =
       past_section make IsText section now.to values read.lines a b sect.says now.less read.begins read.are in
-      let most = reached_most past.to now.to section a b now.less past.reached in
+      let most = past.most in
       let small = sect.few in
       record {
         front = section_front b j values read;
-        last = up_to_later section (section + 1) _ (omega arith) (section_last values);
+        last = section_last values;
         place =
             let size = length-append front.lines read.lines in
             let first = now.place in
             let here = read.place in
             omega (arith, size, first, here);
         to = past.to;
-        less = omega (arith, most);
+        less = most;
         few = omega (arith, most, small);
         leads = leads_on front.lines read.lines now.leads past.leads;
-        none = none_step now.to past.to section word a b sect.of.word_is now.none none past.reached;
+        none = past.none now.none;
       }
 
-  pub stop_at : {number offset : ℕ} → IsStop IsText word Texts a i number offset
+  -- past all of them
+  abbrev section_over : IsNoneOf word a → SaidUpTo text a i (section + 1)
+  section_over none =
+      let less = now.less in
+      record {
+        front = now.front;
+        last = up_to_later section (section + 1) now.front.entries (omega arith) now.last;
+        place = now.place;
+        to = now.to;
+        less = omega (arith, less);
+        few = now.few;
+        leads = now.leads;
+        none = none_step now.to section word a sect.of.word_is now.none none;
+      }
+
+  pub stop_at : {number offset : ℕ} → number ≡ i → IsFaultyLine word Texts a offset
       → IsLineFault IsAnyText text 1 number offset
-  stop_at {number = number} {offset = offset} stop =
+  stop_at {number = number} {offset = offset} same fault =
       led_line_fault IsAnyText (AnyEntries now.to) now.front.lines now.leads text a 1 i number offset now.front.begins
       now.place
-      (stop_fault make IsText section now.to word Texts a i number offset sect.says sect.of now.less stop)
+      (subst (λ n. IsLineFault (AnyEntries now.to) a i n offset) (sym same)
+      (entry_fault section now.to word Texts a i offset sect.of now.less fault))
 
 pub end_at : {text ahead : List ℕ} {now : ℕ} → SaidUpTo text ahead now 4 → ¬ (ahead ≡ [])
     → IsLineFault IsAnyText text 1 now 0
@@ -258,77 +270,79 @@ end_at {text = text} {ahead = ahead} {now = now} said some =
 
 -- ---- the sections
 
-pub questions : Section Entry.question IsQuestionLine 0 (codes "question") IsAnyQuestion
-questions =
-    record { says = record { of = λ q. refl; is = λ q words is. is }; of = of_questions; few = omega arith }
-
-pub with_questions : (m : Message) (all : List Question)
-    → IsWithAll m (map Entry.question all) (all_more more_questions m all)
-with_questions m [] = refl
-with_questions m (q ∷ all) = (more_questions m q, refl, with_questions (more_questions m q) all)
-
--- A section of records: its records in a message, and their count.
-pub record Records (make : Said → Entry) (section : ℕ) (word : List ℕ) (more : Message → Record → Message)
-    (count : HeaderCounts → ℕ) : Type 0 where
-  pub sect : Section make (IsRecordLine word) section word (IsAnyRecord None)
-  pub adds : (m : Message) (said : Said) (r : Record) → IsRecordOf said r → IsWith m (make said) (more m r)
-  pub octets : (said : Said) → data_octets (make said) ≡ said.octets
+-- A section that is pushed: its entries in a message, and their count.
+pub record Pushes {A R : Type 0} (make : A → Entry) (IsText : A → Line → Type 0) (Is : A → R → Type 0)
+    (more : Message → R → Message) (count : HeaderCounts → ℕ) (section : ℕ) (word : List ℕ)
+    (Texts : Line → List ℕ → Type 0) : Type 0 where
+  pub sect : Section make IsText section word Texts
+  pub adds : (m : Message) (a : A) (r : R) → Is a r → IsWith m (make a) (more m r)
+  pub small : (a : A) (r : R) → Is a r → IsSmall (make a)
   pub counted : (m : Message) → count (counts_of m) ≤ length (entries_of m)
-  pub named : IsRecordWord word
 
-pub answers : Records Entry.answer 1 (codes "answer") more_answers (λ counts. counts.ancount)
+abbrev pub PushesRecords : (Said → Entry) → (Message → Record → Message) → (HeaderCounts → ℕ) → ℕ → List ℕ → Type 0
+PushesRecords make more count section word =
+    Pushes make (IsRecordLine word) (IsSmallRecord (Some 65535)) more count section word (IsAnyRecord None)
+
+pub questions : Pushes Entry.question IsQuestionLine IsAsked more_questions (λ counts. counts.qdcount) 0
+    (codes "question") IsAnyQuestion
+questions = record {
+  sect = record { says = record { of = λ q. refl; is = λ q words is. is }; of = of_questions; few = omega arith };
+  adds = λ m q asked is. ap (more_questions m) is;
+  small = λ q asked is. omega arith;
+  counted = λ m. (counts_most m).0;
+}
+
+record_section : (make : Said → Entry) (section : ℕ) (word : List ℕ) → SaysAs make (IsRecordLine word) section
+    → section_in word ≡ section → word ≡ word_in section → 1 ≤ section → section ≤ 3
+    → Section make (IsRecordLine word) section word (IsAnyRecord None)
+record_section make section word says first is late few =
+    record { says = says; of = of_records make section word says first is late; few = few }
+
+pub answers : PushesRecords Entry.answer more_answers (λ counts. counts.ancount) 1 (codes "answer")
 answers = record {
-  sect = record {
-    says = record { of = λ said. refl; is = λ said words is. is };
-    of = of_answers;
-    few = omega arith;
-  };
-  adds = λ m said r is. (r, is, refl);
-  octets = λ said. refl;
+  sect = record_section Entry.answer 1 (codes "answer") (record { of = λ said. refl; is = λ said words is. is })
+      refl refl (omega arith) (omega arith);
+  adds = λ m said r is. (r, is.0, refl);
+  small = λ said r is. is.1;
   counted = λ m. (counts_most m).1;
-  named = inl refl;
 }
 
-pub authorities : Records Entry.authority 2 (codes "authority") more_authorities (λ counts. counts.nscount)
+pub authorities : PushesRecords Entry.authority more_authorities (λ counts. counts.nscount) 2 (codes "authority")
 authorities = record {
-  sect = record {
-    says = record { of = λ said. refl; is = λ said words is. is };
-    of = of_authorities;
-    few = omega arith;
-  };
-  adds = λ m said r is. (r, is, refl);
-  octets = λ said. refl;
+  sect = record_section Entry.authority 2 (codes "authority") (record { of = λ said. refl; is = λ said words is. is })
+      refl refl (omega arith) (omega arith);
+  adds = λ m said r is. (r, is.0, refl);
+  small = λ said r is. is.1;
   counted = λ m. (counts_most m).2;
-  named = inr (inl refl);
 }
 
-pub additionals : Records Entry.additional 3 (codes "additional") more_additionals (λ counts. counts.arcount)
+pub additionals : PushesRecords Entry.additional more_additionals (λ counts. counts.arcount) 3 (codes "additional")
 additionals = record {
-  sect = record {
-    says = record { of = λ said. refl; is = λ said words is. is };
-    of = of_additionals;
-    few = omega arith;
-  };
-  adds = λ m said r is. (r, is, refl);
-  octets = λ said. refl;
+  sect = record_section Entry.additional 3 (codes "additional") (record { of = λ said. refl; is = λ said words is. is })
+      refl refl (omega arith) (omega arith);
+  adds = λ m said r is. (r, is.0, refl);
+  small = λ said r is. is.1;
   counted = λ m. (counts_most m).3;
-  named = inr (inr refl);
 }
 
-module _ {make : Said → Entry} {section : ℕ} {word : List ℕ} {more : Message → Record → Message}
-    {count : HeaderCounts → ℕ} (records : Records make section word more count) where
-  pub with_records : (m : Message) (said : List Said) (all : List Record) → AllZip IsRecordOf said all
-      → IsWithAll m (map make said) (all_more more m all)
-  with_records m [] [] are = refl
-  with_records m [] (r ∷ all) are = absurd are
-  with_records m (s ∷ said) [] are = absurd are
-  with_records m (s ∷ said) (r ∷ all) are =
-      (more m r, records.adds m s r are.0, with_records (more m r) said all are.1)
+pub with_values : {A R : Type 0} (make : A → Entry) (Is : A → R → Type 0) (more : Message → R → Message)
+    → ((m : Message) (a : A) (r : R) → Is a r → IsWith m (make a) (more m r)) → (m : Message) (values : List A)
+    (all : List R) → AllZip Is values all → IsWithAll m (map make values) (all_more more m all)
+with_values make Is more adds m [] [] are = refl
+with_values make Is more adds m (a ∷ values) (r ∷ all) are =
+    (more m r, adds m a r are.0, with_values make Is more adds (more m r) values all are.1)
+with_values make Is more adds m values all are = absurd are
+
+all_small : {A R : Type 0} (make : A → Entry) (Is : A → R → Type 0) → ((a : A) (r : R) → Is a r → IsSmall (make a))
+    → (values : List A) (all : List R) → AllZip Is values all → AllByRecursion IsSmall (map make values)
+all_small make Is small [] all are = tt
+all_small make Is small (a ∷ values) [] are = absurd are
+all_small make Is small (a ∷ values) (r ∷ all) are = (small a r are.0, all_small make Is small values all are.1)
 
 -- ---- texts that are read, and texts that are too long
 
-pub whole_text : {B T : Type 0} {most : ℕ} {text ahead : List ℕ} {i next : ℕ} {b : Building B T}
-    (now : Stage most text ahead i next b) → ahead ≡ [] → IsMessageText text now.m
+pub whole_text : {B T : Type 0} {most : ℕ} {limit : Option ℕ} {text ahead : List ℕ} {i next : ℕ} {b : Building B T}
+    (now : Stage most limit text ahead i next b) → ahead ≡ [] → IsMessageText text now.m
 whole_text {text = text} {ahead = ahead} now over =
     let front = now.said.front in
     record {
@@ -340,86 +354,93 @@ whole_text {text = text} {ahead = ahead} now over =
       message_is = now.message_is;
     }
 
-module _ {A : Type 0} {make : A → Entry} {IsText : A → Line → Type 0} {section : ℕ} {word : List ℕ}
-    {Texts : Line → List ℕ → Type 0} (sect : Section make IsText section word Texts) {B T : Type 0} {most : ℕ}
-    {text a : List ℕ} {i : ℕ} {before : Building B T} (now : Stage most text a i section before) where
-  -- more entries are in the message
-  section_message : (values : List A) (then : Message) → IsWithAll now.m (map make values) then
-      → IsWithAll (headed_message now.said.front.header) (now.said.front.entries ++ map make values) then
-  section_message values then more =
+module _ {A R : Type 0} {make : A → Entry} {IsText : A → Line → Type 0} {Is : A → R → Type 0}
+    {more : Message → R → Message} {count : HeaderCounts → ℕ} {section : ℕ} {word : List ℕ}
+    {Texts : Line → List ℕ → Type 0} (of : Pushes make IsText Is more count section word Texts) {B T : Type 0}
+    {most : ℕ} {limit : Option ℕ} {text a : List ℕ} {i : ℕ} {before : Building B T}
+    (now : Stage most limit text a i section before) where
+  -- more of its entries are in the message
+  pub stage_on : {b : List ℕ} {j : ℕ} {after : Building B T}
+      → HasPushed IsText Is most (message_limit limit) more a b i j before after
+      → Stage most limit text b j section after
+  stage_on {b = b} {j = j} pushed =
       let front = now.said.front in
-      with_more (headed_message front.header) now.m then front.entries (map make values) now.message_is more
-
-  -- and make it too long
-  long_message : (limit : Option ℕ) (count : HeaderCounts → ℕ) (b : List ℕ) (j : ℕ) (values : List A) (then : Message)
-      → ((m : Message) → count (counts_of m) ≤ length (entries_of m)) → HasRead IsText a b i j values
-      → IsWithAll now.m (map make values) then
-      → Exceeds most (least_limit before.push_limit (message_limit limit)) count then
-      → IsTooLong most (message_limit limit) text
-  long_message limit count b j values then counted read more exceeds = inl (record {
-    ahead = b;
-    front = section_front sect now.said b j values read;
-    m = then;
-    message_is = section_message values then more;
-    past = past_limit most limit count then (counted then)
-        (subst (λ l. Exceeds most (least_limit l (message_limit limit)) count then) now.free exceeds);
-  })
-
-module _ {B T : Type 0} {most : ℕ} {text a : List ℕ} {i : ℕ} {before : Building B T}
-    (now : Stage most text a i 0 before) where
-  pub questions_stage : {b : List ℕ} {j : ℕ} (after : Building B T) → (all : List Question)
-      × HasRead IsQuestionLine a b i j all × IsNoneOf (codes "question") b
-      × ((m : Message) → Writes most m before.state before.header before.counts
-      → Writes most (all_more more_questions m all) after.state after.header after.counts)
-      → after.push_limit ≡ before.push_limit → Stage most text b j 1 after
-  questions_stage {b = b} {j = j} after (all, read, none, written) limit = record {
-    said = section_said questions now.said b j all read none;
-    m = all_more more_questions now.m all;
-    message_is = section_message questions now all (all_more more_questions now.m all) (with_questions now.m all);
-    writes = written now.m now.writes;
-    free = limit ∙ now.free;
-  }
-
-  pub long_questions : (limit : Option ℕ)
-      → ReadUpTo IsQuestionLine a i (λ questions ahead. (m : Message)
-      → Writes most m before.state before.header before.counts
-      → Exceeds most (least_limit before.push_limit (message_limit limit)) (λ counts. counts.qdcount)
-      (all_more more_questions m questions))
-      → IsTooLong most (message_limit limit) text
-  long_questions limit found =
-      long_message questions now limit (λ counts. counts.qdcount) found.ahead found.now found.values
-      (all_more more_questions now.m found.values) (λ m. (counts_most m).0) found.read
-      (with_questions now.m found.values) (found.is now.m now.writes)
-
-module _ {make : Said → Entry} {section : ℕ} {word : List ℕ} {more : Message → Record → Message}
-    {count : HeaderCounts → ℕ} (records : Records make section word more count) {B T : Type 0} {most : ℕ}
-    {text a : List ℕ} {i : ℕ} {before : Building B T} (now : Stage most text a i section before) where
-  pub records_stage : {b : List ℕ} {j : ℕ} (after : Building B T) → (said : List Said)
-      × HasRead (IsRecordLine word) a b i j said × IsNoneOf word b
-      × HasWritten most more said before.state after.state before.header after.header before.counts after.counts
-      → after.push_limit ≡ before.push_limit → Stage most text b j (section + 1) after
-  records_stage {b = b} {j = j} after (said, read, none, written) limit =
-      let then = all_more more now.m written.records in
+      let all = map make pushed.values in
+      let then = all_more more now.m pushed.entries in
       record {
-        said = section_said records.sect now.said b j said read none;
+        said = section_said of.sect now.said b j pushed.values pushed.read;
         m = then;
-        message_is = section_message records.sect now said then
-            (with_records records now.m said written.records written.are);
-        writes = written.written now.m now.writes;
-        free = limit ∙ now.free;
+        message_is = with_more (headed_message front.header) now.m then front.entries all now.message_is
+            (with_values make Is more of.adds now.m pushed.values pushed.entries pushed.are);
+        small = all_append IsSmall front.entries all now.small
+            (all_small make Is of.small pushed.values pushed.entries pushed.are);
+        writes = pushed.written now.m now.writes;
+        within = pushed.within now.within;
+        free = pushed.push_limit ∙ now.free;
       }
 
-  long_data : (limit : Option ℕ) (found : ReadUpTo (IsRecordLine word) a i (λ said ahead.
-      IsLongLine word (IsAnyRecord None) (Some 65535) ahead)) → IsTooLong most limit text
-  long_data limit found =
-      let long = found.is in
-      let front = section_front records.sect now.said found.ahead found.now found.values found.read in
+  -- all of them are
+  stage_over : IsNoneOf word a → Stage most limit text a i (section + 1) before
+  stage_over none = record {
+    said = section_over of.sect now.said none;
+    m = now.m;
+    message_is = now.message_is;
+    small = now.small;
+    writes = now.writes;
+    within = now.within;
+    free = now.free;
+  }
+
+  -- one more makes it too long
+  pub long_next : ExceedsNext IsText Is most (least_limit before.push_limit (message_limit limit)) count more a before
+      → IsTooLong most (message_limit limit) text
+  long_next next =
+      let front = now.said.front in
+      let one = make next.value in
+      let then = more now.m next.entry in
+      inl (record {
+        ahead = next.rest;
+        front = section_front of.sect now.said next.rest (i + 1) (next.value ∷ []) (record {
+          lines = next.words ∷ [];
+          begins = (next.rest, next.taken, refl);
+          place = refl;
+          are = (next.said, tt);
+        });
+        m = then;
+        message_is = with_more (headed_message front.header) now.m then front.entries (one ∷ []) now.message_is
+            (then, of.adds now.m next.value next.entry next.is, refl);
+        past = past_limit most limit count then (of.counted then)
+            (subst (λ l. Exceeds most (least_limit l (message_limit limit)) count then) now.free
+            (next.exceeds now.m now.writes));
+      })
+
+-- past a section
+pub stage_past : {A R : Type 0} {make : A → Entry} {IsText : A → Line → Type 0} {Is : A → R → Type 0}
+    {more : Message → R → Message} {count : HeaderCounts → ℕ} {section : ℕ} {word : List ℕ}
+    {Texts : Line → List ℕ → Type 0} (of : Pushes make IsText Is more count section word Texts) {B T : Type 0}
+    {most : ℕ} {limit : Option ℕ} {text a b : List ℕ} {i j : ℕ} {before after other : Building B T} → other ≡ after
+    → Stage most limit text a i section before
+    → HasPushed IsText Is most (message_limit limit) more a b i j before after × IsNoneOf word b
+    → Stage most limit text b j (section + 1) other
+stage_past {section = section} of {most = most} {limit = limit} {text = text} {b = b} {j = j} same now (pushed, none) =
+    subst (Stage most limit text b j (section + 1)) (sym same) (stage_over of (stage_on of now pushed) none)
+
+module _ {make : Said → Entry} {section : ℕ} {word : List ℕ} {more : Message → Record → Message}
+    {count : HeaderCounts → ℕ} (of : PushesRecords make more count section word)
+    (octets : (said : Said) → data_octets (make said) ≡ said.octets) {B T : Type 0} {most : ℕ} {limit : Option ℕ}
+    {text a : List ℕ} {i : ℕ} {before : Building B T} (now : Stage most limit text a i section before) where
+  pub long_record : ExceedsNext (IsRecordLine word) (IsSmallRecord (Some 65535)) most
+      (least_limit before.push_limit (message_limit limit)) count more a before
+      ⊎ IsLongLine word (IsAnyRecord None) (Some 65535) a → IsTooLong most (message_limit limit) text
+  long_record (inl next) = long_next of now next
+  long_record (inr long) =
+      let front = now.said.front in
       let said : Said = record { head = long.is.0; octets = long.octets } in
       let late = long.past in
-      let here = records.sect.says.of said in
-      let same = ap length (records.octets said) in
+      let here = of.sect.says.of said in
+      let same = ap length (octets said) in
       inr (record {
-        ahead = found.ahead;
+        ahead = a;
         front = front;
         line = long.line;
         after = long.after;
@@ -428,51 +449,29 @@ module _ {make : Said → Entry} {section : ℕ} {word : List ℕ} {more : Messa
         are = (long.rest, long.taken, long.are);
         entry = make said;
         say = says_more front.lines ((word ∷ long.words) ∷ []) front.header front.entries (make said ∷ []) section
-            front.say (section_last records.sect now.said found.values) (
+            front.say now.said.last (
               make said,
               [],
               refl,
               omega (arith, here),
-              records.sect.says.is said (word ∷ long.words) (refl, long.is.1),
+              of.sect.says.is said (word ∷ long.words) (refl, long.is.1),
               refl,
             );
         past = omega (arith, late, same);
       })
 
-  pub long_records : (limit : Option ℕ)
-      → ReadUpTo (IsRecordLine word) a i (λ said ahead.
-      ExceedsWith most (least_limit before.push_limit (message_limit limit)) count more said before.state before.header
-      before.counts
-      ⊎ IsLongLine word (IsAnyRecord None) (Some 65535) ahead)
-      → IsTooLong most (message_limit limit) text
-  long_records limit found = either found.is
-    where
-      either : ExceedsWith most (least_limit before.push_limit (message_limit limit)) count more found.values
-          before.state before.header before.counts
-          ⊎ IsLongLine word (IsAnyRecord None) (Some 65535) found.ahead → IsTooLong most (message_limit limit) text
-      either (inl with') =
-          long_message records.sect now limit count found.ahead found.now found.values
-          (all_more more now.m with'.records) records.counted found.read
-          (with_records records now.m found.values with'.records with'.are) (with'.exceeds now.m now.writes)
-      either (inr long) = long_data (message_limit limit) (record {
-        values = found.values;
-        ahead = found.ahead;
-        now = found.now;
-        read = found.read;
-        is = long;
-      })
-
   -- only data that ends in a list asks for memory, or what asks for the message
-  pub list_asked : {A P : Type 0} (asks : Bool) → ¬ (asks ≡ true)
-      → A ⊎ P ⊎ (asks ≡ true)
-      ⊎ ReadUpTo (IsRecordLine word) a i (λ said ahead. IsListLine word ahead) → A ⊎ P ⊎ HasListLine text
-  list_asked asks none (inl is) = inl is
-  list_asked asks none (inr (inl is)) = inr (inl is)
-  list_asked asks none (inr (inr (inl is))) = absurd (none is)
-  list_asked asks none (inr (inr (inr found))) = inr (inr (record {
+  pub list_asked : {C P : Type 0} (asks : Bool) → ¬ (asks ≡ true) → IsRecordWord word
+      → C ⊎ P ⊎ (asks ≡ true)
+      ⊎ PushedUpTo (IsRecordLine word) (IsSmallRecord (Some 65535)) most (message_limit limit) more a i before
+      (λ ahead j after. IsListLine word ahead) → C ⊎ P ⊎ HasListLine text
+  list_asked asks none named (inl is) = inl is
+  list_asked asks none named (inr (inl is)) = inr (inl is)
+  list_asked asks none named (inr (inr (inl is))) = absurd (none is)
+  list_asked asks none named (inr (inr (inr found))) = inr (inr (record {
     ahead = found.ahead;
-    front = section_front records.sect now.said found.ahead found.now found.values found.read;
+    front = (stage_on of now found.pushed).said.front;
     section = word;
-    named = records.named;
+    named = named;
     is = found.is;
   }))

@@ -1,37 +1,20 @@
 -- How the faults of texts of words are put together.
 use Rattle.std.proofs.Common.{◌≡◌, ℕ, ◌+◌, List, [], ◌∷◌, ◌++◌, length, refl, sym, ap, ◌∙◌, subst, arith}
-use Rattle.std.proofs.Common.{append_assoc}
-use Rattle.std.proofs.lemmas.List.{length-append, append-nil}
+use Rattle.std.proofs.Common.{None, append_assoc}
+use Rattle.std.proofs.lemmas.List.{append-nil}
 use Rattle.octseq_dns_scan.specs.Word.{TakesWord, AreWords}
 use Rattle.octseq_dns_scan.proofs.Taken.{word_once}
+use Rattle.octseq_dns_compose.specs.Take.{Takes}
+use Rattle.octseq_dns_text.proofs.ReadTexts.{begins_more, takes_some}
 use Rattle.octseq_dns_text.specs.Scans.{Goes, BeginsWithWords, IsFault}
 
 -- ---- words at the front of a text
-
-pub begins_more : (front more : List (List ℕ)) (text mid rest : List ℕ) → BeginsWithWords front text mid
-    → BeginsWithWords more mid rest → BeginsWithWords (front ++ more) text rest
-begins_more [] more text mid rest begins on = subst (λ t. BeginsWithWords more t rest) (sym begins) on
-begins_more (word ∷ front) more text mid rest begins on =
-    (begins.0, begins.1, begins_more front more begins.0 mid rest begins.2 on)
-
-pub are_more : (front words : List (List ℕ)) (text rest : List ℕ) → BeginsWithWords front text rest
-    → AreWords words rest → AreWords (front ++ words) text
-are_more [] words text rest begins are = subst (AreWords words) (sym begins) are
-are_more (word ∷ front) words text rest begins are =
-    (begins.0, begins.1, are_more front words begins.0 rest begins.2 are)
-
--- a text with words isn't empty
-pub some_word : (word text rest : List ℕ) → TakesWord word text rest → ¬ (text ≡ [])
-some_word word text rest taken none =
-    let size = ap length (sym none ∙ taken.3) ∙ length-append word taken.1 in
-    let some = taken.2.0 in
-    omega (arith, size, some)
 
 -- a text that begins with words consists of them and of others
 pub words_after : (front words : List (List ℕ)) (text rest : List ℕ) → BeginsWithWords front text rest
     → AreWords words text → (others : List (List ℕ)) × (words ≡ front ++ others) × AreWords others rest
 words_after [] words text rest begins are = (words, refl, subst (AreWords words) begins are)
-words_after (word ∷ front) [] text rest begins are = absurd (some_word word text begins.0 begins.1 are)
+words_after (word ∷ front) [] text rest begins are = absurd (takes_some word text begins.0 begins.1 are)
 words_after (word ∷ front) (other ∷ words) text rest begins are =
     let first = word_once word other text begins.0 are.0 begins.1 are.1 in
     let more = words_after front words begins.0 rest begins.2 (subst (AreWords words) (sym first.1) are.2) in
@@ -42,6 +25,20 @@ pub only_word : (Is : List ℕ → Type 0) (word ahead rest : List ℕ) → Take
     → (other left : List ℕ) → TakesWord other ahead left → ¬ Is other
 only_word Is word ahead rest taken not other left also is =
     not (subst Is (word_once other word ahead left rest also taken).0 is)
+
+-- no word is next, or another one, and the text stays
+pub takes_none : {A : Type 0} (Is : A → List ℕ → Type 0) {ahead : List ℕ}
+    → ((word rest : List ℕ) → ¬ TakesWord word ahead rest) → Takes Is None ahead ahead
+takes_none Is none =
+    record { some = tt; none = λ _ word rest value taken. absurd (none word rest taken); kept = refl }
+
+pub takes_other : {A : Type 0} (Is : A → List ℕ → Type 0) {word ahead rest : List ℕ} → TakesWord word ahead rest
+    → ((value : A) → ¬ Is value word) → Takes Is None ahead ahead
+takes_other Is taken other = record {
+  some = tt;
+  none = λ _ next left value also. only_word (Is value) _ _ _ taken (other value) next left also;
+  kept = refl;
+}
 
 -- ---- texts after words
 

@@ -77,67 +77,37 @@ pick_none ahead = record { begins = refl; are = refl; stops = λ word left taken
 
 -- ---- the flags of a header
 
+-- the words of those names that are picked
+abbrev pub picked_words : List (List ℕ) → List Bool → List (List ℕ)
+picked_words [] picked = []
+picked_words (name ∷ names) [] = []
+picked_words (name ∷ names) (is ∷ picked) = flag_word is name ++ picked_words names picked
+
+none_picked : (names : List (List ℕ)) → ArePicked names []
+none_picked [] = refl
+none_picked (name ∷ names) = (false, [], refl, none_picked names)
+
+pub words_picked : (names : List (List ℕ)) (picked : List Bool) → ArePicked names (picked_words names picked)
+words_picked [] picked = refl
+words_picked (name ∷ names) [] = none_picked (name ∷ names)
+words_picked (name ∷ names) (is ∷ picked) = (is, picked_words names picked, refl, words_picked names picked)
+
 pub picked_are : (flags : Flags) (words : List (List ℕ)) → AreFlags flags words → ArePicked flag_names words
-picked_are flags words are = (
-  flags.qr,
-  _,
-  are.1,
-  (
-    flags.aa,
-    _,
-    refl,
-    (
-      flags.tc,
-      _,
-      refl,
-      (
-        flags.rd,
-        _,
-        refl,
-        (
-          flags.ra,
-          _,
-          refl,
-          (flags.ad, _, refl, (flags.cd, _, refl, refl)),
-        ),
-      ),
-    ),
-  ),
-)
+picked_are flags words are =
+    let all = flags.qr ∷ flags.aa ∷ flags.tc ∷ flags.rd ∷ flags.ra ∷ flags.ad ∷ flags.cd ∷ [] in
+    subst (ArePicked flag_names) (sym are.1) (words_picked flag_names all)
 
 pub are_picked : (words : List (List ℕ)) → ArePicked flag_names words → (flags : Flags) × AreFlags flags words
-are_picked words (
-  qr,
-  a,
-  is_a,
-  (
-    aa,
-    b,
-    is_b,
-    (
-      tc,
-      c,
-      is_c,
-      (
-        rd,
-        d,
-        is_d,
-        (
-          ra,
-          e,
-          is_e,
-          (
-            ad,
-            f,
-            is_f,
-            (cd, g, is_g, over),
-          ),
-        ),
-      ),
-    ),
-  ),
-) =
-    (record { qr = qr; aa = aa; tc = tc; rd = rd; ra = ra; z = false; ad = ad; cd = cd }, (refl, cc))
+are_picked words (qr, a, is_a, after_qr) =
+    let (aa, b, is_b, after_aa) = after_qr in
+    let (tc, c, is_c, after_tc) = after_aa in
+    let (rd, d, is_d, after_rd) = after_tc in
+    let (ra, e, is_e, after_ra) = after_rd in
+    let (ad, f, is_f, after_ad) = after_ra in
+    let (cd, g, is_g, over) = after_ad in (
+      record { qr = qr; aa = aa; tc = tc; rd = rd; ra = ra; z = false; ad = ad; cd = cd },
+      (refl, cc (is_a, is_b, is_c, is_d, is_e, is_f, is_g, over)),
+    )
 
 -- another word than a flag, where the flags that are there are passed
 pub flags_fault : (ahead rest : List ℕ) (words : List (List ℕ)) (start offset : ℕ) → Picks flag_names ahead words rest

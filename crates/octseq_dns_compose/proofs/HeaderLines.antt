@@ -1,12 +1,12 @@
 -- The line of a header, and where it is none.
 use Rattle.std.proofs.Common.{◌≡◌, ℕ, ◌+◌, false, List, [], ◌∷◌, length, codes}
 use Rattle.std.proofs.Common.{refl, subst, arith}
-use Rattle.std.proofs.lemmas.List.{append-nil}
 use Rattle.octseq_dns_scan.specs.Word.{TakesWord, AreWords}
+use Rattle.octseq_dns_text.proofs.ReadTexts.{begins_all}
 use Rattle.octseq_dns_text.specs.Scans.{BeginsWithWords, IsFault}
 use Rattle.octseq_dns_compose.specs.Take.{IsGiven, IsUpTo, Then}
 use Rattle.octseq_dns_compose.specs.HeaderLine.{Field, IsNoField, AreFlags, IsHeaderLine, Picks, flag_names}
-use Rattle.octseq_dns_compose.proofs.Faults.{Leads, Reached, are_more, first_fault, kept_fault, led_fault, past_words}
+use Rattle.octseq_dns_compose.proofs.Faults.{Leads, Reached, first_fault, kept_fault, led_fault, past_words}
 use Rattle.octseq_dns_compose.proofs.Flags.{flags_fault}
 use Rattle.octseq_dns_message.specs.declared.header.Flags.{Flags}
 use Rattle.octseq_dns_message.specs.declared.header.Header.{Header}
@@ -127,12 +127,12 @@ past_rcode n word is = record {
   out = λ words octets all. ([], (all.0, all.1.1.1));
 }
 
-pub past_field : (name : List ℕ) (most n : ℕ) (Is Mid Rest : List (List ℕ) → List ℕ → Type 0)
+pub past_field : {name : List ℕ} {most n : ℕ} {Is Mid Rest : List (List ℕ) → List ℕ → Type 0}
     {text ahead after : List ℕ} {start next then : ℕ} → PastField name most Mid Rest
     → Reached Is Mid text start ahead next
     → ((mid word : List ℕ) × TakesWord name ahead mid × TakesWord word mid after × IsUpTo most n word)
     → then + length after ≡ next + length ahead → Reached Is Rest text start after then
-past_field name most n Is Mid Rest past so_far taken place =
+past_field {name = name} {n = n} past so_far taken place =
     past_words (name ∷ taken.1 ∷ []) so_far (past n taken.1 taken.4) (_, taken.2, (_, taken.3, refl)) place
 
 -- ---- the flags
@@ -156,19 +156,15 @@ fault_after_flags ahead mid rest words start next offset taken place picks on so
 
 -- ---- a line that is read
 
-all_words : (words : List (List ℕ)) (text rest : List ℕ) → BeginsWithWords words text rest → rest ≡ []
-    → AreWords words text
-all_words words text rest begins over =
-    subst (λ ws. AreWords ws text) (append-nil words) (are_more words [] text rest begins over)
-
 pub line_words : (ahead a b c d e f g rest : List ℕ) (two four six : List ℕ) (words : List (List ℕ)) (header : Header)
     → TakesWord (codes "id") ahead a → TakesWord two a b → IsUpTo 65535 header.id two
     → TakesWord (codes "opcode") b c → TakesWord four c d → IsUpTo 15 header.opcode four
     → TakesWord (codes "rcode") d e → TakesWord six e f → IsUpTo 15 header.rcode six
     → TakesWord (codes "flags") f g → Picks flag_names g words rest → rest ≡ [] → AreFlags header.flags words
     → (all : List (List ℕ)) × AreWords all ahead × IsHeaderLine header all
-line_words ahead a b c d e f g rest two four six words header w1 w2 is2 w3 w4 is4 w5 w6 is6 w7 picks over flags = (
-  codes "id" ∷ two ∷ codes "opcode" ∷ four ∷ codes "rcode" ∷ six ∷ codes "flags" ∷ words,
-  (a, w1, (b, w2, (c, w3, (d, w4, (e, w5, (f, w6, (g, w7, all_words words g rest picks.begins over))))))),
-  (refl, (is2, (refl, (is4, (refl, (is6, (refl, flags))))))),
-)
+line_words ahead a b c d e f g rest two four six words header w1 w2 is2 w3 w4 is4 w5 w6 is6 w7 picks over flags =
+    let last = begins_all words g (subst (BeginsWithWords words g) over picks.begins) in (
+      codes "id" ∷ two ∷ codes "opcode" ∷ four ∷ codes "rcode" ∷ six ∷ codes "flags" ∷ words,
+      (a, w1, (b, w2, (c, w3, (d, w4, (e, w5, (f, w6, (g, w7, last))))))),
+      (refl, (is2, (refl, (is4, (refl, (is6, (refl, flags))))))),
+    )

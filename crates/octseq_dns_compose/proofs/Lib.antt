@@ -10,7 +10,7 @@ pub mod MessageTexts
 pub mod Named
 pub mod OneFault
 pub mod OneMessage
-pub mod Onstage
+pub mod ShortTexts
 pub mod Overrun
 pub mod Places
 pub mod PlainData

@@ -5,7 +5,8 @@ use Rattle.std.proofs.Common.{append_assoc}
 use Rattle.std.proofs.lemmas.List.{length-append, append-nil}
 use Rattle.octseq_dns_scan.specs.Word.{AreWords, TakesWord}
 use Rattle.octseq_dns_scan.proofs.Taken.{words_once}
-use Rattle.octseq_dns_text.specs.Scans.{IsFault}
+use Rattle.octseq_dns_text.proofs.ReadTexts.{words_more}
+use Rattle.octseq_dns_text.specs.Scans.{BeginsWithWords, IsFault}
 use Rattle.octseq_dns_compose.specs.TextLines.{IsLine, EndsLine, TakesLine, AreLines, BeginsWithLines, Splits}
 use Rattle.octseq_dns_compose.specs.TextLines.{IsNextLine}
 use Rattle.octseq_dns_compose.specs.RecordText.{BeginsWithList}
@@ -30,20 +31,29 @@ lines_end [] text rest begins over = begins ∙ over
 lines_end (words ∷ front) text rest begins over =
     (begins.0, begins.1, lines_end front begins.0 rest begins.2 over)
 
--- a line ends in one way
+-- a line is split off in one way
+pub splits_same : (line other after rest : List ℕ) → IsLine line → IsLine other → EndsLine after → EndsLine rest
+    → line ++ after ≡ other ++ rest → (line ≡ other) × (after ≡ rest)
+splits_same [] [] after rest is also ends end same = (refl, same)
+splits_same [] (y ∷ other) [] rest is also ends end same = absurd (cc)
+splits_same [] (y ∷ other) (x ∷ after) rest is also ends end same =
+    let first : x ≡ y = cc in
+    absurd (also.0 (sym first ∙ ends))
+splits_same (x ∷ line) [] after [] is also ends end same = absurd (cc)
+splits_same (x ∷ line) [] after (y ∷ rest) is also ends end same =
+    let first : x ≡ y = cc in
+    absurd (is.0 (first ∙ end))
+splits_same (x ∷ line) (y ∷ other) after rest is also ends end same =
+    let first : x ≡ y = cc in
+    let more : line ++ after ≡ other ++ rest = cc in
+    let both = splits_same line other after rest is.1 also.1 ends end more in
+    ((λ i. first i ∷ both.0 i), both.1)
+
 pub line_same : (line other rest after : List ℕ) → IsLine line → IsLine other → EndsLine after
     → line ++ 10 ∷ rest ≡ other ++ after → (line ≡ other) × (after ≡ 10 ∷ rest)
-line_same [] [] rest after is also ends same = (refl, sym same)
-line_same [] (y ∷ other) rest after is also ends same = absurd (also.0 (cc))
-line_same (x ∷ line) [] rest [] is also ends same = absurd (cc)
-line_same (x ∷ line) [] rest (y ∷ after) is also ends same =
-    let first : x ≡ y = cc in
-    absurd (is.0 (first ∙ ends))
-line_same (x ∷ line) (y ∷ other) rest after is also ends same =
-    let first : x ≡ y = cc in
-    let more : line ++ 10 ∷ rest ≡ other ++ after = cc in
-    let both = line_same line other rest after is.1 also.1 ends more in
-    ((λ i. first i ∷ both.0 i), both.1)
+line_same line other rest after is also ends same =
+    let both = splits_same line other (10 ∷ rest) after is also refl ends same in
+    (both.0, sym both.1)
 
 pub line_once : (words others : Line) (text rest left : List ℕ) → TakesLine words text rest
     → TakesLine others text left → (words ≡ others) × (rest ≡ left)
@@ -69,10 +79,38 @@ lines_after (words ∷ front) (other ∷ lines) text rest begins are =
 
 -- ---- texts after lines
 
+-- a fault in a line, or only the lack of its line feed
+abbrev pub Broken : (Line → List ℕ → Type 0) → (text after : List ℕ) (start offset : ℕ) → Type 0
+Broken Is text after start offset = IsFault Is text start offset ⊎ IsUnended Is text after start offset
+
+pub led_broken : (Is Rest : Line → List ℕ → Type 0) (front : Line) → Leads Is Rest front
+    → (text ahead after : List ℕ) (start next offset : ℕ) → BeginsWithWords front text ahead
+    → next + length ahead ≡ start + length text → Broken Rest ahead after next offset
+    → Broken Is text after start offset
+led_broken Is Rest front leads text ahead after start next offset begins place (inl fault) =
+    inl (led_fault Is Rest front leads text ahead start next offset begins place fault)
+led_broken Is Rest front leads text ahead after start next offset begins place (inr fault) =
+    let all = leads.into fault.words fault.octets fault.is in
+    inr (record {
+      words = front ++ fault.words;
+      octets = all.0;
+      are = words_more front fault.words text ahead begins fault.are;
+      is = all.1;
+      ends = fault.ends;
+      place = fault.place ∙ place;
+    })
+
 -- After lines at its front, a text of one kind is a text of another.
 pub record LeadsLines (Is Rest : List Line → Type 0) (front : List Line) : Type 0 where
   pub into : (lines : List Line) → Rest lines → Is (front ++ lines)
   pub out : (lines : List Line) → Is (front ++ lines) → Rest lines
+
+pub leads_on : {Is Mid Rest : List Line → Type 0} (front more : List Line) → LeadsLines Is Mid front
+    → LeadsLines Mid Rest more → LeadsLines Is Rest (front ++ more)
+leads_on {Is = Is} front more one two = record {
+  into = λ lines rest. subst Is (sym (append_assoc front more lines)) (one.into (more ++ lines) (two.into lines rest));
+  out = λ lines all. two.out lines (one.out (more ++ lines) (subst Is (append_assoc front more lines) all));
+}
 
 next_leads : (Is Rest : List Line → Type 0) (front more : List Line) → LeadsLines Is Rest front
     → Leads (IsNextLine Is (front ++ more)) (IsNextLine Rest more) []
@@ -82,29 +120,6 @@ next_leads Is Rest front more leads = record {
   out = λ words octets next.
       ([], (next.0, leads.out _ (subst Is (append_assoc front more (words ∷ next.0)) next.1)));
 }
-
-led_unended : (Is Rest : List Line → Type 0) (front more : List Line) → LeadsLines Is Rest front
-    → (line after : List ℕ) (offset : ℕ) → IsUnended (IsNextLine Rest more) line after 0 offset
-    → IsUnended (IsNextLine Is (front ++ more)) line after 0 offset
-led_unended Is Rest front more leads line after offset fault = record {
-  words = fault.words;
-  octets = fault.octets;
-  are = fault.are;
-  is = (fault.is.0, subst Is (sym (append_assoc front more (fault.words ∷ fault.is.0))) (leads.into _ fault.is.1));
-  ends = fault.ends;
-  place = fault.place;
-}
-
-led_either : (Is Rest : List Line → Type 0) (front more : List Line) → LeadsLines Is Rest front
-    → (line after : List ℕ) (offset : ℕ)
-    → IsFault (IsNextLine Rest more) line 0 offset ⊎ IsUnended (IsNextLine Rest more) line after 0 offset
-    → IsFault (IsNextLine Is (front ++ more)) line 0 offset
-    ⊎ IsUnended (IsNextLine Is (front ++ more)) line after 0 offset
-led_either Is Rest front more leads line after offset (inl fault) =
-    inl (led_fault (IsNextLine Is (front ++ more)) (IsNextLine Rest more) [] (next_leads Is Rest front more leads)
-    line line 0 0 offset refl refl fault)
-led_either Is Rest front more leads line after offset (inr fault) =
-    inr (led_unended Is Rest front more leads line after offset fault)
 
 pub led_line_fault : (Is Rest : List Line → Type 0) (front : List Line) → LeadsLines Is Rest front
     → (text ahead : List ℕ) (first next number offset : ℕ) → BeginsWithLines front text ahead
@@ -121,24 +136,32 @@ led_line_fault Is Rest front leads text ahead first next number offset begins pl
       let size = length-append front fault.front in
       let here = fault.place in
       omega (arith, size, here, place);
-  fault = led_either Is Rest front fault.front leads fault.line fault.after offset fault.fault;
+  fault = led_broken (IsNextLine Is (front ++ fault.front)) (IsNextLine Rest fault.front) []
+      (next_leads Is Rest front fault.front leads) fault.line fault.line fault.after 0 0 offset refl refl fault.fault;
   ends = λ over is. fault.ends over (leads.out fault.front is);
 }
 
--- where a fault is, there is no text
+-- where a fault is, no text goes on with a line
+pub no_next : (Is : List Line → Type 0) (front others : List Line) (words : Line) (line after rest : List ℕ)
+    (offset : ℕ) → IsLine line → EndsLine after
+    → Broken (IsNextLine Is front) line after 0 offset → TakesLine words (line ++ after) rest
+    → ¬ Is (front ++ words ∷ others)
+no_next Is front others words line after rest offset is ends fault takes whole =
+    let both = line_same takes.0 line rest after takes.2 is ends (sym takes.1) in
+    none fault both.1 (subst (AreWords words) both.0 takes.3)
+  where
+    none : Broken (IsNextLine Is front) line after 0 offset → after ≡ 10 ∷ rest → AreWords words line → ⊥
+    none (inl fault) feed are = no_text (IsNextLine Is front) line 0 offset fault words [] are (others, whole)
+    none (inr fault) feed are = let over = fault.ends in absurd (cc (feed, over))
+
+-- so there is no text
 not_next : (Is : List Line → Type 0) (front others : List Line) (line after : List ℕ) (offset : ℕ) → IsLine line
-    → EndsLine after
-    → IsFault (IsNextLine Is front) line 0 offset ⊎ IsUnended (IsNextLine Is front) line after 0 offset
-    → (line ++ after ≡ [] → ¬ Is front) → AreLines others (line ++ after) → ¬ Is (front ++ others)
+    → EndsLine after → Broken (IsNextLine Is front) line after 0 offset → (line ++ after ≡ [] → ¬ Is front)
+    → AreLines others (line ++ after) → ¬ Is (front ++ others)
 not_next Is front [] line after offset is ends fault over are whole =
     over are (subst Is (append-nil front) whole)
-not_next Is front (words ∷ others) line after offset is ends (inl fault) over are whole =
-    let both = line_same are.1.0 line are.0 after are.1.2 is ends (sym are.1.1) in
-    no_text (IsNextLine Is front) line 0 offset fault words [] (subst (AreWords words) both.0 are.1.3) (others, whole)
-not_next Is front (words ∷ others) line after offset is ends (inr fault) over are whole =
-    let both = line_same are.1.0 line are.0 after are.1.2 is ends (sym are.1.1) in
-    let none = fault.ends in
-    absurd (cc (both.1, none))
+not_next Is front (words ∷ others) line after offset is ends fault over are whole =
+    no_next Is front others words line after are.0 offset is ends fault are.1 whole
 
 pub no_lines : (Is : List Line → Type 0) (text : List ℕ) (first number offset : ℕ)
     → IsLineFault Is text first number offset → (lines : List Line) → AreLines lines text → ¬ Is lines
@@ -149,30 +172,12 @@ no_lines Is text first number offset fault lines are is =
 
 -- ---- the first line
 
--- it is split off in one way
-pub splits_same : (line other after rest : List ℕ) → IsLine line → IsLine other → EndsLine after → EndsLine rest
-    → line ++ after ≡ other ++ rest → line ≡ other
-splits_same [] [] after rest is also ends end same = refl
-splits_same [] (y ∷ other) [] rest is also ends end same = absurd (cc)
-splits_same [] (y ∷ other) (x ∷ after) rest is also ends end same =
-    let first : x ≡ y = cc in
-    absurd (also.0 (sym first ∙ ends))
-splits_same (x ∷ line) [] after [] is also ends end same = absurd (cc)
-splits_same (x ∷ line) [] after (y ∷ rest) is also ends end same =
-    let first : x ≡ y = cc in
-    absurd (is.0 (first ∙ end))
-splits_same (x ∷ line) (y ∷ other) after rest is also ends end same =
-    let first : x ≡ y = cc in
-    let more : line ++ after ≡ other ++ rest = cc in
-    let both = splits_same line other after rest is.1 also.1 ends end more in
-    λ i. first i ∷ both i
-
 pub none_of : (first text line after : List ℕ) → Splits text line after
     → ((rest : List ℕ) → ¬ TakesWord first line rest) → IsNoneOf first text
 none_of first text line after split none other left rest also taken =
     let same = splits_same line other after left split.is_line also.is_line split.ends also.ends
     (sym split.whole ∙ also.whole) in
-    none rest (subst (λ l. TakesWord first l rest) (sym same) taken)
+    none rest (subst (λ l. TakesWord first l rest) (sym same.0) taken)
 
 -- a fault in it
 pub faulty_words : (first : List ℕ) (Is : Line → List ℕ → Type 0) (text line after rest : List ℕ) (start offset : ℕ)

@@ -1,32 +1,34 @@
 -- Where a text is that of no message.
-use Rattle.std.proofs.Common.{◌≡◌, ◌⊎◌, ℕ, ◌+◌, ◌<◌, ◌≤◌, Bool, true, false, nat_eq, cond, None, List, [], ◌∷◌, ◌++◌}
+use Rattle.std.proofs.Common.{◌≡◌, ℕ, ◌+◌, ◌<◌, ◌≤◌, Bool, true, false, nat_eq, cond, None, List, [], ◌∷◌, ◌++◌}
 use Rattle.std.proofs.Common.{length}
-use Rattle.std.proofs.Common.{codes, refl, sym, ap, ◌∙◌, subst, inl, inr, arith}
+use Rattle.std.proofs.Common.{codes, refl, sym, ap, ◌∙◌, subst, inl, arith}
 use Rattle.std.proofs.lemmas.Bool.Decides.{nat_tests}
 use Rattle.std.specs.List.{AllZip}
 use Rattle.octseq_dns_scan.specs.Word.{TakesWord}
-use Rattle.octseq_dns_text.specs.Scans.{IsFault}
+use Rattle.octseq_dns_text.proofs.ReadTexts.{takes_some}
+use Rattle.octseq_dns_text.specs.Scans.{BeginsWithWords}
 use Rattle.octseq_dns_message.specs.declared.header.Header.{Header}
 use Rattle.octseq_dns_compose.specs.HeaderLine.{IsHeaderLine}
-use Rattle.octseq_dns_compose.specs.MessageText.{AreEntries, Entry, IsAnyText, IsEntryLine}
-use Rattle.octseq_dns_compose.specs.MessageText.{IsStop, section_of}
+use Rattle.octseq_dns_compose.specs.MessageText.{AreEntries, Entry, IsAnyText, IsEntryLine, SayEntries}
+use Rattle.octseq_dns_compose.specs.MessageText.{IsRecordLine, Said, section_of}
 use Rattle.octseq_dns_compose.specs.QuestionText.{IsAnyQuestion}
 use Rattle.octseq_dns_compose.specs.RecordText.{IsAnyRecord}
 use Rattle.octseq_dns_compose.specs.TextLines.{BeginsWithLines, IsFaultyHeader, IsFaultyLine, IsLineFault, IsNextLine}
-use Rattle.octseq_dns_compose.specs.TextLines.{IsNoneOf, IsUnended, Splits}
-use Rattle.octseq_dns_compose.proofs.Faults.{Leads, first_fault, led_fault, some_word}
+use Rattle.octseq_dns_compose.specs.TextLines.{IsNoneOf, Splits}
+use Rattle.octseq_dns_compose.specs.TooLong.{data_octets}
+use Rattle.octseq_dns_compose.proofs.Faults.{Leads, first_fault}
 use Rattle.octseq_dns_compose.proofs.HeaderLines.{HeaderTexts}
-use Rattle.octseq_dns_compose.proofs.LineFaults.{LeadsLines, Line, led_line_fault}
+use Rattle.octseq_dns_compose.proofs.LineFaults.{Broken, LeadsLines, Line, leads_on, led_broken}
 use Rattle.octseq_dns_compose.proofs.Records.{record_goes}
 
 -- ---- the first line of a text
 
--- a line of a kind, where texts of another kind are all that follows
-line_fault : (Is : List Line → Type 0) (Texts : Line → List ℕ → Type 0) (text line after : List ℕ)
-    (number offset : ℕ) → Leads (IsNextLine Is []) Texts [] → Splits text line after
-    → IsFault Texts line 0 offset ⊎ IsUnended Texts line after 0 offset → (line ++ after ≡ [] → ¬ Is [])
-    → IsLineFault Is text number number offset
-line_fault Is Texts text line after number offset leads split either ends = record {
+-- a line of a kind, where texts of another kind are all that follows its first words
+line_fault : (Is : List Line → Type 0) (Texts : Line → List ℕ → Type 0) (front : Line) (text line after rest : List ℕ)
+    (number start offset : ℕ) → Leads (IsNextLine Is []) Texts front → Splits text line after
+    → BeginsWithWords front line rest → start + length rest ≡ length line → Broken Texts rest after start offset
+    → (line ++ after ≡ [] → ¬ Is []) → IsLineFault Is text number number offset
+line_fault Is Texts front text line after rest number start offset leads split begins place fault ends = record {
   front = [];
   line = line;
   after = after;
@@ -34,45 +36,19 @@ line_fault Is Texts text line after number offset leads split either ends = reco
   is_line = split.is_line;
   ended = split.ends;
   place = omega arith;
-  fault = next either;
+  fault = led_broken (IsNextLine Is []) Texts front leads line rest after 0 start offset begins (omega (arith, place))
+      fault;
   ends = ends;
 }
-  where
-    next : IsFault Texts line 0 offset ⊎ IsUnended Texts line after 0 offset
-        → IsFault (IsNextLine Is []) line 0 offset ⊎ IsUnended (IsNextLine Is []) line after 0 offset
-    next (inl fault) = inl (led_fault (IsNextLine Is []) Texts [] leads line line 0 0 offset refl refl fault)
-    next (inr fault) =
-        let one = leads.into fault.words fault.octets fault.is in
-        inr (record {
-          words = fault.words;
-          octets = one.0;
-          are = fault.are;
-          is = one.1;
-          ends = fault.ends;
-          place = fault.place;
-        })
 
 -- ---- the header
 
 header_next : Leads (IsNextLine IsAnyText []) HeaderTexts []
 header_next = record {
-  into = λ words octets is. (
-    [],
-    (
-      [],
-      (
-        is.0,
-        [],
-        record {
-          first = words;
-          others = [];
-          lines_are = refl;
-          header_is = is.1;
-          entries_are = refl;
-        },
-      ),
-    ),
-  );
+  into = λ words octets is.
+      let say : SayEntries (words ∷ []) is.0 [] =
+      record { first = words; others = []; lines_are = refl; header_is = is.1; entries_are = refl } in
+      ([], ([], (is.0, [], say)));
   out = λ words octets next.
       let say = next.1.2 in
       let same : words ≡ say.first = cc (say.lines_are) in
@@ -84,8 +60,8 @@ no_lines_at_all (header, entries, say) = absurd (cc (say.lines_are))
 
 pub header_fault : (text : List ℕ) (offset : ℕ) → IsFaultyHeader text offset → IsLineFault IsAnyText text 1 1 offset
 header_fault text offset fault =
-    line_fault IsAnyText HeaderTexts text fault.line fault.after 1 offset header_next fault.split fault.fault
-    (λ over. no_lines_at_all)
+    line_fault IsAnyText HeaderTexts [] text fault.line fault.after fault.line 1 0 offset header_next fault.split refl
+    (omega arith) fault.fault (λ over. no_lines_at_all)
 
 -- ---- entries
 
@@ -95,17 +71,10 @@ AnyEntries from lines = (entries : List Entry) × AreEntries from entries lines
 pub after_header : (header : Header) (first : Line) → IsHeaderLine header first
     → LeadsLines IsAnyText (AnyEntries 0) (first ∷ [])
 after_header header first is = record {
-  into = λ lines all. (
-    header,
-    all.0,
-    record {
-      first = first;
-      others = lines;
-      lines_are = refl;
-      header_is = is;
-      entries_are = all.1;
-    },
-  );
+  into = λ lines all.
+      let say : SayEntries (first ∷ lines) header all.0 =
+      record { first = first; others = lines; lines_are = refl; header_is = is; entries_are = all.1 } in
+      (header, all.0, say);
   out = λ lines all.
       let say = all.2 in
       let same : lines ≡ say.others = cc (say.lines_are) in
@@ -129,29 +98,21 @@ word_in section = cond (nat_eq section 0) (codes "question") (cond (nat_eq secti
 
 in_section : (entry : Entry) → word_of entry ≡ word_in (section_of entry)
 in_section (Entry.question q) = refl
-in_section (Entry.answer said) = refl
-in_section (Entry.authority said) = refl
-in_section (Entry.additional said) = refl
+in_section entry = refl
 
 pub word_is : (entry : Entry) (word : List ℕ) (words : Line) → IsEntryLine entry (word ∷ words) → word ≡ word_of entry
 word_is (Entry.question q) word words is = is.0
-word_is (Entry.answer said) word words is = is.0
-word_is (Entry.authority said) word words is = is.0
-word_is (Entry.additional said) word words is = is.0
+word_is entry word words is = is.0
 
 pub section_is : (entry : Entry) → section_in (word_of entry) ≡ section_of entry
 section_is (Entry.question q) = refl
-section_is (Entry.answer said) = refl
-section_is (Entry.authority said) = refl
-section_is (Entry.additional said) = refl
+section_is entry = refl
 
 pub no_entry : (entry : Entry) → ¬ IsEntryLine entry []
 no_entry (Entry.question q) is = is
-no_entry (Entry.answer said) is = is
-no_entry (Entry.authority said) is = is
-no_entry (Entry.additional said) is = is
+no_entry entry is = is
 
-same_section : (entry other : Entry) (words : Line) → IsEntryLine entry words → IsEntryLine other words
+pub same_section : (entry other : Entry) (words : Line) → IsEntryLine entry words → IsEntryLine other words
     → section_of entry ≡ section_of other
 same_section entry other [] is also = absurd (no_entry entry is)
 same_section entry other (word ∷ words) is also =
@@ -162,17 +123,9 @@ same_section entry other (word ∷ words) is also =
 one_entry : (entry : Entry) (words : Line) (from section : ℕ) → IsEntryLine entry words → section_of entry ≡ section
     → from ≤ section → LeadsLines (AnyEntries from) (AnyEntries section) (words ∷ [])
 one_entry entry words from section is here less = record {
-  into = λ lines all. (
-    entry ∷ all.0,
-    (
-      entry,
-      all.0,
-      refl,
-      omega (arith, here, less),
-      is,
-      subst (λ s. AreEntries s all.0 lines) (sym here) all.1,
-    ),
-  );
+  into = λ lines all.
+      let after = subst (λ s. AreEntries s all.0 lines) (sym here) all.1 in
+      (entry ∷ all.0, (entry, all.0, refl, omega (arith, here, less), is, after));
   out = λ lines all.
       let same = same_section all.1.0 entry words all.1.4 is ∙ here in
       (all.1.1, subst (λ s. AreEntries s all.1.1 lines) same all.1.5);
@@ -183,52 +136,45 @@ pub record SaysAs {A : Type 0} (make : A → Entry) (IsText : A → Line → Typ
   pub of : (a : A) → section_of (make a) ≡ section
   pub is : (a : A) (words : Line) → IsText a words → IsEntryLine (make a) words
 
-more_entries : {A : Type 0} (make : A → Entry) (IsText : A → Line → Type 0) (section from : ℕ) (value : A)
-    (words : Line) (values : List A) (lines : List Line) → ((a : A) → section_of (make a) ≡ section)
-    → ((a : A) (ws : Line) → IsText a ws → IsEntryLine (make a) ws) → from ≤ section → IsText value words
-    → AllZip IsText values lines → LeadsLines (AnyEntries from) (AnyEntries section) (words ∷ lines)
-more_entries make IsText section from value words [] [] of is less one all =
-    one_entry (make value) words from section (is value words one) (of value) less
-more_entries make IsText section from value words [] (w ∷ lines) of is less one all = absurd all
-more_entries make IsText section from value words (v ∷ values) [] of is less one all = absurd all
-more_entries make IsText section from value words (v ∷ values) (w ∷ lines) of is less one all =
-    let first = one_entry (make value) words from section (is value words one) (of value) less in
-    let rest = more_entries make IsText section section v w values lines of is (omega arith) all.0 all.1 in
-    record {
-      into = λ others entries. first.into (w ∷ (lines ++ others)) (rest.into others entries);
-      out = λ others entries. rest.out others (first.out (w ∷ (lines ++ others)) entries);
-    }
+leads_section : {A : Type 0} (make : A → Entry) (IsText : A → Line → Type 0) (section : ℕ) (values : List A)
+    (lines : List Line) → SaysAs make IsText section → AllZip IsText values lines
+    → LeadsLines (AnyEntries section) (AnyEntries section) lines
+leads_section make IsText section [] [] says all =
+    record { into = λ lines entries. entries; out = λ lines entries. entries }
+leads_section make IsText section (v ∷ values) (w ∷ lines) says all =
+    leads_on (w ∷ []) lines (one_entry (make v) w section section (says.is v w all.0) (says.of v) (omega arith))
+    (leads_section make IsText section values lines says all.1)
+leads_section make IsText section values lines says all = absurd all
 
--- where the section of the last line is, past the lines of a section
-abbrev pub IsReached : (to from section : ℕ) (text ahead : List ℕ) → Type 0
-IsReached to from section text ahead = (to ≡ section) ⊎ ((to ≡ from) × (ahead ≡ text))
-
-pub reached_most : (to from section : ℕ) (text ahead : List ℕ) → from ≤ section → IsReached to from section text ahead
-    → to ≤ section
-reached_most to from section text ahead less (inl same) = omega (arith, same)
-reached_most to from section text ahead less (inr same) = let first = same.0 in omega (arith, first, less)
+-- none of the sections from `from` on, and before `to`, is next
+abbrev pub NoneFrom : ℕ → ℕ → List ℕ → Type 0
+NoneFrom from to text =
+    (entry : Entry) → from ≤ section_of entry → section_of entry < to → IsNoneOf (word_of entry) text
 
 -- Past the lines of a section: if there are some, those of earlier sections are over.
 pub record PastSection (from section : ℕ) (text ahead : List ℕ) (lines : List Line) : Type 0 where
   pub to : ℕ
-  pub reached : IsReached to from section text ahead
+  pub most : to ≤ section
   pub leads : LeadsLines (AnyEntries from) (AnyEntries to) lines
+  pub none : NoneFrom from section text → NoneFrom to section ahead
 
 pub past_section : {A : Type 0} (make : A → Entry) (IsText : A → Line → Type 0) (section from : ℕ) (values : List A)
     (lines : List Line) (text ahead : List ℕ) → SaysAs make IsText section → from ≤ section
     → BeginsWithLines lines text ahead → AllZip IsText values lines → PastSection from section text ahead lines
 past_section make IsText section from [] [] text ahead says less begins all = record {
   to = from;
-  reached = inr (refl, sym begins);
+  most = less;
   leads = record { into = λ lines entries. entries; out = λ lines entries. entries };
+  none = subst (NoneFrom from section) begins;
 }
-past_section make IsText section from [] (w ∷ lines) text ahead says less begins all = absurd all
-past_section make IsText section from (v ∷ values) [] text ahead says less begins all = absurd all
 past_section make IsText section from (v ∷ values) (w ∷ lines) text ahead says less begins all = record {
   to = section;
-  reached = inl refl;
-  leads = more_entries make IsText section from v w values lines says.of says.is less all.0 all.1;
+  most = omega arith;
+  leads = leads_on (w ∷ []) lines (one_entry (make v) w from section (says.is v w all.0) (says.of v) less)
+      (leads_section make IsText section values lines says all.1);
+  none = λ none entry after before. absurd (omega (arith, after, before));
 }
+past_section make IsText section from values lines text ahead says less begins all = absurd all
 
 -- ---- a line of a section
 
@@ -239,7 +185,7 @@ pub record IsSection (section : ℕ) (word : List ℕ) (Texts : Line → List �
   pub makes : (words : Line) (octets : List ℕ) → Texts words octets
       → (entry : Entry) × (section_of entry ≡ section) × IsEntryLine entry (word ∷ words)
   pub takes : (entry : Entry) (words : Line) → section_of entry ≡ section → IsEntryLine entry (word ∷ words)
-      → (octets : List ℕ) × Texts words octets
+      → Texts words (data_octets entry)
 
 section_next : (section from : ℕ) (word : List ℕ) (Texts : Line → List ℕ → Type 0) → IsSection section word Texts
     → from ≤ section → Leads (IsNextLine (AnyEntries from) []) Texts (word ∷ [])
@@ -251,50 +197,21 @@ section_next section from word Texts of less = record {
   out = λ words octets next.
       let all = next.1.1 in
       let same = sym (section_is all.0) ∙ ap section_in (sym (word_is all.0 word words all.4)) ∙ of.first in
-      of.takes all.0 words same all.4;
+      (data_octets all.0, of.takes all.0 words same all.4);
 }
 
 front_empty : (xs ys : List ℕ) → xs ++ ys ≡ [] → xs ≡ []
 front_empty [] ys none = refl
 front_empty (x ∷ xs) ys none = absurd (cc)
 
-either_fault : (section from : ℕ) (word : List ℕ) (Texts : Line → List ℕ → Type 0) (offset : ℕ)
-    → IsSection section word Texts → from ≤ section → (line after rest : List ℕ) (start : ℕ)
-    → TakesWord word line rest → start + length rest ≡ length line
-    → IsFault Texts rest start offset ⊎ IsUnended Texts rest after start offset
-    → IsFault (IsNextLine (AnyEntries from) []) line 0 offset
-    ⊎ IsUnended (IsNextLine (AnyEntries from) []) line after 0 offset
-either_fault section from word Texts offset of less line after rest start taken place (inl fault) =
-    inl (led_fault (IsNextLine (AnyEntries from) []) Texts (word ∷ []) (section_next section from word Texts of less)
-    line rest 0 start offset (rest, taken, refl) (omega (arith, place)) fault)
-either_fault section from word Texts offset of less line after rest start taken place (inr fault) =
-    let next = (section_next section from word Texts of less).into fault.words fault.octets fault.is in
-    let here = fault.place in
-    inr (record {
-      words = word ∷ fault.words;
-      octets = next.0;
-      are = (rest, taken, fault.are);
-      is = next.1;
-      ends = fault.ends;
-      place = omega (arith, here, place);
-    })
-
 pub entry_fault : (section from : ℕ) (word : List ℕ) (Texts : Line → List ℕ → Type 0) (text : List ℕ)
     (number offset : ℕ) → IsSection section word Texts → from ≤ section → IsFaultyLine word Texts text offset
     → IsLineFault (AnyEntries from) text number number offset
-entry_fault section from word Texts text number offset of less faulty = record {
-  front = [];
-  line = faulty.line;
-  after = faulty.after;
-  begins = faulty.split.whole;
-  is_line = faulty.split.is_line;
-  ended = faulty.split.ends;
-  place = omega arith;
-  fault = either_fault section from word Texts offset of less faulty.line faulty.after faulty.rest faulty.start
-      faulty.taken faulty.place faulty.fault;
-  ends = λ over.
-      absurd (some_word word faulty.line faulty.rest faulty.taken (front_empty faulty.line faulty.after over));
-}
+entry_fault section from word Texts text number offset of less faulty =
+    line_fault (AnyEntries from) Texts (word ∷ []) text faulty.line faulty.after faulty.rest number faulty.start offset
+    (section_next section from word Texts of less) faulty.split (faulty.rest, faulty.taken, refl) faulty.place
+    faulty.fault (λ over. absurd (takes_some word faulty.line faulty.rest faulty.taken
+    (front_empty faulty.line faulty.after over)))
 
 -- ---- a line of no section that may follow
 
@@ -318,16 +235,9 @@ split_text : (text : List ℕ) → (line after : List ℕ) × Splits text line a
 split_text [] = ([], [], record { whole = refl; is_line = tt; ends = tt })
 split_text (x ∷ text) = split_octet x text (nat_eq x 10) refl (split_text text)
 
--- none of the sections from `from` on, and before `to`, is next
-abbrev pub NoneFrom : ℕ → ℕ → List ℕ → Type 0
-NoneFrom from to text =
-    (entry : Entry) → from ≤ section_of entry → section_of entry < to → IsNoneOf (word_of entry) text
-
 pub below_four : (entry : Entry) → section_of entry < 4
 below_four (Entry.question q) = omega arith
-below_four (Entry.answer said) = omega arith
-below_four (Entry.authority said) = omega arith
-below_four (Entry.additional said) = omega arith
+below_four entry = omega arith
 
 pub other_fault : (from : ℕ) (text : List ℕ) (number : ℕ) → from ≤ 3 → ¬ (text ≡ []) → NoneFrom from 4 text
     → IsLineFault (AnyEntries from) text number number 0
@@ -354,37 +264,27 @@ other_fault from text number less some none =
       ends = λ over. absurd (some (split.2.whole ∙ over));
     }
 
-none_case : (from to section : ℕ) (text ahead : List ℕ) → NoneFrom from section text
-    → ((entry : Entry) → section_of entry ≡ section → IsNoneOf (word_of entry) ahead) → (entry : Entry) (is : Bool)
-    → nat_eq (section_of entry) section ≡ is → from ≤ section_of entry → section_of entry < section + 1
-    → ahead ≡ text → IsNoneOf (word_of entry) ahead
-none_case from to section text ahead none here entry true is after before same =
+none_case : (from section : ℕ) (word text : List ℕ) → word ≡ word_in section → NoneFrom from section text
+    → IsNoneOf word text → (entry : Entry) (is : Bool) → nat_eq (section_of entry) section ≡ is
+    → from ≤ section_of entry → section_of entry < section + 1 → IsNoneOf (word_of entry) text
+none_case from section word text same none here entry true is after before =
     let at : section_of entry ≡ section = grind (arith, nat_tests) in
-    here entry at
-none_case from to section text ahead none here entry false is after before same =
+    subst (λ w. IsNoneOf w text) (same ∙ ap word_in (sym at) ∙ sym (in_section entry)) here
+none_case from section word text same none here entry false is after before =
     let other : ¬ (section_of entry ≡ section) = grind (arith, nat_tests) in
-    subst (IsNoneOf (word_of entry)) (sym same) (none entry after (omega (arith, other, before)))
+    none entry after (omega (arith, other, before))
 
-pub here_none : (section : ℕ) (word text : List ℕ) → word ≡ word_in section → IsNoneOf word text → (entry : Entry)
-    → section_of entry ≡ section → IsNoneOf (word_of entry) text
-here_none section word text is none entry here =
-    subst (λ w. IsNoneOf w text) (is ∙ ap word_in (sym here) ∙ sym (in_section entry)) none
-
--- past the lines of a section, it is over too
-pub none_step : (from to section : ℕ) (word text ahead : List ℕ) → word ≡ word_in section → NoneFrom from section text
-    → IsNoneOf word ahead → IsReached to from section text ahead → NoneFrom to (section + 1) ahead
-none_step from to section word text ahead is none none_here (inl same) entry after before =
-    here_none section word ahead is none_here entry (omega (arith, same, after, before))
-none_step from to section word text ahead is none none_here (inr same) entry after before =
-    let first = same.0 in
-    none_case from to section text ahead none (here_none section word ahead is none_here) entry
-    (nat_eq (section_of entry) section) refl (omega (arith, first, after)) before same.1
+-- where a section is over, none of its lines is next either
+pub none_step : (from section : ℕ) (word text : List ℕ) → word ≡ word_in section → NoneFrom from section text
+    → IsNoneOf word text → NoneFrom from (section + 1) text
+none_step from section word text same none here entry =
+    none_case from section word text same none here entry (nat_eq (section_of entry) section) refl
 
 -- ---- the sections
 
 question_taken : (entry : Entry) (words : Line) → section_of entry ≡ 0 → IsEntryLine entry (codes "question" ∷ words)
-    → (octets : List ℕ) × IsAnyQuestion words octets
-question_taken (Entry.question q) words here is = ([], (q.labels, q.qclass, q.qtype, is.1))
+    → IsAnyQuestion words (data_octets entry)
+question_taken (Entry.question q) words here is = (q.labels, q.qclass, q.qtype, is.1)
 question_taken entry words here is = absurd (omega (arith, here))
 
 pub of_questions : IsSection 0 (codes "question") IsAnyQuestion
@@ -396,57 +296,20 @@ of_questions = record {
   takes = question_taken;
 }
 
-answer_taken : (entry : Entry) (words : Line) → section_of entry ≡ 1 → IsEntryLine entry (codes "answer" ∷ words)
-    → (octets : List ℕ) × IsAnyRecord None words octets
-answer_taken (Entry.answer said) words here is = (said.octets, (said.head, is.1))
-answer_taken entry words here is = absurd (omega (arith, here))
+record_taken : (entry : Entry) (word : List ℕ) (words : Line) → 1 ≤ section_of entry
+    → IsEntryLine entry (word ∷ words) → IsAnyRecord None words (data_octets entry)
+record_taken (Entry.question q) word words late is = absurd (omega (arith, late))
+record_taken (Entry.answer said) word words late is = (said.head, is.1)
+record_taken (Entry.authority said) word words late is = (said.head, is.1)
+record_taken (Entry.additional said) word words late is = (said.head, is.1)
 
-pub of_answers : IsSection 1 (codes "answer") (IsAnyRecord None)
-of_answers = record {
-  first = refl;
-  word_is = refl;
-  makes = λ words octets is. (Entry.answer (record { head = is.0; octets = octets }), refl, (refl, is.1));
-  takes = answer_taken;
+pub of_records : (make : Said → Entry) (section : ℕ) (word : List ℕ) → SaysAs make (IsRecordLine word) section
+    → section_in word ≡ section → word ≡ word_in section → 1 ≤ section → IsSection section word (IsAnyRecord None)
+of_records make section word says first is late = record {
+  first = first;
+  word_is = is;
+  makes = λ words octets found.
+      let said : Said = record { head = found.0; octets = octets } in
+      (make said, says.of said, says.is said (word ∷ words) (refl, found.1));
+  takes = λ entry words here. record_taken entry word words (omega (arith, late, here));
 }
-
-authority_taken : (entry : Entry) (words : Line) → section_of entry ≡ 2
-    → IsEntryLine entry (codes "authority" ∷ words) → (octets : List ℕ) × IsAnyRecord None words octets
-authority_taken (Entry.authority said) words here is = (said.octets, (said.head, is.1))
-authority_taken entry words here is = absurd (omega (arith, here))
-
-pub of_authorities : IsSection 2 (codes "authority") (IsAnyRecord None)
-of_authorities = record {
-  first = refl;
-  word_is = refl;
-  makes = λ words octets is. (Entry.authority (record { head = is.0; octets = octets }), refl, (refl, is.1));
-  takes = authority_taken;
-}
-
-additional_taken : (entry : Entry) (words : Line) → section_of entry ≡ 3
-    → IsEntryLine entry (codes "additional" ∷ words) → (octets : List ℕ) × IsAnyRecord None words octets
-additional_taken (Entry.additional said) words here is = (said.octets, (said.head, is.1))
-additional_taken entry words here is = absurd (omega (arith, here))
-
-pub of_additionals : IsSection 3 (codes "additional") (IsAnyRecord None)
-of_additionals = record {
-  first = refl;
-  word_is = refl;
-  makes = λ words octets is. (Entry.additional (record { head = is.0; octets = octets }), refl, (refl, is.1));
-  takes = additional_taken;
-}
-
--- ---- where reading stops
-
-pub stop_fault : {A : Type 0} (make : A → Entry) (IsText : A → Line → Type 0) (section from : ℕ) (word : List ℕ)
-    (Texts : Line → List ℕ → Type 0) (text : List ℕ) (first number offset : ℕ) → SaysAs make IsText section
-    → IsSection section word Texts → from ≤ section → IsStop IsText word Texts text first number offset
-    → IsLineFault (AnyEntries from) text first number offset
-stop_fault make IsText section from word Texts text first number offset says of less stop =
-    let read = stop.read in
-    let past =
-    past_section make IsText section from stop.values read.lines text stop.ahead says less read.begins read.are in
-    led_line_fault (AnyEntries from) (AnyEntries past.to) read.lines past.leads text stop.ahead first stop.now number
-    offset read.begins read.place
-    (subst (λ n. IsLineFault (AnyEntries past.to) stop.ahead stop.now n offset) (sym stop.at)
-    (entry_fault section past.to word Texts stop.ahead stop.now offset of
-    (reached_most past.to from section text stop.ahead less past.reached) stop.fault))

@@ -1,37 +1,25 @@
 -- What is read of a message's text, and written.
-use Rattle.std.proofs.Common.{◌≡◌, ℕ, ◌+◌, None, List, [], ◌∷◌, ◌++◌, refl, sym, ◌∙◌, subst}
+use Rattle.std.proofs.Common.{◌≡◌, ℕ, ◌+◌, None, List, [], ◌∷◌, ◌++◌, length, refl, sym, ◌∙◌, subst}
 use Rattle.std.proofs.Common.{arith, Result, Ok, Err, OnOk, Option, Some, IfSome, IfNone}
 use Rattle.std.proofs.lemmas.List.{length-append}
 use Rattle.std.specs.List.{AllZip}
-use Rattle.octseq_dns.specs.Contents.{Message, Question, Record}
+use Rattle.octseq.specs.Limit.{IsWithin}
+use Rattle.octseq_dns.specs.Contents.{Message}
 use Rattle.octseq_dns.specs.Rdata.{bare_rdata, rdata_fields, rtype_of}
-use Rattle.octseq_dns.specs.Writes.{Writes, all_more, least_limit, more_questions}
-use Rattle.octseq_dns_compress.specs.State.{State}
+use Rattle.octseq_dns.specs.Writes.{Building, Writes, all_more}
 use Rattle.octseq_dns_data.specs.Data.{ParsedRdata}
 use Rattle.octseq_dns_data.specs.Data as read
-use Rattle.octseq_dns_message.specs.declared.header.Header.{Header}
-use Rattle.octseq_dns_message.specs.declared.header.HeaderCounts.{HeaderCounts}
 use Rattle.octseq_dns_compose.specs.Alone.{SaysAlone}
-use Rattle.octseq_dns_compose.specs.MessageText.{HasRead, HasWritten, IsRecordOf, Said}
-use Rattle.octseq_dns_compose.specs.TextLines.{BeginsWithLines, TakesLine}
-use Rattle.octseq_dns_compose.specs.TooLong.{Exceeds}
+use Rattle.octseq_dns_compose.specs.MessageText.{IsRecordOf, Said}
+use Rattle.octseq_dns_compose.specs.Progress.{HasPushed}
+use Rattle.octseq_dns_compose.specs.TextLines.{TakesLine}
 use Rattle.octseq_dns_compose.proofs.LineFaults.{Line, lines_more}
 
 -- ---- one record
 
 bare_rtype : (p : ParsedRdata) → rtype_of (bare_rdata p) ≡ read.rtype_of p
 bare_rtype (ParsedRdata.a octets) = refl
-bare_rtype (ParsedRdata.aaaa octets) = refl
-bare_rtype (ParsedRdata.ns name) = refl
-bare_rtype (ParsedRdata.cname name) = refl
-bare_rtype (ParsedRdata.ptr name) = refl
-bare_rtype (ParsedRdata.mx it) = refl
-bare_rtype (ParsedRdata.soa it) = refl
-bare_rtype (ParsedRdata.txt strings) = refl
-bare_rtype (ParsedRdata.srv it) = refl
-bare_rtype (ParsedRdata.naptr it) = refl
-bare_rtype (ParsedRdata.local k found) = refl
-bare_rtype (ParsedRdata.unknown rtype octets) = refl
+bare_rtype p = refl
 
 pub record_said : (said : Said) (labels : List (List ℕ)) (p : ParsedRdata) → labels ≡ said.head.labels
     → read.rtype_of p ≡ said.head.rtype
@@ -62,77 +50,68 @@ record_said said labels p same kind says =
 pub zip_snoc : {A B : Type 0} (R : A → B → Type 0) (xs : List A) (ys : List B) (x : A) (y : B) → AllZip R xs ys → R x y
     → AllZip R (xs ++ x ∷ []) (ys ++ y ∷ [])
 zip_snoc R [] [] x y all one = (one, tt)
-zip_snoc R [] (b ∷ ys) x y all one = absurd all
-zip_snoc R (a ∷ xs) [] x y all one = absurd all
 zip_snoc R (a ∷ xs) (b ∷ ys) x y all one = (all.0, zip_snoc R xs ys x y all.1 one)
+zip_snoc R xs ys x y all one = absurd all
 
 more_snoc : {A : Type 0} (more : Message → A → Message) (m : Message) (xs : List A) (x : A)
     → all_more more m (xs ++ x ∷ []) ≡ more (all_more more m xs) x
 more_snoc more m [] x = refl
 more_snoc more m (a ∷ xs) x = more_snoc more (more m a) xs x
 
-pub read_none : {A : Type 0} {IsText : A → Line → Type 0} {text ahead : List ℕ} {first now : ℕ} → text ≡ ahead
-    → now ≡ first → HasRead IsText text ahead first now []
-read_none same is = record { lines = []; begins = same; place = omega (arith, is); are = tt }
+module _ {A R B T : Type 0} {IsText : A → Line → Type 0} {Is : A → R → Type 0} {most : ℕ} {limit : Option ℕ}
+    {more : Message → R → Message} where
+  pub pushed_none : {text : List ℕ} {first : ℕ} {before : Building B T}
+      → HasPushed IsText Is most limit more text text first first before before
+  pushed_none = record {
+    values = [];
+    read = record { lines = []; begins = refl; place = omega arith; are = tt };
+    entries = [];
+    are = tt;
+    written = λ m writes. writes;
+    within = λ within. within;
+    push_limit = refl;
+  }
 
-pub read_more : {A : Type 0} {IsText : A → Line → Type 0} {text ahead next : List ℕ} {first now then : ℕ}
-    {values : List A} (value : A) (words : Line) → HasRead IsText text ahead first now values
-    → TakesLine words ahead next → then ≡ now + 1 → IsText value words
-    → HasRead IsText text next first then (values ++ value ∷ [])
-read_more {IsText = IsText} {text = text} {ahead = ahead} {next = next} {values = values} value words so_far taken is
-    one = record {
-      lines = so_far.lines ++ words ∷ [];
-      begins = lines_more so_far.lines (words ∷ []) text ahead next so_far.begins (next, taken, refl);
-      place =
-          let size = length-append so_far.lines (words ∷ []) in
-          let before = so_far.place in
-          omega (arith, size, before, is);
-      are = zip_snoc IsText values so_far.lines value words so_far.are one;
-    }
+  pub pushed_more : {text ahead next : List ℕ} {first now then : ℕ} {before mid after : Building B T} (value : A)
+      (entry : R) (words : Line) (so_far : HasPushed IsText Is most limit more text ahead first now before mid)
+      → TakesLine words ahead next → then ≡ now + 1 → IsText value words → Is value entry
+      → ((m : Message) → Writes most m mid.state mid.header mid.counts
+      → Writes most (more m entry) after.state after.header after.counts)
+      → IsWithin limit (length after.state.octets) → after.push_limit ≡ mid.push_limit
+      → HasPushed IsText Is most limit more text next first then before after
+  pushed_more {text = text} {ahead = ahead} {next = next} {after = after} value entry words so_far taken number said is
+      written within same =
+      let read = so_far.read in
+      record {
+        values = so_far.values ++ value ∷ [];
+        read = record {
+          lines = read.lines ++ words ∷ [];
+          begins = lines_more read.lines (words ∷ []) text ahead next read.begins (next, taken, refl);
+          place =
+              let size = length-append read.lines (words ∷ []) in
+              let before = read.place in
+              omega (arith, size, before, number);
+          are = zip_snoc IsText so_far.values read.lines value words read.are said;
+        };
+        entries = so_far.entries ++ entry ∷ [];
+        are = zip_snoc Is so_far.values so_far.entries value entry so_far.are is;
+        written = λ m writes.
+            subst (λ x. Writes most x after.state after.header after.counts)
+            (sym (more_snoc more m so_far.entries entry))
+            (written (all_more more m so_far.entries) (so_far.written m writes));
+        within = λ _. within;
+        push_limit = same ∙ so_far.push_limit;
+      }
 
-pub written_none : {most : ℕ} {more : Message → Record → Message} {state : State} {header : Header}
-    {counts : HeaderCounts} → HasWritten most more [] state state header header counts counts
-written_none = record { records = []; are = tt; written = λ m is. is }
+  pub pushed_same : {text ahead next : List ℕ} {first now then : ℕ} {before after : Building B T}
+      → HasPushed IsText Is most limit more text ahead first now before after → next ≡ ahead → then ≡ now
+      → HasPushed IsText Is most limit more text next first then before after
+  pushed_same {text = text} {ahead = ahead} {first = first} {then = then} {before = before} {after = after} so_far same
+      is =
+      subst (λ t. HasPushed IsText Is most limit more text t first then before after) (sym same)
+      (subst (λ n. HasPushed IsText Is most limit more text ahead first n before after) (sym is) so_far)
 
-pub written_more : {most : ℕ} {more : Message → Record → Message} {said : List Said} {a b c : State} {h i j : Header}
-    {k l n : HeaderCounts} (one : Said) (r : Record) → HasWritten most more said a b h i k l → IsRecordOf one r
-    → ((m : Message) → Writes most m b i l → Writes most (more m r) c j n)
-    → HasWritten most more (said ++ one ∷ []) a c h j k n
-written_more {most = most} {more = more} {said = said} {c = c} {j = j} {n = n} one r so_far is next = record {
-  records = so_far.records ++ r ∷ [];
-  are = zip_snoc IsRecordOf said so_far.records one r so_far.are is;
-  written = λ m writes.
-      subst (λ x. Writes most x c j n) (sym (more_snoc more m so_far.records r))
-      (next (all_more more m so_far.records) (so_far.written m writes));
-}
-
--- one more exceeds a limit
-pub exceeds_more : {A : Type 0} (more : Message → A → Message) (most : ℕ) (count : HeaderCounts → ℕ) (m : Message)
-    (xs : List A) (x : A) (limit : Option ℕ) {push begun : Option ℕ} → push ≡ begun
-    → Exceeds most (least_limit push limit) count (more (all_more more m xs) x)
-    → Exceeds most (least_limit begun limit) count (all_more more m (xs ++ x ∷ []))
-exceeds_more more most count m xs x limit {begun = begun} same exceeds =
-    subst (Exceeds most (least_limit begun limit) count) (sym (more_snoc more m xs x))
-    (subst (λ l. Exceeds most (least_limit l limit) count (more (all_more more m xs) x)) same exceeds)
-
-pub questions_more : (most : ℕ) (m : Message) (questions : List Question) (q : Question) (state : State)
-    (header : Header) (counts : HeaderCounts)
-    → Writes most (more_questions (all_more more_questions m questions) q) state header counts
-    → Writes most (all_more more_questions m (questions ++ q ∷ [])) state header counts
-questions_more most m questions q state header counts writes =
-    subst (λ x. Writes most x state header counts) (sym (more_snoc more_questions m questions q)) writes
-
--- ---- what stays the same
-
-pub read_same : {A : Type 0} {IsText : A → Line → Type 0} {text ahead next : List ℕ} {first now then : ℕ}
-    {values : List A} → HasRead IsText text ahead first now values → next ≡ ahead → then ≡ now
-    → HasRead IsText text next first then values
-read_same {text = text} so_far same is = record {
-  lines = so_far.lines;
-  begins = subst (BeginsWithLines so_far.lines text) (sym same) so_far.begins;
-  place = is ∙ so_far.place;
-  are = so_far.are;
-}
+-- ---- results
 
 pub on_ok : {V E : Type 0} (r : Result V E) (P Q : Type 0) → (P → Q) → OnOk r P → OnOk r Q
 on_ok (Ok v) P Q maps is = maps is

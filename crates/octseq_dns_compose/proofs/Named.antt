@@ -9,9 +9,8 @@ use Rattle.std.specs.Char.{to_ascii_lowercase, digit_value}
 use Rattle.std.specs.List.{IsAmong}
 use Rattle.std.specs.Prelude.{IsAscii}
 use Rattle.std.specs.Str.Parse.{IsNumeral}
-use Rattle.octseq_dns_data.specs.Mnemonic.{Names, Spells, Reads, ReadsClass, ReadsRtype}
+use Rattle.octseq_dns_data.specs.Mnemonic.{Names, Spells, Reads, ReadsClass}
 use Rattle.octseq_dns_data.specs.Mnemonic.{class_names}
-use Rattle.octseq_dns_data.specs.Rtype.{rtype_names}
 
 -- ---- ASCII
 
@@ -19,9 +18,20 @@ abbrev pub is_low : List ℕ → Bool
 is_low [] = true
 is_low (x ∷ xs) = nat_lt x 128 && is_low xs
 
-abbrev pub are_low : Names → Bool
-are_low [] = true
-are_low (named ∷ names) = is_low named.1 && are_low names
+-- names of which each passes a test
+abbrev pub all_named : (List ℕ → Bool) → Names → Bool
+all_named test [] = true
+all_named test (named ∷ names) = test named.1 && all_named test names
+
+named_so : (test : List ℕ → Bool) (names : Names) (named : ℕ × List ℕ) → all_named test names ≡ true
+    → IsAmong names named → test named.1 ≡ true
+named_so test [] named all among = absurd (omega (arith, among.1.0))
+named_so test (first ∷ names) named all (zero, (less, is)) =
+    let parts = and_parts (test first.1) (all_named test names) all in
+    subst (λ (n : ℕ × List ℕ). test n.1 ≡ true) (sym is) parts.0
+named_so test (first ∷ names) named all (suc i, (less, is)) =
+    let parts = and_parts (test first.1) (all_named test names) all in
+    named_so test names named parts.1 (i, (omega (arith, less), is))
 
 below : (x : ℕ) → nat_lt x 128 ≡ true → x < 128
 below x is = grind (arith, nat_tests)
@@ -45,19 +55,10 @@ spelled_low (x ∷ text) (y ∷ name) same low =
     let more = spelled_low text name rest parts.1 in
     cc (one, more)
 
-name_low : (names : Names) (named : ℕ × List ℕ) → are_low names ≡ true → IsAmong names named → is_low named.1 ≡ true
-name_low [] named low among = absurd (omega (arith, among.1.0))
-name_low (first ∷ names) named low (zero, (less, is)) =
-    let parts = and_parts (is_low first.1) (are_low names) low in
-    subst (λ (n : ℕ × List ℕ). is_low n.1 ≡ true) (sym is) parts.0
-name_low (first ∷ names) named low (suc i, (less, is)) =
-    let parts = and_parts (is_low first.1) (are_low names) low in
-    name_low names named parts.1 (i, (omega (arith, less), is))
-
-read_ascii : (word : List ℕ) (names : Names) (text : List ℕ) (n : ℕ) → is_low word ≡ true → are_low names ≡ true
-    → Reads word names text n → IsAscii text
+read_ascii : (word : List ℕ) (names : Names) (text : List ℕ) (n : ℕ) → is_low word ≡ true
+    → all_named is_low names ≡ true → Reads word names text n → IsAscii text
 read_ascii word names text n low all (inl is) =
-    low_ascii text (spelled_low text is.name is.spelled (name_low names (n, is.name) all is.named))
+    low_ascii text (spelled_low text is.name is.spelled (named_so is_low names (n, is.name) all is.named))
 read_ascii word names text n low all (inr is) =
     subst IsAscii (sym is.parts) (IsAscii-append is.letters is.digits
     (low_ascii is.letters (spelled_low is.letters word is.spelled low)) (IsAscii-from_digits is.digits is.numeral.1))
@@ -66,19 +67,11 @@ pub class_utf8 : (text : List ℕ) (n : ℕ) → ReadsClass text n → IsUtf8 te
 unfolding ReadsClass
 class_utf8 text n is = IsUtf8-from_ascii text (read_ascii (codes "CLASS") class_names text n refl refl is)
 
-pub rtype_utf8 : (text : List ℕ) (n : ℕ) → ReadsRtype text n → IsUtf8 text
-unfolding ReadsRtype
-rtype_utf8 text n is = IsUtf8-from_ascii text (read_ascii (codes "TYPE") rtype_names text n refl refl is)
-
 -- ---- a class begins with a letter
 
 abbrev pub has_letter : List ℕ → Bool
 has_letter [] = false
 has_letter (x ∷ xs) = nat_lt 96 (to_ascii_lowercase x)
-
-abbrev pub have_letters : Names → Bool
-have_letters [] = true
-have_letters (named ∷ names) = has_letter named.1 && have_letters names
 
 spelled_letter : (text name : List ℕ) → Spells text name → has_letter name ≡ true → has_letter text ≡ true
 spelled_letter [] [] same letter = letter
@@ -88,24 +81,14 @@ spelled_letter (x ∷ text) (y ∷ name) same letter =
     let first : to_ascii_lowercase x ≡ to_ascii_lowercase y = cc in
     subst (λ z. nat_lt 96 z ≡ true) (sym first) letter
 
-name_letter : (names : Names) (named : ℕ × List ℕ) → have_letters names ≡ true → IsAmong names named
-    → has_letter named.1 ≡ true
-name_letter [] named all among = absurd (omega (arith, among.1.0))
-name_letter (first ∷ names) named all (zero, (less, is)) =
-    let parts = and_parts (has_letter first.1) (have_letters names) all in
-    subst (λ (n : ℕ × List ℕ). has_letter n.1 ≡ true) (sym is) parts.0
-name_letter (first ∷ names) named all (suc i, (less, is)) =
-    let parts = and_parts (has_letter first.1) (have_letters names) all in
-    name_letter names named parts.1 (i, (omega (arith, less), is))
-
 front_letter : (xs ys : List ℕ) → has_letter xs ≡ true → has_letter (xs ++ ys) ≡ true
 front_letter [] ys letter = absurd (cc)
 front_letter (x ∷ xs) ys letter = letter
 
 read_letter : (word : List ℕ) (names : Names) (text : List ℕ) (n : ℕ) → has_letter word ≡ true
-    → have_letters names ≡ true → Reads word names text n → has_letter text ≡ true
+    → all_named has_letter names ≡ true → Reads word names text n → has_letter text ≡ true
 read_letter word names text n letter all (inl is) =
-    spelled_letter text is.name is.spelled (name_letter names (n, is.name) all is.named)
+    spelled_letter text is.name is.spelled (named_so has_letter names (n, is.name) all is.named)
 read_letter word names text n letter all (inr is) =
     subst (λ t. has_letter t ≡ true) (sym is.parts) (front_letter is.letters is.digits
     (spelled_letter is.letters word is.spelled letter))

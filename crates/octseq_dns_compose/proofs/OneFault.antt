@@ -1,19 +1,19 @@
 -- A text has one first fault.
 use Rattle.std.proofs.Common.{◌≡◌, ◌⊎◌, ℕ, List, [], ◌∷◌, ◌++◌, length, refl, sym, ap, ◌∙◌, subst, inl, inr, arith}
 use Rattle.std.proofs.Common.{append_assoc}
-use Rattle.octseq_dns_scan.specs.Word.{AreWords, TakesWord}
+use Rattle.octseq_dns_scan.specs.Word.{TakesWord}
 use Rattle.octseq_dns_scan.proofs.Taken.{word_once}
 use Rattle.octseq_dns_text.specs.Scans.{BeginsWithWords, Goes, IsFault}
-use Rattle.octseq_dns_compose.specs.TextLines.{BeginsWithLines, EndsLine, IsLine, IsLineFault, IsNextLine, IsUnended}
+use Rattle.octseq_dns_compose.specs.TextLines.{BeginsWithLines, IsLineFault, IsNextLine, IsUnended}
 use Rattle.octseq_dns_compose.specs.TextLines.{TakesLine}
 use Rattle.octseq_dns_compose.proofs.Faults.{no_text}
-use Rattle.octseq_dns_compose.proofs.LineFaults.{Line, line_once, line_same, splits_same}
+use Rattle.octseq_dns_compose.proofs.LineFaults.{Line, line_once, no_next, splits_same}
 
 -- ---- two fronts of one text
 
 -- Two lists of parts are at the front of a text, each of which has one part at its front: the lists are the same, or
 -- one goes on where the other ends.
-data Compared {A : Type 0} (Takes : A → List ℕ → List ℕ → Type 0) (front other : List A) (rest left : List ℕ)
+pub data Compared {A : Type 0} (Takes : A → List ℕ → List ℕ → Type 0) (front other : List A) (rest left : List ℕ)
     : Type 0 where
   equal : front ≡ other → rest ≡ left → Compared Takes front other rest left
   shorter : (part : A) (more : List A) (after : List ℕ) → other ≡ front ++ part ∷ more → Takes part rest after
@@ -43,7 +43,7 @@ compared_words (word ∷ front) (also ∷ other) text rest left p q =
     one_further TakesWord word also front other rest left one.0
     (compared_words front other p.0 rest left p.2 (subst (λ t. BeginsWithWords other t left) (sym one.1) q.2))
 
-compared_lines : (front other : List Line) (text rest left : List ℕ) → BeginsWithLines front text rest
+pub compared_lines : (front other : List Line) (text rest left : List ℕ) → BeginsWithLines front text rest
     → BeginsWithLines other text left → Compared TakesLine front other rest left
 compared_lines [] [] text rest left p q = Compared.equal refl (sym p ∙ q)
 compared_lines [] (words ∷ other) text rest left p q =
@@ -111,19 +111,6 @@ module _ (Is : List Line → Type 0) where
       ((fault.front ++ fault.goes.0) ∷ next.0, next.1)
   some_text front line after offset (inr fault) = (fault.words ∷ fault.is.0, fault.is.1)
 
-  -- where a fault is, no text goes on with a line
-  no_next : (front others : List Line) (words : Line) (line after rest : List ℕ) (offset : ℕ) → IsLine line
-      → EndsLine after → Faulty front line after offset → TakesLine words (line ++ after) rest
-      → ¬ Is (front ++ words ∷ others)
-  no_next front others words line after rest offset is ends (inl fault) takes whole =
-      let both = line_same takes.0 line rest after takes.2 is ends (sym takes.1) in
-      no_text (IsNextLine Is front) line 0 offset fault words [] (subst (AreWords words) both.0 takes.3)
-      (others, whole)
-  no_next front others words line after rest offset is ends (inr fault) takes whole =
-      let both = line_same takes.0 line rest after takes.2 is ends (sym takes.1) in
-      let none = fault.ends in
-      absurd (cc (both.1, none))
-
   -- so it has no fault in a later one
   not_in_later : (text : List ℕ) (first number offset : ℕ) (fault : IsLineFault Is text first number offset)
       (front more : List Line) (words : Line) (line after rest : List ℕ) (other : ℕ)
@@ -131,7 +118,7 @@ module _ (Is : List Line → Type 0) where
       → Faulty front line after other → ⊥
   not_in_later text first number offset fault front more words line after rest other e takes also =
       let some = some_text front line after other also in
-      no_next fault.front (more ++ some.0) words fault.line fault.after rest offset fault.is_line fault.ended
+      no_next Is fault.front (more ++ some.0) words fault.line fault.after rest offset fault.is_line fault.ended
       fault.fault takes
       (subst Is (ap (λ ls. ls ++ some.0) e ∙ append_assoc fault.front (words ∷ more) some.0) some.1)
 
@@ -145,7 +132,7 @@ module _ (Is : List Line → Type 0) where
       let size = ap length p in
       let same = splits_same fault.line also.line fault.after also.after fault.is_line also.is_line fault.ended
       also.ended q in
-      let second = subst (λ l. Faulty fault.front l also.after place) (sym same)
+      let second = subst (λ l. Faulty fault.front l also.after place) (sym same.0)
       (subst (λ f. Faulty f also.line also.after place) (sym p) also.fault) in (
         omega (arith, here, there, size),
         one_either (IsNextLine Is fault.front) fault.line 0 fault.after also.after offset place fault.fault second,

@@ -1,8 +1,7 @@
 -- A text is of one message.
-use Rattle.std.proofs.Common.{◌≡◌, ◌⊎◌, ℕ, Bool, true, false, not, ◌&&◌, None, List, [], ◌∷◌, ◌++◌, length, codes}
-use Rattle.std.proofs.Common.{refl, sym, ap, ◌∙◌, subst, inl, inr}
+use Rattle.std.proofs.Common.{◌≡◌, ◌⊎◌, ℕ, Bool, true, false, ◌&&◌, None, List, [], ◌∷◌, length}
+use Rattle.std.proofs.Common.{refl, sym, ap, ◌∙◌, subst, inl, inr, arith}
 use Rattle.std.proofs.lemmas.Bool.{and_parts}
-use Rattle.std.specs.Prelude.{bytes_eq}
 use Rattle.octseq.specs.Window.{whole}
 use Rattle.octseq_dns.specs.Contents.{Message, Question, Record}
 use Rattle.octseq_dns.specs.Rdata.{bare_rdata, rdata_fields}
@@ -13,9 +12,10 @@ use Rattle.octseq_dns_message.specs.declared.header.Flags.{Flags}
 use Rattle.octseq_dns_message.specs.declared.header.Header.{Header}
 use Rattle.octseq_dns_name.proofs.Readings.{name_once}
 use Rattle.octseq_dns_text.proofs.OneReading.{data_one}
+use Rattle.octseq_dns_text.proofs.TypesTexts.{type_once}
 use Rattle.octseq_dns_text.specs.DataText.{IsDataText}
 use Rattle.octseq_dns_compose.specs.Alone.{SaysAlone}
-use Rattle.octseq_dns_compose.specs.HeaderLine.{IsHeaderLine, AreFlags, ArePicked, flag_names, flag_word}
+use Rattle.octseq_dns_compose.specs.HeaderLine.{IsHeaderLine, AreFlags, ArePicked, flag_names}
 use Rattle.octseq_dns_compose.specs.MessageText.{AreEntries, Entry, IsEntryLine, IsMessageText, IsRecordOf, IsWith}
 use Rattle.octseq_dns_compose.specs.MessageText.{IsWithAll, Said, SayEntries, headed_message, section_of}
 use Rattle.octseq_dns_compose.specs.QuestionText.{IsQuestionText}
@@ -23,10 +23,11 @@ use Rattle.octseq_dns_compose.specs.RecordText.{IsClassWord, IsNameWord, IsRecor
 use Rattle.octseq_dns_compose.specs.RecordText.{TtlAndClass}
 use Rattle.octseq_dns_compose.specs.Take.{IsUpTo, Then}
 use Rattle.octseq_dns_compose.specs.TextLines.{AreLines}
-use Rattle.octseq_dns_compose.proofs.Flags.{is_apart, not_picked, not_same}
+use Rattle.octseq_dns_compose.proofs.Flags.{is_apart, not_picked, picked_words, words_picked}
 use Rattle.octseq_dns_compose.proofs.LineFaults.{Line, line_once, some_line}
+use Rattle.octseq_dns_compose.proofs.MessageFaults.{no_entry, same_section}
 use Rattle.octseq_dns_compose.proofs.Named.{no_number}
-use Rattle.octseq_dns_compose.proofs.Samples.{one_class, one_rtype}
+use Rattle.octseq_dns_compose.proofs.Samples.{one_class}
 
 -- ---- lines
 
@@ -42,33 +43,14 @@ lines_once text (words ∷ lines) (more ∷ others) one two =
 
 -- ---- the header
 
--- the words of those names that are picked
-abbrev picked_words : List (List ℕ) → List Bool → List (List ℕ)
-picked_words [] picked = []
-picked_words (name ∷ names) [] = []
-picked_words (name ∷ names) (is ∷ picked) = flag_word is name ++ picked_words names picked
-
 abbrev are_apart : List (List ℕ) → Bool
 are_apart [] = true
 are_apart (name ∷ names) = is_apart name names && are_apart names
-
-none_picked : (names : List (List ℕ)) → ArePicked names []
-none_picked [] = refl
-none_picked (name ∷ names) = (false, [], refl, none_picked names)
-
-words_picked : (names : List (List ℕ)) (picked : List Bool) → ArePicked names (picked_words names picked)
-words_picked [] picked = refl
-words_picked (name ∷ names) [] = none_picked (name ∷ names)
-words_picked (name ∷ names) (is ∷ picked) = (is, picked_words names picked, refl, words_picked names picked)
 
 picked_once : (names : List (List ℕ)) (picked others : List Bool) → are_apart names ≡ true
     → length picked ≡ length names → length others ≡ length names
     → picked_words names picked ≡ picked_words names others → picked ≡ others
 picked_once [] [] [] apart many too same = refl
-picked_once [] [] (b ∷ others) apart many too same = absurd (cc)
-picked_once [] (a ∷ picked) others apart many too same = absurd (cc)
-picked_once (name ∷ names) [] others apart many too same = absurd (cc)
-picked_once (name ∷ names) (a ∷ picked) [] apart many too same = absurd (cc)
 picked_once (name ∷ names) (true ∷ picked) (true ∷ others) apart many too same =
     let parts = and_parts (is_apart name names) (are_apart names) apart in
     let rest = picked_once names picked others parts.1 (cc) (cc) (cc) in
@@ -83,6 +65,7 @@ picked_once (name ∷ names) (true ∷ picked) (false ∷ others) apart many too
 picked_once (name ∷ names) (false ∷ picked) (true ∷ others) apart many too same =
     let parts = and_parts (is_apart name names) (are_apart names) apart in
     absurd (not_picked name names _ parts.0 (subst (ArePicked names) same (words_picked names picked)))
+picked_once names picked others apart many too same = absurd (cc)
 
 flags_once : (flags others : Flags) (words : List (List ℕ)) → AreFlags flags words → AreFlags others words
     → flags ≡ others
@@ -135,7 +118,7 @@ question_once q p (a ∷ b ∷ c ∷ words) (name, (class, (rtype, over)))
     (owner, (kind, (other, end))) =
     let labels = owner_once q.labels p.labels a name owner in
     let qclass = one_class b q.qclass p.qclass class kind in
-    let qtype = one_rtype c q.qtype p.qtype rtype other in
+    let qtype = type_once c q.qtype p.qtype rtype other in
     λ i. record { labels = labels i; qtype = qtype i; qclass = qclass i }
 
 -- a TTL and a class, in either order
@@ -180,7 +163,7 @@ after_once said other (a ∷ b ∷ c ∷ more) one two =
     let x = either_parts said.head.ttl said.head.class (IsAfterOrder said) a b (c ∷ more) one in
     let y = either_parts other.head.ttl other.head.class (IsAfterOrder other) a b (c ∷ more) two in
     let both = either_once said.head.ttl other.head.ttl said.head.class other.head.class a b x.0 y.0 in
-    let rtype = one_rtype c said.head.rtype other.head.rtype x.1.0 y.1.0 in
+    let rtype = type_once c said.head.rtype other.head.rtype x.1.0 y.1.0 in
     let found = subst (λ t. IsDataText None t other.head.class more other.octets) (sym rtype) y.1.1 in
     let too = subst (λ n. IsDataText None said.head.rtype n more other.octets) (sym both.1) found in (
       both.0,
@@ -202,15 +185,9 @@ record_once said other (owner ∷ words) one two =
 
 -- ---- entries
 
-apart : {A : Type 0} (a b word : List ℕ) → not (bytes_eq a b) ≡ true → word ≡ a → word ≡ b → A
-apart a b word other one two = absurd (not_same a b other (sym one ∙ two))
-
 pub entry_once : (entry other : Entry) (words : Line) → IsEntryLine entry words → IsEntryLine other words
     → entry ≡ other
-entry_once (Entry.question q) other [] one two = absurd one
-entry_once (Entry.answer said) other [] one two = absurd one
-entry_once (Entry.authority said) other [] one two = absurd one
-entry_once (Entry.additional said) other [] one two = absurd one
+entry_once entry other [] one two = absurd (no_entry entry one)
 entry_once (Entry.question q) (Entry.question p) (word ∷ words) one two =
     ap Entry.question (question_once q p words one.1 two.1)
 entry_once (Entry.answer said) (Entry.answer other) (word ∷ words) one two =
@@ -219,30 +196,9 @@ entry_once (Entry.authority said) (Entry.authority other) (word ∷ words) one t
     ap Entry.authority (record_once said other words one.1 two.1)
 entry_once (Entry.additional said) (Entry.additional other) (word ∷ words) one two =
     ap Entry.additional (record_once said other words one.1 two.1)
-entry_once (Entry.question a) (Entry.answer b) (word ∷ words) one two =
-    apart (codes "question") (codes "answer") word refl one.0 two.0
-entry_once (Entry.question a) (Entry.authority b) (word ∷ words) one two =
-    apart (codes "question") (codes "authority") word refl one.0 two.0
-entry_once (Entry.question a) (Entry.additional b) (word ∷ words) one two =
-    apart (codes "question") (codes "additional") word refl one.0 two.0
-entry_once (Entry.answer a) (Entry.question b) (word ∷ words) one two =
-    apart (codes "answer") (codes "question") word refl one.0 two.0
-entry_once (Entry.answer a) (Entry.authority b) (word ∷ words) one two =
-    apart (codes "answer") (codes "authority") word refl one.0 two.0
-entry_once (Entry.answer a) (Entry.additional b) (word ∷ words) one two =
-    apart (codes "answer") (codes "additional") word refl one.0 two.0
-entry_once (Entry.authority a) (Entry.question b) (word ∷ words) one two =
-    apart (codes "authority") (codes "question") word refl one.0 two.0
-entry_once (Entry.authority a) (Entry.answer b) (word ∷ words) one two =
-    apart (codes "authority") (codes "answer") word refl one.0 two.0
-entry_once (Entry.authority a) (Entry.additional b) (word ∷ words) one two =
-    apart (codes "authority") (codes "additional") word refl one.0 two.0
-entry_once (Entry.additional a) (Entry.question b) (word ∷ words) one two =
-    apart (codes "additional") (codes "question") word refl one.0 two.0
-entry_once (Entry.additional a) (Entry.answer b) (word ∷ words) one two =
-    apart (codes "additional") (codes "answer") word refl one.0 two.0
-entry_once (Entry.additional a) (Entry.authority b) (word ∷ words) one two =
-    apart (codes "additional") (codes "authority") word refl one.0 two.0
+entry_once entry other (word ∷ words) one two =
+    let same = same_section entry other (word ∷ words) one two in
+    absurd (omega (arith, same))
 
 entries_once : (from : ℕ) (entries others : List Entry) (lines : List Line) → AreEntries from entries lines
     → AreEntries from others lines → entries ≡ others

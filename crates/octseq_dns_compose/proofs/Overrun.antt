@@ -1,5 +1,5 @@
 -- Messages that exceed a limit with one more entry.
-use Rattle.std.proofs.Common.{◌⊎◌, ℕ, ◌+◌, ◌<◌, ◌≤◌, Option, Some, None, List, [], ◌∷◌, ◌++◌, map, length}
+use Rattle.std.proofs.Common.{◌≡◌, ◌⊎◌, ℕ, ◌+◌, ◌<◌, ◌≤◌, Option, Some, None, List, [], ◌∷◌, ◌++◌, map, length}
 use Rattle.std.proofs.Common.{sym, ap, ◌∙◌, subst, inl, inr, arith}
 use Rattle.std.proofs.lemmas.List.{length-append, length-map}
 use Rattle.octseq.specs.Integer.{octets_be}
@@ -108,23 +108,41 @@ pub header_past : (most : ℕ) (limit : Option ℕ) (m : Message) → IsPast lim
 header_past most None m past = absurd past
 header_past most (Some limit) m past = let first = twelve_first most m in omega (arith, first, past)
 
-pub push_exceeds : {A : Type 0} {entry : A → Entry} {FitsOne : A → Type 0} {Reaches : HeaderCounts → Type 0}
+module _ {A : Type 0} {entry : A → Entry} {FitsOne : A → Type 0} {Reaches : HeaderCounts → Type 0}
     {count : HeaderCounts → ℕ} {counted : HeaderCounts → ℕ → HeaderCounts} {more : Message → A → Message}
-    (takes : Takes A entry FitsOne Reaches count counted more) (most : ℕ) (limit : Option ℕ) (one : A) (state : State)
-    (header : Header) (counts : HeaderCounts) → Reaches counts
-    → IsPast limit (length (with_entry most state (entry one)).octets) ⊎ (65535 ≤ count counts) → (m : Message)
-    → Writes most m state header counts → Exceeds most limit count (more m one)
-push_exceeds {entry = entry} {Reaches = Reaches} {count = count} {more = more} takes most limit one state header counts
-    reaches (inl past) m writes =
-    let before : Reaches (counts_of m) = subst Reaches writes.counts_are reaches in
-    let wanted = with_entry most (composed most m) (entry one) in
-    let long = header_length m.header (counts_of (more m one)) in
-    let first = twelve_first most m in
-    let grown = grown_length (composed most m).octets wanted.octets (entry_grows most (composed most m) (entry one)) in
-    let same = ap (λ s. length s.octets) (composed_more takes most m one before)
-    ∙ headed_length (header_octets m.header (counts_of (more m one))) long wanted (omega (arith, first, grown)) in
-    inl (subst (IsPast limit) (ap (λ s. length (with_entry most s (entry one)).octets) writes.state_is ∙ sym same) past)
-push_exceeds {count = count} takes most limit one state header counts reaches (inr many) m writes =
-    let before = ap count writes.counts_are in
-    let after = ap count (takes.counts m one) ∙ takes.count_is (counts_of m) (count (counts_of m) + 1) in
-    inr (omega (arith, many, before, after))
+    (takes : Takes A entry FitsOne Reaches count counted more) (most : ℕ) where
+  -- a message has the octets of an entry more
+  entry_past : (m : Message) (one : A) → Reaches (counts_of m)
+      → (length (octets_of most m) ≤ length (with_entry most (composed most m) (entry one)).octets)
+      × (length (octets_of most (more m one)) ≡ length (with_entry most (composed most m) (entry one)).octets)
+  entry_past m one before =
+      let wanted = with_entry most (composed most m) (entry one) in
+      let long = header_length m.header (counts_of (more m one)) in
+      let first = twelve_first most m in
+      let grown =
+      grown_length (composed most m).octets wanted.octets (entry_grows most (composed most m) (entry one)) in (
+        grown,
+        ap (λ s. length s.octets) (composed_more takes most m one before)
+            ∙ headed_length (header_octets m.header (counts_of (more m one))) long wanted (omega (arith, first, grown)),
+      )
+
+  pub push_grows : (m : Message) (one : A) → Reaches (counts_of m)
+      → length (octets_of most m) ≤ length (octets_of most (more m one))
+  push_grows m one before =
+      let both = entry_past m one before in
+      let grown = both.0 in
+      let same = both.1 in
+      omega (arith, grown, same)
+
+  pub push_exceeds : (limit : Option ℕ) (one : A) (state : State) (header : Header) (counts : HeaderCounts)
+      → Reaches counts
+      → IsPast limit (length (with_entry most state (entry one)).octets) ⊎ (65535 ≤ count counts) → (m : Message)
+      → Writes most m state header counts → Exceeds most limit count (more m one)
+  push_exceeds limit one state header counts reaches (inl past) m writes =
+      let same = (entry_past m one (subst Reaches writes.counts_are reaches)).1 in
+      inl (subst (IsPast limit) (ap (λ s. length (with_entry most s (entry one)).octets) writes.state_is ∙ sym same)
+      past)
+  push_exceeds limit one state header counts reaches (inr many) m writes =
+      let before = ap count writes.counts_are in
+      let after = ap count (takes.counts m one) ∙ takes.count_is (counts_of m) (count (counts_of m) + 1) in
+      inr (omega (arith, many, before, after))

@@ -99,31 +99,20 @@ own_data rtype class octets = record {
 -- ---- the fields of data
 
 fields_fit : (said : Rdata) → FitsRdata said → AllByRecursion FitsField (rdata_fields said)
-fields_fit (Rdata.a address) fits = (tt, tt)
-fields_fit (Rdata.aaaa address) fits = (tt, tt)
 fields_fit (Rdata.ns labels) fits = (fits, tt)
 fields_fit (Rdata.cname labels) fits = (fits, tt)
 fields_fit (Rdata.ptr labels) fits = (fits, tt)
 fields_fit (Rdata.mx preference labels) fits = (tt, (fits.1, tt))
 fields_fit (Rdata.soa mname rname serial refresh retry expire minimum) fits = (fits.0, (fits.1, (tt, tt)))
-fields_fit (Rdata.txt strings) fits = (tt, tt)
 fields_fit (Rdata.srv priority weight port labels) fits = (tt, (tt, tt))
-fields_fit (Rdata.naptr said) fits = (tt, tt)
-fields_fit (Rdata.local k octets) fits = (tt, tt)
-fields_fit (Rdata.unknown rtype octets) fits = (tt, tt)
+fields_fit said fits = (tt, tt)
 
 fields_plain : (rdata : ParsedRdata) → plain_octets (rdata_fields (bare_rdata rdata)) ≡ rdata_octets rdata
 unfolding both_octets both_say
-fields_plain (ParsedRdata.a octets) = append-nil octets
-fields_plain (ParsedRdata.aaaa octets) = append-nil octets
-fields_plain (ParsedRdata.ns name) = append-nil (wire name.labels)
-fields_plain (ParsedRdata.cname name) = append-nil (wire name.labels)
-fields_plain (ParsedRdata.ptr name) = append-nil (wire name.labels)
 fields_plain (ParsedRdata.mx mx) =
     ap (λ t. octets_be 2 mx.preference ++ t) (append-nil (wire mx.exchange.labels))
 fields_plain (ParsedRdata.soa soa) =
     ap (λ t. wire soa.mname.labels ++ (wire soa.rname.labels ++ t)) (append-nil _)
-fields_plain (ParsedRdata.txt strings) = append-nil _
 fields_plain (ParsedRdata.srv srv) =
     let a = octets_be 2 srv.priority in
     let b = octets_be 2 srv.weight in
@@ -131,9 +120,7 @@ fields_plain (ParsedRdata.srv srv) =
     let d = wire srv.target.labels in
     ap (λ t. (a ++ (b ++ c)) ++ t) (append-nil d) ∙ append_assoc a (b ++ c) d
     ∙ ap (λ t. a ++ t) (append_assoc b c d)
-fields_plain (ParsedRdata.naptr naptr) = append-nil _
-fields_plain (ParsedRdata.local k found) = append-nil _
-fields_plain (ParsedRdata.unknown rtype octets) = append-nil (rest octets)
+fields_plain rdata = append-nil _
 
 -- ---- data that was read fits
 
@@ -188,16 +175,11 @@ typed_of : (r : read.Record) (w inside : Window) (rdata : ParsedRdata) → IsTyp
     → IsOfType r (bare_rdata rdata)
 typed_of r w inside (ParsedRdata.a x) is = (is.rdata_is.0, is.rdata_is.1)
 typed_of r w inside (ParsedRdata.aaaa x) is = (is.rdata_is.0, is.rdata_is.1)
-typed_of r w inside (ParsedRdata.ns x) is = (is.rdata_is.0, tt)
-typed_of r w inside (ParsedRdata.cname x) is = (is.rdata_is.0, tt)
-typed_of r w inside (ParsedRdata.ptr x) is = (is.rdata_is.0, tt)
-typed_of r w inside (ParsedRdata.mx x) is = (is.rdata_is.0, tt)
-typed_of r w inside (ParsedRdata.soa x) is = (is.rdata_is.0, tt)
-typed_of r w inside (ParsedRdata.txt x) is = (is.rdata_is.0, tt)
 typed_of r w inside (ParsedRdata.srv x) is = (is.rdata_is.0, is.rdata_is.1)
 typed_of r w inside (ParsedRdata.naptr x) is = (is.rdata_is.0, is.rdata_is.1)
 typed_of r w inside (ParsedRdata.local k found) is = (is.rtype_is, is.class_is)
 typed_of r w inside (ParsedRdata.unknown other x) is = absurd is.rdata_is
+typed_of r w inside rdata is = (is.rdata_is.0, tt)
 
 -- data of a known type
 abbrev IsKnown : Rdata → Type 0
@@ -206,18 +188,8 @@ IsKnown _ = Unit {0}
 
 typed_known : (rtype class : ℕ) (w inside : Window) (rdata : ParsedRdata) → IsTypedData rtype class w inside rdata
     → IsKnown (bare_rdata rdata)
-typed_known rtype class w inside (ParsedRdata.a x) is = tt
-typed_known rtype class w inside (ParsedRdata.aaaa x) is = tt
-typed_known rtype class w inside (ParsedRdata.ns x) is = tt
-typed_known rtype class w inside (ParsedRdata.cname x) is = tt
-typed_known rtype class w inside (ParsedRdata.ptr x) is = tt
-typed_known rtype class w inside (ParsedRdata.mx x) is = tt
-typed_known rtype class w inside (ParsedRdata.soa x) is = tt
-typed_known rtype class w inside (ParsedRdata.txt x) is = tt
-typed_known rtype class w inside (ParsedRdata.srv x) is = tt
-typed_known rtype class w inside (ParsedRdata.naptr x) is = tt
-typed_known rtype class w inside (ParsedRdata.local k found) is = tt
 typed_known rtype class w inside (ParsedRdata.unknown other x) is = absurd is.rdata_is
+typed_known rtype class w inside rdata is = tt
 
 -- ---- data wherever it is
 

@@ -177,8 +177,6 @@ last_is_plain u v name fits is all = first_is_plain u v name [] fits is (all ∙
 pub plain_of : (rtype class : ℕ) (w inside : Window) (rdata : ParsedRdata) → FitsRdata (bare_rdata rdata)
     → IsTypedData rtype class w inside rdata → rest w ≡ rdata_octets rdata → ArePlain rdata
 unfolding both_octets both_say
-plain_of rtype class w inside (ParsedRdata.a octets) fits is all = tt
-plain_of rtype class w inside (ParsedRdata.aaaa octets) fits is all = tt
 plain_of rtype class w inside (ParsedRdata.ns name) fits is all = last_is_plain w is.end name fits is.rdata_is.1 all
 plain_of rtype class w inside (ParsedRdata.cname name) fits is all = last_is_plain w is.end name fits is.rdata_is.1 all
 plain_of rtype class w inside (ParsedRdata.ptr name) fits is all = last_is_plain w is.end name fits is.rdata_is.1 all
@@ -190,7 +188,6 @@ plain_of rtype class w inside (ParsedRdata.soa soa) fits is all =
       first_is_plain w u soa.mname _ fits.0 mname all,
       first_is_plain u v soa.rname _ fits.1 rname (part_read domain_name w u soa.mname _ fits.0 mname all),
     )
-plain_of rtype class w inside (ParsedRdata.txt strings) fits is all = tt
 plain_of rtype class w inside (ParsedRdata.srv srv) fits is all =
     let (same, one, (a, priority, (b, weight, (c, port, name)))) = is.rdata_is in
     let first = part_read (number 2) w a srv.priority _ fits.0 priority all in
@@ -208,5 +205,4 @@ plain_of rtype class w inside (ParsedRdata.naptr naptr) fits is all =
     let fourth = part_read quoted c d naptr.services _ fits_3.first services third in
     let fifth = part_read quoted d e naptr.regexp _ fits_4.first regexp fourth in
     last_is_plain e is.end naptr.replacement fits_4.second name fifth
-plain_of rtype class w inside (ParsedRdata.local k found) fits is all = tt
-plain_of rtype class w inside (ParsedRdata.unknown other octets) fits is all = tt
+plain_of rtype class w inside rdata fits is all = tt

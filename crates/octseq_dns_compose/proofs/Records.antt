@@ -2,16 +2,18 @@
 use Rattle.std.proofs.Common.{◌≡◌, ◌⊎◌, ℕ, ◌+◌, Option, List, [], ◌∷◌, ◌++◌, length, codes}
 use Rattle.std.proofs.Common.{Bool, true, false, ◌||◌, refl, ap, subst, inl, inr, arith}
 use Rattle.octseq_dns_scan.specs.Word.{TakesWord, AreWords}
+use Rattle.octseq_dns_text.proofs.TypesTexts.{type_once}
 use Rattle.octseq_dns_text.specs.DataText.{IsDataText, ends_in_list}
 use Rattle.octseq_dns_text.specs.Layouts.{layout_of}
+use Rattle.octseq_dns_text.proofs.ReadTexts.{words_more}
 use Rattle.octseq_dns_text.specs.Scans.{BeginsWithWords, Goes, IsFault}
 use Rattle.octseq_dns_compose.specs.RecordText.{Head, IsNameWord, IsTtlWord, IsClassWord, IsRtypeWord}
 use Rattle.octseq_dns_compose.specs.RecordText.{BeginsWithList, TtlAndClass, IsRecordText, IsAnyRecord}
 use Rattle.octseq_dns_compose.specs.Take.{Then}
 use Rattle.octseq_dns_compose.specs.TakeOrder.{NoneNext, IsNoOrder}
-use Rattle.octseq_dns_compose.proofs.Faults.{Leads, Reached, are_more, at_front, first_fault, past_words}
+use Rattle.octseq_dns_compose.proofs.Faults.{Leads, Reached, at_front, first_fault, past_words}
 use Rattle.octseq_dns_compose.proofs.Named.{no_number}
-use Rattle.octseq_dns_compose.proofs.Samples.{class_sample, one_class, one_rtype, name_sample, rtype_sample, ttl_sample}
+use Rattle.octseq_dns_compose.proofs.Samples.{class_sample, one_class, name_sample, rtype_sample, ttl_sample}
 use Rattle.octseq_dns_compose.proofs.Samples.{data_sample}
 
 -- ---- what follows each word
@@ -94,7 +96,7 @@ rtype_leads : (origin : Option (List (List ℕ))) (class rtype : ℕ) (word : Li
 rtype_leads origin class rtype word is = record {
   into = λ words octets rest. (octets, (rtype, (is, rest)));
   out = λ words octets all.
-      let same = one_rtype word all.0 rtype all.1.0 is in
+      let same = type_once word all.0 rtype all.1.0 is in
       (octets, subst (λ k. IsDataText origin k class words octets) same all.1.1);
 }
 
@@ -220,13 +222,13 @@ pub record HeadRead (origin : Option (List (List ℕ))) (ahead after : List ℕ)
       ⊎ (IsClassWord head.class first × IsTtlWord head.ttl second)
   pub is_rtype : IsRtypeWord head.rtype kind
 
-pub head_read : {ahead a b after : List ℕ} (origin : Option (List (List ℕ))) (head : Head)
-    → ((word : List ℕ) × TakesWord word ahead a × IsNameWord origin head.labels word)
+pub head_read : {ahead a b after : List ℕ} (origin : Option (List (List ℕ))) (labels : List (List ℕ))
+    (ttl class rtype : ℕ) → ((word : List ℕ) × TakesWord word ahead a × IsNameWord origin labels word)
     → ((first second mid : List ℕ) × TakesWord first a mid × TakesWord second mid b
-    × ((IsTtlWord head.ttl first × IsClassWord head.class second)
-    ⊎ (IsClassWord head.class first × IsTtlWord head.ttl second)))
-    → ((word : List ℕ) × TakesWord word b after × IsRtypeWord head.rtype word) → HeadRead origin ahead after head
-head_read origin head owner order kind = record {
+    × ((IsTtlWord ttl first × IsClassWord class second) ⊎ (IsClassWord class first × IsTtlWord ttl second)))
+    → ((word : List ℕ) × TakesWord word b after × IsRtypeWord rtype word)
+    → HeadRead origin ahead after (record { labels = labels; ttl = ttl; class = class; rtype = rtype })
+head_read origin labels ttl class rtype owner order kind = record {
   owner = owner.0;
   first = order.0;
   second = order.1;
@@ -243,7 +245,7 @@ pub record_words : {ahead after : List ℕ} (origin : Option (List (List ℕ))) 
     → (all : List (List ℕ)) × AreWords all ahead × IsRecordText origin head all octets
 record_words origin head read words octets are is = (
   (read.owner ∷ read.first ∷ read.second ∷ read.kind ∷ []) ++ words,
-  are_more (read.owner ∷ read.first ∷ read.second ∷ read.kind ∷ []) words _ _ read.begins are,
+  words_more (read.owner ∷ read.first ∷ read.second ∷ read.kind ∷ []) words _ _ read.begins are,
   (
     read.is_name,
     order_text head.ttl head.class

@@ -1,18 +1,13 @@
 -- A word of each kind, and how a word is read in one way.
 use Rattle.std.proofs.Common.{◌≡◌, ℕ, Option, Some, None, List, [], ◌∷◌, codes, refl, inl, arith}
 use Rattle.octseq_dns_data.specs.Mnemonic.{ReadsClass, ReadsRtype, class_names}
-use Rattle.octseq_dns_data.specs.Rtype.{rtype_names}
-use Rattle.octseq_dns_data.proofs.Mnemonics.{one_number, classes_unambiguous, rtypes_unambiguous}
+use Rattle.octseq_dns_data.proofs.Mnemonics.{one_number, classes_unambiguous}
 use Rattle.octseq_dns_text.specs.DataText.{IsDataText}
 use Rattle.octseq_dns_compose.specs.RecordText.{IsNameWord, IsTtlWord}
 
 pub one_class : (text : List ℕ) (a b : ℕ) → ReadsClass text a → ReadsClass text b → a ≡ b
 unfolding ReadsClass
 one_class text a b = one_number (codes "CLASS") class_names classes_unambiguous text a b
-
-pub one_rtype : (text : List ℕ) (a b : ℕ) → ReadsRtype text a → ReadsRtype text b → a ≡ b
-unfolding ReadsRtype
-one_rtype text a b = one_number (codes "TYPE") rtype_names rtypes_unambiguous text a b
 
 pub class_sample : ReadsClass (codes "IN") 1
 unfolding ReadsClass

@@ -1,5 +1,5 @@
 -- The lines of a whole message, section by section.
-use Rattle.std.proofs.Common.{◌≡◌, ℕ, ◌≤◌, List, [], ◌∷◌, ◌++◌, map, codes, append-nil, refl, sym, subst, arith}
+use Rattle.std.proofs.Common.{◌≡◌, ℕ, ◌≤◌, List, [], ◌∷◌, ◌++◌, map, codes, append-nil, refl, sym, ap, subst, arith}
 use Rattle.std.specs.List.{AllZip}
 use Rattle.octseq_dns.specs.Contents.{Message, Question, Record}
 use Rattle.octseq_dns.specs.Writes.{all_more, more_additionals, more_answers, more_authorities, more_questions}
@@ -11,7 +11,7 @@ use Rattle.octseq_dns_compose.specs.MessageText.{Said, headed_message}
 use Rattle.octseq_dns_compose.specs.TextLines.{BeginsWithLines, TakesLine}
 use Rattle.octseq_dns_compose.proofs.Composing as sections
 use Rattle.octseq_dns_compose.proofs.Composing.{Section, entries_after}
-use Rattle.octseq_dns_compose.proofs.Composing.{section_entries, section_up_to, with_more, with_questions, with_records}
+use Rattle.octseq_dns_compose.proofs.Composing.{section_entries, section_up_to, with_more, with_values}
 use Rattle.octseq_dns_compose.proofs.LineFaults.{Line, lines_end, lines_more}
 
 -- lines of one section, and then those of later ones
@@ -53,7 +53,7 @@ says_lines text a b c d e header first questions answers authorities additionals
     let one : AreEntries 0 e1 l1 = section_first sections.answers.sect 0 answers r_lines e2 l2 (omega arith)
     r_are two in
     let all : AreEntries 0 (map Entry.question questions ++ e1) (q_lines ++ l1) =
-    section_first sections.questions 0 questions q_lines e1 l1 (omega arith)
+    section_first sections.questions.sect 0 questions q_lines e1 l1 (omega arith)
     q_are one in
     let last : BeginsWithLines l3 d e =
     subst (λ ls. BeginsWithLines ls d e) (sym (append-nil d_lines)) d_begins in
@@ -71,6 +71,10 @@ says_lines text a b c d e header first questions answers authorities additionals
       };
     }
 
+each_is : {A : Type 0} (xs : List A) → AllZip (λ x y. y ≡ x) xs xs
+each_is [] = tt
+each_is (x ∷ xs) = (refl, each_is xs)
+
 pub whole_with : (header : Header) (questions : List Question) (answers authorities additionals : List Said)
     (rs us ds : List Record) → AllZip IsRecordOf answers rs → AllZip IsRecordOf authorities us
     → AllZip IsRecordOf additionals ds
@@ -85,10 +89,16 @@ whole_with header questions answers authorities additionals rs us ds r_are u_are
     let e3 = map Entry.additional additionals ++ [] in
     let e2 = map Entry.authority authorities ++ e3 in
     let e1 = map Entry.answer answers ++ e2 in
-    let with_r = with_records sections.answers m1 answers rs r_are in
-    let with_u = with_records sections.authorities m2 authorities us u_are in
-    let with_d = with_records sections.additionals m3 additionals ds d_are in
-    with_more m0 m1 m4 (map Entry.question questions) e1 (with_questions m0 questions)
+    let with_q =
+    with_values Entry.question (λ q asked. asked ≡ q) more_questions (λ m q asked is. ap (more_questions m) is) m0
+    questions questions (each_is questions) in
+    let with_r =
+    with_values Entry.answer IsRecordOf more_answers (λ m said r is. (r, is, refl)) m1 answers rs r_are in
+    let with_u =
+    with_values Entry.authority IsRecordOf more_authorities (λ m said r is. (r, is, refl)) m2 authorities us u_are in
+    let with_d =
+    with_values Entry.additional IsRecordOf more_additionals (λ m said r is. (r, is, refl)) m3 additionals ds d_are in
+    with_more m0 m1 m4 (map Entry.question questions) e1 with_q
     (with_more m1 m2 m4 (map Entry.answer answers) e2 with_r
     (with_more m2 m3 m4 (map Entry.authority authorities) e3 with_u
     (with_more m3 m4 m4 (map Entry.additional additionals) [] with_d refl)))

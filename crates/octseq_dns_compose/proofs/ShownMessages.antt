@@ -185,39 +185,21 @@ header_shown h small few less =
     let same : codes "id" ++ spaced more ≡ header_text h =
     ap (λ t. front_of (codes " rcode " ++ (rcode ++ (codes " flags" ++ t)))) (flags_spaced h.flags) ∙ sym right in
     let first = given_word (codes "id") refl (omega arith) in
-    let each : AllByRecursion IsLineWord more = (
-      number_word h.id small,
-      (
-        given_word (codes "opcode") refl (omega arith),
-        (
-          number_word h.opcode (omega (arith, few)),
-          (
-            given_word (codes "rcode") refl (omega arith),
-            (
-              number_word h.rcode (omega (arith, less)),
-              (given_word (codes "flags") refl (omega arith), flags_each h.flags),
-            ),
-          ),
-        ),
-      ),
-    ) in
+    let a = number_word h.id small in
+    let b = given_word (codes "opcode") refl (omega arith) in
+    let c = number_word h.opcode (omega (arith, few)) in
+    let d = given_word (codes "rcode") refl (omega arith) in
+    let e = number_word h.rcode (omega (arith, less)) in
+    let f = given_word (codes "flags") refl (omega arith) in
+    let each : AllByRecursion IsLineWord more = (a, (b, (c, (d, (e, (f, flags_each h.flags)))))) in
+    let x = up_to 65535 h.id (omega (arith, small)) (omega arith) in
+    let y = up_to 15 h.opcode (omega (arith, few)) (omega arith) in
+    let z = up_to 15 h.rcode (omega (arith, less)) (omega arith) in
     record {
       words = words;
       are = subst (AreWords words) same (spaced_words (codes "id") more first.0 each);
       one_line = subst IsFeedless same (spaced_feedless (codes "id") more first.1 each);
-      is = (
-        refl,
-        (
-          up_to 65535 h.id (omega (arith, small)) (omega arith),
-          (
-            refl,
-            (
-              up_to 15 h.opcode (omega (arith, few)) (omega arith),
-              (refl, (up_to 15 h.rcode (omega (arith, less)) (omega arith), (refl, (refl, refl)))),
-            ),
-          ),
-        ),
-      );
+      is = (refl, (x, (refl, (y, (refl, (z, (refl, (refl, refl))))))));
     }
 
 -- ---- the message

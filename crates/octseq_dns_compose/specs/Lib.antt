@@ -2,7 +2,7 @@ pub mod Alone
 pub mod HeaderLine
 pub mod MessageShown
 pub mod MessageText
-pub mod Onward
+pub mod Progress
 pub mod QuestionText
 pub mod Read
 pub mod RecordText

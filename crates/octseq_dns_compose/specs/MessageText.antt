@@ -1,20 +1,17 @@
 -- The text of a message: a line for its header, and one for each question and each record, section by section.
-use Rattle.std.specs.Prelude.{◌≡◌, ℕ, ◌+◌, ◌≤◌, None, List, [], ◌∷◌, length, codes}
-use Rattle.std.specs.List.{AllZip}
+use Rattle.std.specs.Prelude.{◌≡◌, ℕ, ◌≤◌, None, List, [], ◌∷◌, codes}
 use Rattle.octseq_dns.specs.Blank.{blank_message}
 use Rattle.octseq_dns.specs.Contents.{Message, Question, Record}
 use Rattle.octseq_dns.specs.Rdata.{bare_rdata, rdata_fields}
-use Rattle.octseq_dns.specs.Writes.{Writes, all_more, more_questions, more_answers, more_authorities, more_additionals}
-use Rattle.octseq_dns_compress.specs.State.{State}
+use Rattle.octseq_dns.specs.Writes.{more_questions, more_answers, more_authorities, more_additionals}
 use Rattle.octseq_dns_data.specs.Data.{ParsedRdata}
 use Rattle.octseq_dns_message.specs.declared.header.Header.{Header}
-use Rattle.octseq_dns_message.specs.declared.header.HeaderCounts.{HeaderCounts}
 use Rattle.octseq_dns_compose.specs.Alone.{SaysAlone}
 use Rattle.octseq_dns_compose.specs.HeaderLine.{IsHeaderLine}
 use Rattle.octseq_dns_compose.specs.QuestionText.{IsQuestionText}
 use Rattle.octseq_dns_compose.specs.RecordText.{Head, IsRecordText}
 use Rattle.octseq_dns_compose.specs.Take.{IsGiven, Then}
-use Rattle.octseq_dns_compose.specs.TextLines.{AreLines, BeginsWithLines, IsFaultyLine}
+use Rattle.octseq_dns_compose.specs.TextLines.{AreLines}
 
 -- ---- what the lines say
 
@@ -108,32 +105,3 @@ pub record IsMessageText (text : List ℕ) (m : Message) : Type 0 where
   pub lines_are : AreLines lines text
   pub say : SayEntries lines header entries
   pub message_is : IsWithAll (headed_message header) entries m
-
--- ---- what was read so far
-
--- Lines were read as these values, up to what is ahead. `first` is the number of the first line, `now` of the next.
-pub record HasRead {A : Type 0} (IsText : A → List (List ℕ) → Type 0) (text ahead : List ℕ) (first now : ℕ)
-    (values : List A) : Type 0 where
-  pub lines : List (List (List ℕ))
-  pub begins : BeginsWithLines lines text ahead
-  pub place : now ≡ first + length lines
-  pub are : AllZip IsText values lines
-
--- Records were written for what lines say.
-pub record HasWritten (most : ℕ) (more : Message → Record → Message) (said : List Said) (before after : State)
-    (old_header new_header : Header) (old_counts new_counts : HeaderCounts) : Type 0 where
-  pub records : List Record
-  pub are : AllZip IsRecordOf said records
-  pub written : (m : Message) → Writes most m before old_header old_counts
-      → Writes most (all_more more m records) after new_header new_counts
-
--- Lines were read as values, and the next one begins with a word, but what follows it is no text, or no line feed ends
--- it.
-pub record IsStop {A : Type 0} (IsText : A → List (List ℕ) → Type 0) (word : List ℕ)
-    (Texts : List (List ℕ) → List ℕ → Type 0) (text : List ℕ) (first number offset : ℕ) : Type 0 where
-  pub values : List A
-  pub ahead : List ℕ
-  pub now : ℕ
-  pub read : HasRead IsText text ahead first now values
-  pub at : number ≡ now
-  pub fault : IsFaultyLine word Texts ahead offset

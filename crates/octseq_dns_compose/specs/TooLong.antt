@@ -1,14 +1,11 @@
 -- Texts of messages that exceed a limit, and texts for which the allocator is asked.
 use Rattle.std.specs.Prelude.{◌≡◌, ◌⊎◌, ℕ, ◌<◌, Option, None, List, [], ◌∷◌, ◌++◌, length, codes}
-use Rattle.std.specs.List.{AllZip}
 use Rattle.octseq.specs.Limit.{IsPast}
-use Rattle.octseq_dns.specs.Contents.{Message, Record, counts_of, octets_of}
-use Rattle.octseq_dns.specs.Writes.{Writes, all_more}
-use Rattle.octseq_dns_compress.specs.State.{State}
+use Rattle.octseq_dns.specs.Contents.{Message, counts_of, octets_of}
 use Rattle.octseq_dns_message.specs.declared.header.Header.{Header}
 use Rattle.octseq_dns_message.specs.declared.header.HeaderCounts.{HeaderCounts}
 use Rattle.octseq_dns_scan.specs.Word.{AreWords, TakesWord}
-use Rattle.octseq_dns_compose.specs.MessageText.{Entry, HasRead, IsRecordOf, IsWithAll, Said, SayEntries}
+use Rattle.octseq_dns_compose.specs.MessageText.{Entry, IsWithAll, SayEntries}
 use Rattle.octseq_dns_compose.specs.MessageText.{headed_message}
 use Rattle.octseq_dns_compose.specs.RecordText.{BeginsWithList}
 use Rattle.octseq_dns_compose.specs.TextLines.{BeginsWithLines, Splits}
@@ -78,24 +75,6 @@ pub record HasListLine (text : List ℕ) : Type 0 where
   pub named : IsRecordWord section
   pub is : IsListLine section ahead
 
--- ---- what was read so far
-
--- Lines were read as values, and these and what is ahead are so.
-pub record ReadUpTo {A : Type 0} (IsText : A → List (List ℕ) → Type 0) (text : List ℕ) (first : ℕ)
-    (Then : List A → List ℕ → Type 0) : Type 0 where
-  pub values : List A
-  pub ahead : List ℕ
-  pub now : ℕ
-  pub read : HasRead IsText text ahead first now values
-  pub is : Then values ahead
-
 -- a message has more octets than a limit, or more entries in a section than its count can express
 abbrev pub Exceeds : ℕ → Option ℕ → (HeaderCounts → ℕ) → Message → Type 0
 Exceeds most limit count m = IsPast limit (length (octets_of most m)) ⊎ (65535 < count (counts_of m))
-
--- A message with the records that lines say does.
-pub record ExceedsWith (most : ℕ) (limit : Option ℕ) (count : HeaderCounts → ℕ) (more : Message → Record → Message)
-    (said : List Said) (state : State) (header : Header) (counts : HeaderCounts) : Type 0 where
-  pub records : List Record
-  pub are : AllZip IsRecordOf said records
-  pub exceeds : (m : Message) → Writes most m state header counts → Exceeds most limit count (all_more more m records)

@@ -3,17 +3,17 @@ ghost use Rattle.std.specs.Prelude.{◌≡◌, ◌⊎◌, ℕ, List, None, true,
 ghost use Rattle.octseq.specs.Limit.{IsPast, IsWithin};
 ghost use Rattle.octseq.specs.Refusal.{IsMemory, IsShort, append_error};
 ghost use Rattle.octseq_dns.specs.Blank.{blank_message};
-ghost use Rattle.octseq_dns.specs.Contents.{Message, Question, Record};
-ghost use Rattle.octseq_dns.specs.Writes.{Writes, all_more, least_limit, more_questions};
+ghost use Rattle.octseq_dns.specs.Contents.{Message, Record};
+ghost use Rattle.octseq_dns.specs.Writes.{Writes, least_limit, more_questions};
 ghost use Rattle.octseq_dns_compress.specs.Composed.{message_limit};
-ghost use Rattle.octseq_dns_compose.specs.MessageText.{HasRead, HasWritten, IsMessageText, IsQuestionLine};
-ghost use Rattle.octseq_dns_compose.specs.MessageText.{IsAnyText, IsRecordLine, IsRecordOf, IsStop, Said};
-ghost use Rattle.octseq_dns_compose.specs.Onward.{AddsQuestion, AddsRecord, AddsUpTo};
+ghost use Rattle.octseq_dns_compose.specs.MessageText.{IsAnyText, IsMessageText, IsQuestionLine, IsRecordLine};
+ghost use Rattle.octseq_dns_compose.specs.MessageText.{IsRecordOf};
+ghost use Rattle.octseq_dns_compose.specs.Progress.{ExceedsNext, HasPushed, IsAsked, IsSmallRecord, PushedUpTo};
 ghost use Rattle.octseq_dns_compose.specs.QuestionText.{IsAnyQuestion};
 ghost use Rattle.octseq_dns_compose.specs.Read.{head_of};
 ghost use Rattle.octseq_dns_compose.specs.RecordText.{IsAnyRecord};
 ghost use Rattle.octseq_dns_compose.specs.TextLines.{IsFaultyLine, IsLineFault, IsLongLine, IsNoneOf};
-ghost use Rattle.octseq_dns_compose.specs.TooLong.{Exceeds, ExceedsWith, HasListLine, IsListLine, IsTooLong, ReadUpTo};
+ghost use Rattle.octseq_dns_compose.specs.TooLong.{Exceeds, HasListLine, IsListLine, IsTooLong};
 
 use crate::alone::data_of;
 use crate::entry::{Lines, next_header, next_question, next_record};
@@ -113,32 +113,19 @@ fn push_questions<B: OctetsBuilder + Truncate + AsOctetsMut, T: Compressor>(
     lines: &mut Lines,
     message: &mut QuestionBuilder<B, T>,
 ) -> Result<(), ComposeError>
-    ensures ok { OnOk result ((questions : List Question)
-        × HasRead IsQuestionLine lines.old.ahead.now lines.new.ahead.now lines.old.number lines.new.number questions
-        × IsNoneOf (codes "question") lines.new.ahead.now
-        × ((m : Message) → Writes T.most m message.old.state message.old.header message.old.counts
-        → Writes T.most (all_more more_questions m questions) message.new.state message.new.header
-        message.new.counts)) }
-    ensures within { OnOk result (IsWithin (message_limit B.limit) (length message.old.state.octets)
-        → IsWithin (message_limit B.limit) (length message.new.state.octets)) }
+    ensures ok { OnOk result (HasPushed IsQuestionLine IsAsked T.most (message_limit B.limit) more_questions
+        lines.old.ahead.now lines.new.ahead.now lines.old.number lines.new.number message.old message.new
+        × IsNoneOf (codes "question") lines.new.ahead.now) }
     ensures malformed { (place : Place) → IsErrOf result (ComposeError.Malformed place)
-        → IsStop IsQuestionLine (codes "question") IsAnyQuestion lines.old.ahead.now lines.old.number place.line
-        place.offset }
-    ensures added { OnOk result ((m : Message)
-        → Writes T.most m message.old.state message.old.header message.old.counts
-        → AddsUpTo (AddsQuestion T.most (message_limit B.limit)) m
-        lines.old.ahead.now (λ after ahead. Writes T.most after message.new.state message.new.header
-        message.new.counts × (ahead ≡ lines.new.ahead.now))) }
-    ensures stopped { (place : Place) → IsErrOf result (ComposeError.Malformed place) → (m : Message)
-        → Writes T.most m message.old.state message.old.header message.old.counts
-        → AddsUpTo (AddsQuestion T.most (message_limit B.limit)) m
-        lines.old.ahead.now (λ after ahead. IsFaultyLine (codes "question") IsAnyQuestion ahead place.offset) }
-    ensures short { IsErrOf result ComposeError.Short → ReadUpTo IsQuestionLine lines.old.ahead.now lines.old.number
-        (λ questions ahead. (m : Message) → Writes T.most m message.old.state message.old.header message.old.counts
-        → Exceeds T.most (least_limit message.old.push_limit (message_limit B.limit)) (λ counts. counts.qdcount)
-        (all_more more_questions m questions)) }
+        → PushedUpTo IsQuestionLine IsAsked T.most (message_limit B.limit) more_questions
+        lines.old.ahead.now lines.old.number message.old (λ ahead now after. (place.line ≡ now)
+        × IsFaultyLine (codes "question") IsAnyQuestion ahead place.offset) }
+    ensures short { IsErrOf result ComposeError.Short
+        → PushedUpTo IsQuestionLine IsAsked T.most (message_limit B.limit) more_questions
+        lines.old.ahead.now lines.old.number message.old (λ ahead now after.
+        ExceedsNext IsQuestionLine IsAsked T.most (least_limit after.push_limit (message_limit B.limit))
+        (λ counts. counts.qdcount) more_questions ahead after) }
     ensures memory { IsErrOf result ComposeError.Memory → (B.asks ≡ true) ⊎ (T.asks ≡ true) }
-    ensures push_limit { message.new.push_limit ≡ message.old.push_limit }
     ensures borrows { B.borrows message.new.octets ≡ B.borrows message.old.octets }
 {
     'lines: loop {
@@ -171,36 +158,23 @@ fn push_records<
     message: &mut SectionBuilder<B, T, S>,
     target: &mut D,
 ) -> Result<(), ComposeError>
-    ensures ok { OnOk result ((said : List Said)
-        × HasRead (IsRecordLine section.now) lines.old.ahead.now lines.new.ahead.now lines.old.number
-        lines.new.number said
-        × IsNoneOf section.now lines.new.ahead.now
-        × HasWritten T.most S.more said message.old.state message.new.state message.old.header message.new.header
-        message.old.counts message.new.counts) }
-    ensures within { OnOk result (IsWithin (message_limit B.limit) (length message.old.state.octets)
-        → IsWithin (message_limit B.limit) (length message.new.state.octets)) }
+    ensures ok { OnOk result (HasPushed (IsRecordLine section.now) (IsSmallRecord D.limit) T.most
+        (message_limit B.limit) S.more lines.old.ahead.now lines.new.ahead.now lines.old.number lines.new.number
+        message.old message.new × IsNoneOf section.now lines.new.ahead.now) }
     ensures malformed { (place : Place) → IsErrOf result (ComposeError.Malformed place)
-        → IsStop (IsRecordLine section.now) section.now (IsAnyRecord None) lines.old.ahead.now lines.old.number
-        place.line place.offset }
-    ensures added { OnOk result ((m : Message)
-        → Writes T.most m message.old.state message.old.header message.old.counts
-        → AddsUpTo (AddsRecord T.most (message_limit B.limit) D.limit section.now S.more) m
-        lines.old.ahead.now (λ after ahead. Writes T.most after message.new.state message.new.header
-        message.new.counts × (ahead ≡ lines.new.ahead.now))) }
-    ensures stopped { (place : Place) → IsErrOf result (ComposeError.Malformed place) → (m : Message)
-        → Writes T.most m message.old.state message.old.header message.old.counts
-        → AddsUpTo (AddsRecord T.most (message_limit B.limit) D.limit section.now S.more) m
-        lines.old.ahead.now (λ after ahead. IsFaultyLine section.now (IsAnyRecord None) ahead place.offset
+        → PushedUpTo (IsRecordLine section.now) (IsSmallRecord D.limit) T.most (message_limit B.limit) S.more
+        lines.old.ahead.now lines.old.number message.old (λ ahead now after. (place.line ≡ now)
+        × IsFaultyLine section.now (IsAnyRecord None) ahead place.offset
         × ¬ IsLongLine section.now (IsAnyRecord None) D.limit ahead) }
     ensures short { IsErrOf result ComposeError.Short
-        → ReadUpTo (IsRecordLine section.now) lines.old.ahead.now lines.old.number (λ said ahead.
-        ExceedsWith T.most (least_limit message.old.push_limit (message_limit B.limit)) S.count S.more said
-        message.old.state message.old.header message.old.counts
+        → PushedUpTo (IsRecordLine section.now) (IsSmallRecord D.limit) T.most (message_limit B.limit) S.more
+        lines.old.ahead.now lines.old.number message.old (λ ahead now after.
+        ExceedsNext (IsRecordLine section.now) (IsSmallRecord D.limit) T.most
+        (least_limit after.push_limit (message_limit B.limit)) S.count S.more ahead after
         ⊎ IsLongLine section.now (IsAnyRecord None) D.limit ahead) }
     ensures memory { IsErrOf result ComposeError.Memory → (B.asks ≡ true) ⊎ (T.asks ≡ true) ⊎ (D.asks ≡ true)
-        ⊎ ReadUpTo (IsRecordLine section.now) lines.old.ahead.now lines.old.number (λ said ahead.
-        IsListLine section.now ahead) }
-    ensures push_limit { message.new.push_limit ≡ message.old.push_limit }
+        ⊎ PushedUpTo (IsRecordLine section.now) (IsSmallRecord D.limit) T.most (message_limit B.limit) S.more
+        lines.old.ahead.now lines.old.number message.old (λ ahead now after. IsListLine section.now ahead) }
     ensures borrows { B.borrows message.new.octets ≡ B.borrows message.old.octets }
 {
     'lines: loop {

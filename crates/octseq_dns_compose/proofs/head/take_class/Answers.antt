@@ -1,20 +1,11 @@
-use Rattle.std.proofs.Common.{refl, rules}
+use Rattle.std.proofs.Common.{rules}
 use Rattle.octseq_dns_compose.specs.RecordText.{IsClassWord}
-use Rattle.octseq_dns_compose.proofs.Faults.{only_word}
+use Rattle.octseq_dns_compose.proofs.Faults.{takes_none, takes_other}
 use Rattle.octseq_dns_compose.proofs.head.take_class.Goals as goal
 
 pub returns-in_default-clause-taken : goal.returns-in_default-clause-taken
-returns-in_default-clause-taken c = record {
-  some = tt;
-  none = λ _ word rest value taken. absurd (c.in_default.ensures.none (search rules) word rest taken);
-  kept = refl;
-}
+returns-in_default-clause-taken c = takes_none IsClassWord (c.in_default.ensures.none (search rules))
 
 pub returns-in_default-scan_class-clause-taken : goal.returns-in_default-scan_class-clause-taken
-returns-in_default-scan_class-clause-taken c = record {
-  some = tt;
-  none = λ _ word rest value taken.
-      only_word (IsClassWord value) _ _ _ c.in-Some.ensures.some
-      (c.in_default-scan_class.ensures.none (search rules) value) word rest taken;
-  kept = refl;
-}
+returns-in_default-scan_class-clause-taken c =
+    takes_other IsClassWord c.in-Some.ensures.some (c.in_default-scan_class.ensures.none (search rules))

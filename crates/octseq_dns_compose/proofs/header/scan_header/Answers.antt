@@ -3,7 +3,7 @@ use Rattle.octseq_dns_scan.specs.Word.{TakesWord}
 use Rattle.octseq_dns_scan.specs.Words.{ahead_of}
 use Rattle.octseq_dns_compose.specs.Take.{IsUpTo}
 use Rattle.octseq_dns_compose.proofs.Faults.{at_front, kept_fault, reached_fault}
-use Rattle.octseq_dns_compose.proofs.HeaderLines.{AfterId, AfterOpcode, AfterRcode, Any, HeaderTexts}
+use Rattle.octseq_dns_compose.proofs.HeaderLines.{AfterRcode, Any}
 use Rattle.octseq_dns_compose.proofs.HeaderLines.{fault_after_flags, fault_at_flags, id_fault, line_words, opcode_fault}
 use Rattle.octseq_dns_compose.proofs.HeaderLines.{past_field, past_id, past_opcode, past_rcode, rcode_fault}
 use Rattle.octseq_dns_compose.proofs.header.scan_header.Goals as goal
@@ -16,8 +16,7 @@ returns-in_default c = record {
 
 pub returns-in_default-take_field : goal.returns-in_default-take_field
 returns-in_default-take_field c =
-    let one = past_field _ _ _ HeaderTexts _ (Any AfterId) past_id at_front c.in-Some.ensures.taken.some
-    c.in-Some.ensures.end in
+    let one = past_field past_id at_front c.in-Some.ensures.taken.some c.in-Some.ensures.end in
     record {
       some = tt;
       none = λ _. reached_fault one
@@ -27,10 +26,9 @@ returns-in_default-take_field c =
 
 pub returns-in_default-take_field-2 : goal.returns-in_default-take_field-2
 returns-in_default-take_field-2 c =
-    let one = past_field _ _ _ HeaderTexts _ (Any AfterId) past_id at_front c.in-Some.ensures.taken.some
-    c.in-Some.ensures.end in
-    let two = past_field _ _ _ HeaderTexts _ (Any AfterOpcode) past_opcode one c.in-Some-take_field.ensures.taken.some
-    c.in-Some-take_field.ensures.end in
+    let one = past_field past_id at_front c.in-Some.ensures.taken.some c.in-Some.ensures.end in
+    let second = c.in-Some-take_field.ensures in
+    let two = past_field past_opcode one second.taken.some second.end in
     record {
       some = tt;
       none = λ _. reached_fault two
@@ -40,12 +38,11 @@ returns-in_default-take_field-2 c =
 
 pub returns-then-not-take_word : goal.returns-then-not-take_word
 returns-then-not-take_word c =
-    let one = past_field _ _ _ HeaderTexts _ (Any AfterId) past_id at_front c.in-Some.ensures.taken.some
-    c.in-Some.ensures.end in
-    let two = past_field _ _ _ HeaderTexts _ (Any AfterOpcode) past_opcode one c.in-Some-take_field.ensures.taken.some
-    c.in-Some-take_field.ensures.end in
-    let three = past_field _ _ _ HeaderTexts _ (Any AfterRcode) past_rcode two
-    c.in-Some-take_field-2.ensures.taken.some c.in-Some-take_field-2.ensures.end in
+    let one = past_field past_id at_front c.in-Some.ensures.taken.some c.in-Some.ensures.end in
+    let second = c.in-Some-take_field.ensures in
+    let two = past_field past_opcode one second.taken.some second.end in
+    let third = c.in-Some-take_field-2.ensures in
+    let three = past_field past_rcode two third.taken.some third.end in
     let none = c.if-not-take_word.ensures.taken in
     record {
       some = tt;
@@ -55,12 +52,11 @@ returns-then-not-take_word c =
 
 pub returns-then-not-is_at_end : goal.returns-then-not-is_at_end
 returns-then-not-is_at_end c =
-    let one = past_field _ _ _ HeaderTexts _ (Any AfterId) past_id at_front c.in-Some.ensures.taken.some
-    c.in-Some.ensures.end in
-    let two = past_field _ _ _ HeaderTexts _ (Any AfterOpcode) past_opcode one c.in-Some-take_field.ensures.taken.some
-    c.in-Some-take_field.ensures.end in
-    let three = past_field _ _ _ HeaderTexts _ (Any AfterRcode) past_rcode two
-    c.in-Some-take_field-2.ensures.taken.some c.in-Some-take_field-2.ensures.end in
+    let one = past_field past_id at_front c.in-Some.ensures.taken.some c.in-Some.ensures.end in
+    let second = c.in-Some-take_field.ensures in
+    let two = past_field past_opcode one second.taken.some second.end in
+    let third = c.in-Some-take_field-2.ensures in
+    let three = past_field past_rcode two third.taken.some third.end in
     let word : TakesWord (codes "flags") (ahead_of c.take_field-3.new.words) (ahead_of c.take_word.new.words) =
     c.if-not-take_word.ensures.taken in
     let flags = c.take_flags-flags.ensures.taken in

@@ -2,7 +2,7 @@ use Rattle.std.proofs.Common.{◌≡◌, Err, sym, ap, ◌∙◌, subst, rules}
 use Rattle.octseq_dns_scan.specs.Words.{ahead_of, offset_of}
 use Rattle.octseq_dns_text.specs.Scans.{IsFault}
 use Rattle.octseq_dns_text.specs.declared.error.ScanError.{ScanError}
-use Rattle.octseq_dns_compose.specs.RecordText.{Head, IsAnyRecord}
+use Rattle.octseq_dns_compose.specs.RecordText.{IsAnyRecord}
 use Rattle.octseq_dns_compose.proofs.Faults.{kept_fault, reached_fault}
 use Rattle.octseq_dns_compose.proofs.Records.{AfterClass, fault_at_order, fault_at_owner, fault_at_rtype}
 use Rattle.octseq_dns_compose.proofs.Records.{head_asks, head_read}
@@ -49,42 +49,27 @@ returns-in-Err-clause-fault g c = λ offset is.
 
 pub returns-in-Ok-clause-ok : goal.returns-in-Ok-clause-ok
 returns-in-Ok-clause-ok g c =
-    let head : Head = record {
-      labels = _;
-      ttl = c.in-Some-take_ttl_and_class.both.0;
-      class = c.in-Some-take_ttl_and_class.both.1;
-      rtype = c.in-Some-take_rtype.rtype;
-    } in
-    let read = head_read _ head c.in-Some.ensures.some c.in-Some-take_ttl_and_class.ensures.taken.some
-    c.in-Some-take_rtype.ensures.taken.some in
+    let both = c.in-Some-take_ttl_and_class.both in
+    let read = head_read _ _ both.0 both.1 c.in-Some-take_rtype.rtype c.in-Some.ensures.some
+    c.in-Some-take_ttl_and_class.ensures.taken.some c.in-Some-take_rtype.ensures.taken.some in
     let rest = c.in-Ok.ensures.scanned.ok in
-    let all = record_words _ head read rest.0 rest.1 rest.2 rest.3 in
+    let all = record_words _ _ read rest.0 rest.1 rest.2 rest.3 in
     (all.0, rest.1, all.1, all.2, rest.4)
 
 pub returns-in-Err-clause-short : goal.returns-in-Err-clause-short
 returns-in-Err-clause-short g c = λ is.
     let found : c.in-Err.error ≡ ScanError.Short = cc in
-    let head : Head = record {
-      labels = _;
-      ttl = c.in-Some-take_ttl_and_class.both.0;
-      class = c.in-Some-take_ttl_and_class.both.1;
-      rtype = c.in-Some-take_rtype.rtype;
-    } in
-    let read = head_read _ head c.in-Some.ensures.some c.in-Some-take_ttl_and_class.ensures.taken.some
-    c.in-Some-take_rtype.ensures.taken.some in
+    let both = c.in-Some-take_ttl_and_class.both in
+    let read = head_read _ _ both.0 both.1 c.in-Some-take_rtype.rtype c.in-Some.ensures.some
+    c.in-Some-take_ttl_and_class.ensures.taken.some c.in-Some-take_rtype.ensures.taken.some in
     let rest = c.in-Err.ensures.scanned.short (ap (λ e. Err e) found) in
-    let all = record_words _ head read rest.0 rest.1 rest.2 rest.3 in
-    (all.0, rest.1, all.1, (head, all.2), rest.4)
+    let all = record_words _ _ read rest.0 rest.1 rest.2 rest.3 in
+    (all.0, rest.1, all.1, (_, all.2), rest.4)
 
 pub returns-in-Err-clause-memory : goal.returns-in-Err-clause-memory
 returns-in-Err-clause-memory g c = λ is.
     let found : c.in-Err.error ≡ ScanError.Memory = cc in
-    let head : Head = record {
-      labels = _;
-      ttl = c.in-Some-take_ttl_and_class.both.0;
-      class = c.in-Some-take_ttl_and_class.both.1;
-      rtype = c.in-Some-take_rtype.rtype;
-    } in
-    let read = head_read _ head c.in-Some.ensures.some c.in-Some-take_ttl_and_class.ensures.taken.some
-    c.in-Some-take_rtype.ensures.taken.some in
-    head_asks _ head _ read (c.in-Err.ensures.scanned.memory (ap (λ e. Err e) found))
+    let both = c.in-Some-take_ttl_and_class.both in
+    let read = head_read _ _ both.0 both.1 c.in-Some-take_rtype.rtype c.in-Some.ensures.some
+    c.in-Some-take_ttl_and_class.ensures.taken.some c.in-Some-take_rtype.ensures.taken.some in
+    head_asks _ _ _ read (c.in-Err.ensures.scanned.memory (ap (λ e. Err e) found))
