@@ -26,7 +26,7 @@ module _ {octets : List ℕ} {targets : List Target} (names : Names) (agrees : A
   all_new labels last k before within none =
       let same : last ≡ k + (last - k) = omega (arith, before) in
       not_there (drop k labels) (last - k) (omega (arith, length-drop k labels, within, before))
-      (ap (get names) (drop-drop (last - k) k labels ∙ ap (λ n. drop n labels) (sym same)) ∙ none)
+      (rw (drop-drop (last - k) k labels, ← same) none)
 
   -- and the labels before those that are there are the first ones
   pub ending_is : (labels : List (List ℕ)) (written : ℕ) → written ≤ length labels

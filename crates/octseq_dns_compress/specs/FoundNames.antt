@@ -25,16 +25,13 @@ tested labels others false is other = refl
 pub get_new : (names : Names) (labels : List (List ℕ)) (place : Place)
     → get (insert names labels place) labels ≡ Some place
 get_new names labels place =
-    get-insert labels_total names labels place labels
-    ∙ ap (λ reported. cond reported (Some place) (get names labels)) ((eq_by_cmp_equiv labels_total).refl labels)
+    rw (get-insert labels_total names labels place labels, (eq_by_cmp_equiv labels_total).refl labels)
 
 -- the lookups of others don't change
 pub get_other : (names : Names) (labels others : List (List ℕ)) (place : Place) → ¬ (others ≡ labels)
     → get (insert names labels place) others ≡ get names others
 get_other names labels others place other =
-    get-insert labels_total names labels place others
-    ∙ ap (λ reported. cond reported (Some place) (get names others))
-    (tested others labels (eq_by_cmp labels_cmp others labels) refl other)
+    rw (get-insert labels_total names labels place others, tested others labels _ refl other)
 
 -- ---- whether labels are there
 
