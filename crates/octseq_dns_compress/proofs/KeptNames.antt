@@ -1,8 +1,8 @@
 -- The names after labels are written, of which the last ones are kept first.
-use Rattle.std.proofs.Common.{rules, tests, IsTrue, if◌then◌else◌, ◌≡◌, Bool, true, false, ℕ, ◌+◌, ◌<◌, ◌≤◌, None, List}
-use Rattle.std.proofs.Common.{[], ◌∷◌, length, refl, ap, ◌∙◌, arith, is_some}
+use Rattle.std.proofs.Common.{rules, tests, IsTrue, if◌then◌else◌, ◌≡◌, Bool, false, ℕ, ◌+◌, ◌<◌, ◌≤◌, None, List, []}
+use Rattle.std.proofs.Common.{◌∷◌, length, refl, ap, arith, is_some}
 use Rattle.std.proofs.lemmas.Bool.{false_from_ne_true}
-use Rattle.std.specs.FinMap.{get, len, insert, contains_key}
+use Rattle.std.specs.FinMap.{get, len, insert}
 use Rattle.octseq_dns_compress.proofs.Words.{get_other, Names, Place, is_there, is_kept, with_labels}
 
 -- labels that aren't found, and aren't the root, aren't there
