@@ -1,8 +1,8 @@
 -- The names after labels are written, of which the last ones are kept first.
-use Rattle.std.proofs.Common.{rules, tests, IsTrue, if◌then◌else◌, ◌≡◌, Bool, true, false, ℕ, ◌+◌, ◌<◌, ◌≤◌, None, List}
-use Rattle.std.proofs.Common.{[], ◌∷◌, length, refl, ap, ◌∙◌, arith, is_some}
+use Rattle.std.proofs.Common.{rules, tests, IsTrue, if◌then◌else◌, ◌≡◌, Bool, false, ℕ, ◌+◌, ◌<◌, ◌≤◌, None, List, []}
+use Rattle.std.proofs.Common.{◌∷◌, length, refl, ap, arith, is_some}
 use Rattle.std.proofs.lemmas.Bool.{false_from_ne_true}
-use Rattle.std.specs.FinMap.{get, len, insert, contains_key}
+use Rattle.std.specs.FinMap.{get, len, insert}
 use Rattle.octseq_dns_compress.proofs.Words.{get_other, Names, Place, is_there, is_kept, with_labels}
 
 -- labels that aren't found, and aren't the root, aren't there
@@ -28,15 +28,6 @@ module _ (most : ℕ) (names : Names) (rest : List (List ℕ)) (place : Place) w
       false_from_ne_true (is_kept most names rest place) (λ kept.
       let parts = kept_parts kept in never parts.0 parts.1 parts.2 parts.3)
 
--- the lookup of longer labels, whatever the tests are
-longer : (more names : Names) (labels others : List (List ℕ)) (place : Place) (known kept : Bool)
-    → length labels < length others → get more others ≡ get names others
-    → get (if known then names else (if kept then insert more labels place else more)) others ≡ get names others
-longer more names labels others place true kept less same = refl
-longer more names labels others place false true less same =
-    get_other more labels others place (λ one. absurd (omega (arith, ap length one, less))) ∙ same
-longer more names labels others place false false less same = same
-
 module _ (most pointers : ℕ) (names : Names) where
   -- the lookup of more labels than are written doesn't change
   pub with_other : (start : ℕ) (labels others : List (List ℕ)) → length labels < length others
@@ -45,9 +36,9 @@ module _ (most pointers : ℕ) (names : Names) where
   with_other start (label ∷ labels) others less =
       let more = with_labels most pointers names (start + (1 + length label)) labels in
       let place : Place = record { at = start; pointers = pointers } in
-      longer more names (label ∷ labels) others place (contains_key names (label ∷ labels))
-      (is_kept most more labels place) less
-      (with_other (start + (1 + length label)) labels others (omega (arith, less)))
+      let same = with_other (start + (1 + length label)) labels others (omega (arith, less)) in
+      let put = get_other more (label ∷ labels) others place (λ one. absurd (omega (arith, ap length one, less))) in
+      grind (arith, tests, same, put)
 
   -- labels that are there add nothing
   pub with_known : (start : ℕ) (labels : List (List ℕ)) → IsTrue (is_there names labels)

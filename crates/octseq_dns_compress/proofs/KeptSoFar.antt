@@ -12,8 +12,8 @@ use Rattle.std.specs.FinMap.{get, insert as put}
 use Rattle.std.specs.Ordering.{ordering_then}
 use Rattle.std.specs.declared.cmp.Ordering.{Ordering}
 use Rattle.octseq_dns_compress.proofs.Words.{Agrees, place_of, get_new, put_cases, label_at, digest_of, with_digest}
-use Rattle.octseq_dns_compress.proofs.Words.{key, key_cmp, IsWhole, IsPosition, Names, Place, at_or_zero, is_there}
-use Rattle.octseq_dns_compress.proofs.Words.{label_no, prefixed, unrooted, IsWritten, Target}
+use Rattle.octseq_dns_compress.proofs.Words.{key, key_cmp, IsWhole, IsPosition, Names, Place, is_there, label_no}
+use Rattle.octseq_dns_compress.proofs.Words.{prefixed, unrooted, IsWritten, Target}
 use Rattle.octseq_dns_compress.proofs.MoreNames.{all_insert, MayBeKept, agrees_added}
 use Rattle.octseq_dns_compress.proofs.PlainLabels.{front_and_rest, whole_there, label_there, one_left}
 

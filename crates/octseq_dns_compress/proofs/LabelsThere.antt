@@ -1,7 +1,7 @@
 -- A name that was written is read as such, and so are the names that pointers may lead to after it.
-use Rattle.std.proofs.Common.{if◌then◌else◌, ◌≡◌, ◌⊎◌, inl, inr, Bool, true, false, ℕ, ◌+◌, ◌-◌, ◌<◌, ◌≤◌, Option, Some}
-use Rattle.std.proofs.Common.{None, List, [], ◌∷◌, ◌++◌, length, drop, replicate, is_some, refl, sym, ap, ◌∙◌, subst}
-use Rattle.std.proofs.Common.{arith, append_assoc, length-append, length-drop, drop_at, drop-drop, take_all}
+use Rattle.std.proofs.Common.{tests, if◌then◌else◌, ◌≡◌, ◌⊎◌, inl, inr, Bool, true, false, ℕ, ◌+◌, ◌-◌, ◌<◌, ◌≤◌}
+use Rattle.std.proofs.Common.{Option, Some, None, List, [], ◌∷◌, ◌++◌, length, drop, replicate, is_some, refl, sym, ap}
+use Rattle.std.proofs.Common.{◌∙◌, subst, arith, append_assoc, length-append, length-drop, drop_at, drop-drop, take_all}
 use Rattle.std.proofs.Math.Seq.{drop-append_seam}
 use Rattle.std.proofs.lemmas.List.{drop-append-le, length-replicate}
 use Rattle.std.proofs.lemmas.Slice.{drop-append-drop}
@@ -133,12 +133,7 @@ few_from : (octets : List ℕ) (names : Names) → AreNamed octets names → (la
     → pointers_from (last_place names labels) ≤ 127
 few_from octets names named [] = omega arith
 few_from octets names named (label ∷ labels) =
-    by_found (get names (label ∷ labels)) refl (few_from octets names named labels) where
-      by_found : (found : Option Place) → get names (label ∷ labels) ≡ found
-          → pointers_from (last_place names labels) ≤ 127
-          → pointers_from (option_or found (last_place names labels)) ≤ 127
-      by_found (Some place) found others = omega (arith, named.few (label ∷ labels) place found)
-      by_found None found others = others
+    grind (arith, tests, named.few (label ∷ labels), few_from octets names named labels)
 
 -- A name that is written after a message is read as that name, whatever its header says and whatever follows it.
 pub name_is_read : (octets : List ℕ) (names : Names) (labels : List (List ℕ)) → 12 ≤ length octets
