@@ -43,7 +43,7 @@ line_fault Is Texts front text line after rest number start offset leads split b
 
 -- ---- the header
 
-header_next : Leads (IsNextLine IsAnyText []) HeaderTexts []
+pub header_next : Leads (IsNextLine IsAnyText []) HeaderTexts []
 header_next = record {
   into = λ words octets is.
       let say : SayEntries (words ∷ []) is.0 [] =
@@ -55,7 +55,7 @@ header_next = record {
       ([], (next.1.0, subst (IsHeaderLine next.1.0) (sym same) say.header_is));
 }
 
-no_lines_at_all : ¬ IsAnyText []
+pub no_lines_at_all : ¬ IsAnyText []
 no_lines_at_all (header, entries, say) = absurd (cc (say.lines_are))
 
 pub header_fault : (text : List ℕ) (offset : ℕ) → IsFaultyHeader text offset → IsLineFault IsAnyText text 1 1 offset

@@ -1,13 +1,13 @@
 -- A text has one first fault.
-use Rattle.std.proofs.Common.{◌≡◌, ◌⊎◌, ℕ, List, [], ◌∷◌, ◌++◌, length, refl, sym, ap, ◌∙◌, subst, inl, inr, arith}
+use Rattle.std.proofs.Common.{◌≡◌, ℕ, List, [], ◌∷◌, ◌++◌, length, refl, sym, ap, ◌∙◌, subst, inl, inr, arith}
 use Rattle.std.proofs.Common.{append_assoc}
 use Rattle.octseq_dns_scan.specs.Word.{TakesWord}
 use Rattle.octseq_dns_scan.proofs.Taken.{word_once}
 use Rattle.octseq_dns_text.specs.Scans.{BeginsWithWords, Goes, IsFault}
-use Rattle.octseq_dns_compose.specs.TextLines.{BeginsWithLines, IsLineFault, IsNextLine, IsUnended}
+use Rattle.octseq_dns_compose.specs.TextLines.{BeginsWithLines, IsLineFault, IsNextLine}
 use Rattle.octseq_dns_compose.specs.TextLines.{TakesLine}
 use Rattle.octseq_dns_compose.proofs.Faults.{no_text}
-use Rattle.octseq_dns_compose.proofs.LineFaults.{Line, line_once, no_next, splits_same}
+use Rattle.octseq_dns_compose.proofs.LineFaults.{Broken, Line, line_once, no_next, splits_same}
 
 -- ---- two fronts of one text
 
@@ -86,9 +86,8 @@ module _ (Is : Line → List ℕ → Type 0) (ahead : List ℕ) (start : ℕ) wh
       (compared_words fault.front also.front ahead fault.rest also.rest fault.begins also.begins)
 
   -- a line has a fault, or only lacks its line feed
-  one_either : (after behind : List ℕ) (offset other : ℕ)
-      → IsFault Is ahead start offset ⊎ IsUnended Is ahead after start offset
-      → IsFault Is ahead start other ⊎ IsUnended Is ahead behind start other → offset ≡ other
+  one_either : (after behind : List ℕ) (offset other : ℕ) → Broken Is ahead after start offset
+      → Broken Is ahead behind start other → offset ≡ other
   one_either after behind offset other (inl fault) (inl also) = one_fault offset other fault also
   one_either after behind offset other (inl fault) (inr also) =
       absurd (no_text Is ahead start offset fault also.words also.octets also.are also.is)
@@ -100,8 +99,7 @@ module _ (Is : Line → List ℕ → Type 0) (ahead : List ℕ) (start : ℕ) wh
 
 module _ (Is : List Line → Type 0) where
   abbrev Faulty : List Line → List ℕ → List ℕ → ℕ → Type 0
-  Faulty front line after offset =
-      IsFault (IsNextLine Is front) line 0 offset ⊎ IsUnended (IsNextLine Is front) line after 0 offset
+  Faulty front line after offset = Broken (IsNextLine Is front) line after 0 offset
 
   -- some text begins with the lines before a fault
   some_text : (front : List Line) (line after : List ℕ) (offset : ℕ) → Faulty front line after offset

@@ -1,5 +1,5 @@
 -- A text of which each line was taken isn't too long.
-use Rattle.std.proofs.Common.{◌≡◌, ◌⊎◌, ℕ, ◌<◌, ◌≤◌, Option, Some, None, List, [], ◌∷◌, ◌++◌, length, append-nil}
+use Rattle.std.proofs.Common.{◌≡◌, ℕ, ◌<◌, ◌≤◌, Option, Some, None, List, [], ◌∷◌, ◌++◌, length, append-nil}
 use Rattle.std.proofs.Common.{append_assoc, refl, sym, ap, ◌∙◌, subst, inl, inr, arith}
 use Rattle.std.specs.List.{AllByRecursion}
 use Rattle.octseq.specs.Limit.{IsPast}
@@ -16,12 +16,11 @@ use Rattle.octseq_dns_compose.specs.MessageText.{AreEntries, Entry, IsAnyText, I
 use Rattle.octseq_dns_compose.specs.MessageText.{IsRecordLine, SayEntries, Said, headed_message, section_of}
 use Rattle.octseq_dns_compose.specs.Progress.{IsSmallRecord, PushedUpTo}
 use Rattle.octseq_dns_compose.specs.RecordText.{IsAnyRecord}
-use Rattle.octseq_dns_compose.specs.TextLines.{IsFaultyLine, IsLineFault, IsLongLine, IsUnended, Splits, TakesLine}
+use Rattle.octseq_dns_compose.specs.TextLines.{IsFaultyLine, IsLineFault, IsLongLine, Splits, TakesLine}
 use Rattle.octseq_dns_compose.specs.TooLong.{HasLongData, HasLongMessage, IsTooLong, data_octets}
-use Rattle.octseq_dns_text.specs.Scans.{IsFault}
 use Rattle.octseq_dns_compose.proofs.Composing.{IsSmall, PushesRecords, Stage, stage_on, stop_at}
 use Rattle.octseq_dns_compose.proofs.Faults.{no_text}
-use Rattle.octseq_dns_compose.proofs.LineFaults.{Line, line_same, splits_same}
+use Rattle.octseq_dns_compose.proofs.LineFaults.{Broken, Line, line_same, splits_same}
 use Rattle.octseq_dns_compose.proofs.LongTexts.{not_past}
 use Rattle.octseq_dns_compose.proofs.MessageFaults.{IsSection, NoneFrom, below_four, no_entry, section_in, section_is}
 use Rattle.octseq_dns_compose.proofs.MessageFaults.{word_is}
@@ -255,8 +254,7 @@ module _ {section : ℕ} {first : List ℕ} {Texts : Line → List ℕ → Type 
     (small : (entry : Entry) (words : Line) → section_of entry ≡ section → AreWords words fault.rest
     → Texts words (data_octets entry) → ¬ (65535 < length (data_octets entry))) where
   unended : (words : Line) (octets : List ℕ) → AreWords words fault.rest → Texts words octets
-      → IsFault Texts fault.rest fault.start offset ⊎ IsUnended Texts fault.rest fault.after fault.start offset
-      → fault.after ≡ []
+      → Broken Texts fault.rest fault.after fault.start offset → fault.after ≡ []
   unended words octets are is (inl bad) = absurd (no_text Texts fault.rest fault.start offset bad words octets are is)
   unended words octets are is (inr bad) = bad.ends
 
