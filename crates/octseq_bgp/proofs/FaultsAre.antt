@@ -4,24 +4,24 @@ use Rattle.std.specs.Prelude.{◌⊎◌, max, Option, Some, None}
 use Rattle.std.proofs.lemmas.Bool.{ne_eqb}
 use Rattle.std.proofs.lemmas.Bool.Decides.{eqb_tells}
 use mathlib.Core.Logic.{inl, inr}
-use Rattle.octseq_bgp.specs.Entry.{Entry}
 use Rattle.octseq_bgp.specs.Fault.{Fault, fault_before, AreFaults, AreFaultsOf, Marks, worst_of}
 use Rattle.octseq_bgp.specs.Handling.{HasType, IsRank, IsWorst, IsHandling}
+use Rattle.octseq_bgp.specs.Parts.{Attribute, type_of}
 use Rattle.octseq_bgp.specs.Update.{Update}
 use Rattle.octseq_bgp.specs.declared.session.SessionConfig.{SessionConfig}
 
 -- what is accepted isn't a fault
-pub none_before : (place : Option Entry) (n : ℕ) (row : List Fault) → n ≡ 0 → row ≡ fault_before place n row
+pub none_before : (place : Option Attribute) (n : ℕ) (row : List Fault) → n ≡ 0 → row ≡ fault_before place n row
 none_before place n row zero = ap (λ n. fault_before place n row) (sym zero)
 
 -- and what isn't accepted is one
-pub some_before : (place : Option Entry) (n : ℕ) (row : List Fault) → n ≢ 0
+pub some_before : (place : Option Attribute) (n : ℕ) (row : List Fault) → n ≢ 0
     → record { place = place; rank = n } ∷ row ≡ fault_before place n row
 some_before place n row not =
     ap (λ b. if b then row else record { place = place; rank = n } ∷ row) (sym (ne_eqb n 0 not))
 
 -- the worst fault, with one more
-worst_cases : (place : Option Entry) (n : ℕ) (row : List Fault)
+worst_cases : (place : Option Attribute) (n : ℕ) (row : List Fault)
     → ((nat_eq n 0 ≡ true) × (n ≡ 0)) ⊎ ((nat_eq n 0 ≡ false) × (n ≢ 0))
     → worst_of (fault_before place n row) ≡ max n (worst_of row)
 worst_cases place n row (inl is) =
@@ -30,12 +30,12 @@ worst_cases place n row (inl is) =
     ap (λ b. worst_of (if b then row else record { place = place; rank = n } ∷ row)) is.0 ∙ same
 worst_cases place n row (inr is) = ap (λ b. worst_of (if b then row else record { place = place; rank = n } ∷ row)) is.0
 
-worst_before : (place : Option Entry) (n : ℕ) (row : List Fault)
+worst_before : (place : Option Attribute) (n : ℕ) (row : List Fault)
     → worst_of (fault_before place n row) ≡ max n (worst_of row)
 worst_before place n row = worst_cases place n row (eqb_tells n 0)
 
 -- the worst fault of a list is the worst handling of its attributes and of a missing one
-pub worst_is : (s : SessionConfig) (external : Bool) (before row : List Entry) (missing : ℕ) (faults : List Fault)
+pub worst_is : (s : SessionConfig) (external : Bool) (before row : List Attribute) (missing : ℕ) (faults : List Fault)
     → AreFaults s external before row missing faults
     → (n : ℕ) × IsWorst s external before row n × (worst_of faults ≡ max n missing)
 worst_is s external before [] missing faults are =
@@ -61,8 +61,8 @@ handling_is external u faults are =
     }
 
 -- an attribute, and the faults of those after it
-pub one_more : (s t : SessionConfig) (external : Bool) (before all more : List Entry) (e : Entry) (missing : ℕ)
-    (seen : List Bool) (code n : ℕ) (faults row : List Fault) → code ≡ e.kind → code < 256
+pub one_more : (s t : SessionConfig) (external : Bool) (before all more : List Attribute) (e : Attribute) (missing : ℕ)
+    (seen : List Bool) (code n : ℕ) (faults row : List Fault) → code ≡ type_of e → code < 256
     → IsRank s external (get_or seen code false) e n → all ≡ e ∷ more → t ≡ s → Marks seen before
     → AreFaults t external (e ∷ before) more missing row → faults ≡ fault_before (Some e) n row
     → AreFaults s external before all missing faults

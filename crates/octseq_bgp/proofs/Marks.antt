@@ -4,11 +4,11 @@ use Rattle.std.specs.Prelude.{◌↔◌}
 use Rattle.std.proofs.lemmas.List.{get_or-set_other, get_or-set_same}
 use Rattle.std.proofs.Math.Decide.{dec_le}
 use mathlib.Core.Logic.{inl, inr}
-use Rattle.octseq_bgp.specs.Entry.{Entry}
 use Rattle.octseq_bgp.specs.Fault.{Marks}
 use Rattle.octseq_bgp.specs.Handling.{HasType}
+use Rattle.octseq_bgp.specs.Parts.{Attribute, type_of}
 
-apart : (seen : List Bool) (before : List Entry) (e : Entry) (code k : ℕ) → code ≡ e.kind → k ≢ code
+apart : (seen : List Bool) (before : List Attribute) (e : Attribute) (code k : ℕ) → code ≡ type_of e → k ≢ code
     → (get_or seen k false ≡ true) ↔ HasType before k
     → (get_or (set seen code true) k false ≡ true) ↔ HasType (e ∷ before) k
 apart seen before e code k same other is =
@@ -18,7 +18,7 @@ apart seen before e code k same other is =
       has (inl here) = absurd (other (sym here ∙ sym same))
       has (inr more) = get_or-set_other seen code k true false other ∙ is.1 more
 
-mark : (seen : List Bool) (before : List Entry) (e : Entry) (code k : ℕ) → code ≡ e.kind → code < length seen
+mark : (seen : List Bool) (before : List Attribute) (e : Attribute) (code k : ℕ) → code ≡ type_of e → code < length seen
     → (get_or seen k false ≡ true) ↔ HasType before k → Dec (k ≤ code) → Dec (code ≤ k)
     → (get_or (set seen code true) k false ≡ true) ↔ HasType (e ∷ before) k
 mark seen before e code k same room is (yes low) (yes high) =
@@ -35,7 +35,7 @@ mark seen before e code k same room is _ (no low) =
     apart seen before e code k same other is
 
 -- one more type is marked
-pub marked : (seen : List Bool) (before : List Entry) (e : Entry) (code : ℕ) → code ≡ e.kind → code < length seen
+pub marked : (seen : List Bool) (before : List Attribute) (e : Attribute) (code : ℕ) → code ≡ type_of e → code < length seen
     → Marks seen before → Marks (set seen code true) (e ∷ before)
 marked seen before e code same room marks k fits =
     mark seen before e code k same room (marks k fits) (dec_le k code) (dec_le code k)

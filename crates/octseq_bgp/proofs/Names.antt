@@ -6,10 +6,10 @@ use Rattle.octseq_bgp.specs.AttributeType.{type_number}
 use Rattle.octseq_bgp.specs.Path.{segment_number}
 use Rattle.octseq_bgp.specs.Text.{segment_text, type_text}
 use Rattle.octseq_bgp.specs.ValueText.{name_text, segment_name}
-use Rattle.octseq_bgp.specs.declared.attribute_type.AttributeType.{AttributeType}
-use Rattle.octseq_bgp.specs.declared.attribute_type.AttributeType.TheVariants as kind
-use Rattle.octseq_bgp.specs.declared.path.SegmentType.{SegmentType}
-use Rattle.octseq_bgp.specs.declared.path.SegmentType.TheVariants as segment
+use Rattle.octseq_bgp.specs.declared.attribute.attribute_type.AttributeType.{AttributeType}
+use Rattle.octseq_bgp.specs.declared.attribute.attribute_type.AttributeType.TheVariants as kind
+use Rattle.octseq_bgp.specs.declared.attribute.path.SegmentType.{SegmentType}
+use Rattle.octseq_bgp.specs.declared.attribute.path.SegmentType.TheVariants as segment
 
 pub segment_is_named : (k : SegmentType) → segment_text k ≡ segment_name (segment_number k)
 segment_is_named segment.Set = refl

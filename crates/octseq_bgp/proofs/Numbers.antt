@@ -4,7 +4,7 @@ use Rattle.octseq.specs.Integer.{be}
 use Rattle.octseq.specs.Window.{Window, left, rest}
 use Rattle.octseq.proofs.Windows.{next_of_rest, rest_past}
 use Rattle.octseq_format.specs.Row.{Row}
-use Rattle.octseq_bgp.specs.Entry.{IsNumber}
+use Rattle.octseq_bgp.specs.Parts.{IsNumber}
 use Rattle.octseq_bgp.specs.Fills.{Fills}
 use Rattle.octseq_bgp.specs.Path.{asn_size}
 use Rattle.octseq_bgp.specs.ValueText.{numbers}

@@ -8,12 +8,12 @@ use Rattle.octseq_format.specs.Pair.{◌then◌, ◌one_then◌}
 use Rattle.octseq_format.specs.Rest.{IsRest, one_rest}
 use Rattle.octseq_bgp.specs.Capability.{CapabilityValue, Restart, IsRestart, Said, HasCode, IsCoded, IsCapabilityValue}
 use Rattle.octseq_bgp.specs.CapabilityType.{code_number}
-use Rattle.octseq_bgp.specs.Entry.{IsNumber}
+use Rattle.octseq_bgp.specs.Parts.{IsNumber}
 use Rattle.octseq_bgp.specs.FamilyTuple.{family_tuple}
 use Rattle.octseq_bgp.specs.Fills.{Fills}
-use Rattle.octseq_bgp.specs.OneEntry.{one_number}
-use Rattle.octseq_bgp.specs.declared.capability_type.CapabilityType.{CapabilityType}
-use Rattle.octseq_bgp.specs.declared.capability_type.CapabilityType.TheVariants as code
+use Rattle.octseq_bgp.specs.OneParts.{one_number}
+use Rattle.octseq_bgp.specs.declared.capability.capability_type.CapabilityType.{CapabilityType}
+use Rattle.octseq_bgp.specs.declared.capability.capability_type.CapabilityType.TheVariants as code
 use Rattle.octseq_bgp.proofs.Chunks.{one_filling}
 use Rattle.octseq_bgp.proofs.Values.{OneSaid}
 use Rattle.octseq_bgp.proofs.Wholes.{one_whole}

@@ -1,22 +1,22 @@
 -- Reading stops at one place.
 use Rattle.std.proofs.Common.{◌≡◌, ◌≤◌, ℕ, List, [], ◌∷◌, length, inl, inr, sym, ap, ◌∙◌, subst}
 use Rattle.std.proofs.Common.{true, false, is_ok, Result, Ok, Err, arith}
-use Rattle.std.specs.Prelude.{OnOk}
+use Rattle.std.specs.Prelude.{Bool, OnOk, ◌⊎◌}
 use Rattle.octseq.specs.Window.{Window, past, whole}
 use Rattle.octseq_format.proofs.RowSteps.{to_ends}
-use Rattle.octseq_format.specs.Laws.{Relation, NoneAt, IsOne}
+use Rattle.octseq_format.specs.Laws.{Relation, NoneAt, IsOne, IsMoving}
 use Rattle.octseq_format.specs.Row.{Row}
-use Rattle.octseq_bgp.specs.Entry.{Entry, IsEntry, IsCounted}
+use Rattle.octseq_bgp.specs.Fills.{AreFilled, ListStops}
 use Rattle.octseq_bgp.specs.Message.{IsHeader, IsShortEnough}
-use Rattle.octseq_bgp.specs.OneEntry.{one_entry, entry_moves, one_octets}
-use Rattle.octseq_bgp.specs.Open.{parameter_form}
-use Rattle.octseq_bgp.specs.Session.{prefix_form}
-use Rattle.octseq_bgp.specs.Stop.{EntriesStop, AreFilled, ListStop, LastStop, ThingStop, FixedStop, CountedStop}
+use Rattle.octseq_bgp.specs.OneParts.{one_attribute, one_octets, one_path_prefix, one_prefix, one_tlv}
+use Rattle.octseq_bgp.specs.Parts.{IsCounted}
+use Rattle.octseq_bgp.specs.Session.{adds_path}
+use Rattle.octseq_bgp.specs.Stop.{ListStop, LastStop, ThingStop, FixedStop, CountedStop}
+use Rattle.octseq_bgp.specs.Stop.{PrefixFault, PrefixFilled, PrefixStop}
 use Rattle.octseq_bgp.specs.Stop.{ParametersStop, ListsStop, UpdateStop, BodyStop, HasHeader, IsStop}
-use Rattle.octseq_bgp.specs.declared.entry.Form.{Form}
-use Rattle.octseq_bgp.specs.declared.entry.Form.TheVariants as form
 use Rattle.octseq_bgp.specs.declared.family.AfiSafiType.TheVariants as family
 use Rattle.octseq_bgp.specs.declared.session.SessionConfig.{SessionConfig}
+use Rattle.octseq_bgp.proofs.Moves.{attribute_moves, path_prefix_moves, prefix_moves, tlv_moves}
 use Rattle.octseq_bgp.proofs.OneMessage.{one_header}
 use Rattle.octseq_bgp.proofs.Wholes.{one_whole}
 
@@ -26,34 +26,52 @@ IsOnePlace Stop = (x y : ℕ) → Stop x → Stop y → x ≡ y
 
 -- ---- lists
 
--- entries go on to one place where there is none
-same_end : (f : Form) (w u v : Window) (row others : List Entry) → NoneAt (IsEntry f) u → NoneAt (IsEntry f) v
-    → Row (IsEntry f) w row u → Row (IsEntry f) w others v → u ≡ v
-same_end f w u v [] [] none also a b = a ∙ sym b
-same_end f w u v [] (y ∷ others) none also a b = absurd (none y b.0 (subst (λ x. IsEntry f x y b.0) (sym a) b.1))
-same_end f w u v (x ∷ row) [] none also a b = absurd (also x a.0 (subst (λ y. IsEntry f y x a.0) (sym b) a.1))
-same_end f w u v (x ∷ row) (y ∷ others) none also a b =
-    let same = (one_entry f).same w x y a.0 b.0 a.1 b.1 in
-    same_end f a.0 u v row others none also a.2 (subst (λ z. Row (IsEntry f) z others v) (sym same.1) b.2)
+-- values go on to one place where there is none
+same_end : {A : Type 0} {Is : Relation A} → IsOne Is → (w u v : Window) (row others : List A) → NoneAt Is u
+    → NoneAt Is v → Row Is w row u → Row Is w others v → u ≡ v
+same_end one w u v [] [] none also a b = a ∙ sym b
+same_end {Is = Is} one w u v [] (y ∷ others) none also a b = absurd (none y b.0 (subst (λ x. Is x y b.0) (sym a) b.1))
+same_end {Is = Is} one w u v (x ∷ row) [] none also a b = absurd (also x a.0 (subst (λ y. Is y x a.0) (sym b) a.1))
+same_end {Is = Is} one w u v (x ∷ row) (y ∷ others) none also a b =
+    let same = one.same w x y a.0 b.0 a.1 b.1 in
+    same_end one a.0 u v row others none also a.2 (subst (λ z. Row Is z others v) (sym same.1) b.2)
 
-one_entries : (f : Form) (w : Window) → IsOnePlace (EntriesStop f w)
-one_entries f w x y a b =
-    let same = same_end f w a.there b.there a.row b.row a.none b.none a.are b.are in
+one_fault : {A : Type 0} {Is : Relation A} → IsOne Is → (w : Window) → IsOnePlace (ListStops Is w)
+one_fault one w x y a b =
+    let same = same_end one w a.there b.there a.row b.row a.none b.none a.are b.are in
     a.is ∙ ap (λ (v : Window). v.position) same ∙ sym b.is
 
--- if entries stop early, they don't fill the window
-not_filled : (f : Form) (w : Window) (x : ℕ) → EntriesStop f w x → AreFilled f w → ⊥
-not_filled f w x a (row, (v, (are, ends))) =
-    to_ends (IsEntry f) (one_entry f) (entry_moves f) w a.there v a.row row a.none a.some a.are are ends
+-- if values stop early, they don't fill the window
+not_filled : {A : Type 0} {Is : Relation A} → IsOne Is → IsMoving Is → (w : Window) (x : ℕ) → ListStops Is w x
+    → AreFilled Is w → ⊥
+not_filled {Is = Is} one moves w x a (row, (v, (are, ends))) =
+    to_ends Is one moves w a.there v a.row row a.none a.some a.are are ends
 
-one_list : (f : Form) (w : Window) (Next : ℕ → Type 0) → IsOnePlace Next → IsOnePlace (ListStop f w Next)
-one_list f w Next next x y (inl a) (inl b) = one_entries f w x y a b
-one_list f w Next next x y (inl a) (inr (filled, q)) = absurd (not_filled f w x a filled)
-one_list f w Next next x y (inr (filled, p)) (inl b) = absurd (not_filled f w y b filled)
-one_list f w Next next x y (inr (filled, p)) (inr (_, q)) = next x y p q
+-- a fault here, or what comes next
+one_of_two : {Fault : ℕ → Type 0} {Filled : Type 0} {Next : ℕ → Type 0} → IsOnePlace Fault
+    → ((x : ℕ) → Fault x → Filled → ⊥) → IsOnePlace Next → IsOnePlace (λ place. Fault place ⊎ (Filled × Next place))
+one_of_two fault not next x y (inl a) (inl b) = fault x y a b
+one_of_two fault not next x y (inl a) (inr (filled, q)) = absurd (not x a filled)
+one_of_two fault not next x y (inr (filled, p)) (inl b) = absurd (not y b filled)
+one_of_two fault not next x y (inr (filled, p)) (inr (_, q)) = next x y p q
 
-one_last : (f : Form) (w : Window) → IsOnePlace (LastStop f w)
-one_last f w = one_list f w (λ place. place ≡ w.end) (λ x y p q. p ∙ sym q)
+one_list : {A : Type 0} {Is : Relation A} → IsOne Is → IsMoving Is → (w : Window) {Next : ℕ → Type 0}
+    → IsOnePlace Next → IsOnePlace (ListStop Is w Next)
+one_list one moves w next = one_of_two (one_fault one w) (not_filled one moves w) next
+
+one_last : {A : Type 0} {Is : Relation A} → IsOne Is → IsMoving Is → (w : Window) → IsOnePlace (LastStop Is w)
+one_last one moves w = one_list one moves w (λ x y p q. p ∙ sym q)
+
+one_prefix_fault : (paths : Bool) (w : Window) → IsOnePlace (PrefixFault paths w)
+one_prefix_fault true w = one_fault (one_path_prefix 32) w
+one_prefix_fault false w = one_fault (one_prefix 32) w
+
+not_prefixes : (paths : Bool) (w : Window) (x : ℕ) → PrefixFault paths w x → PrefixFilled paths w → ⊥
+not_prefixes true w = not_filled (one_path_prefix 32) (path_prefix_moves 32) w
+not_prefixes false w = not_filled (one_prefix 32) (prefix_moves 32) w
+
+one_prefixes : (paths : Bool) (w : Window) {Next : ℕ → Type 0} → IsOnePlace Next → IsOnePlace (PrefixStop paths w Next)
+one_prefixes paths w next = one_of_two (one_prefix_fault paths w) (not_prefixes paths w) next
 
 -- ---- bodies
 
@@ -72,26 +90,26 @@ one_fixed k Next w next x y (inl (many, p)) (inr (few, e)) = absurd (omega (arit
 one_fixed k Next w next x y (inr (few, e)) (inl (many, p)) = absurd (omega (arith, many, few))
 one_fixed k Next w next x y (inr (few, e)) (inr (_, f)) = e ∙ sym f
 
-one_counted : (k : ℕ) (f : Form) (w : Window) → IsOnePlace (CountedStop k f w)
-one_counted k f w x y (inl (a, is, p)) (inl (b, it, q)) =
-    one_last f b x y (subst (λ a. LastStop f a x) (one_whole (IsCounted k) (one_octets k) w a b is it) p) q
-one_counted k f w x y (inl (a, is, p)) (inr (none, e)) = absurd (none a is)
-one_counted k f w x y (inr (none, e)) (inl (a, is, p)) = absurd (none a is)
-one_counted k f w x y (inr (none, e)) (inr (_, g)) = e ∙ sym g
+one_counted : {A : Type 0} {Is : Relation A} → IsOne Is → IsMoving Is → (k : ℕ) (w : Window)
+    → IsOnePlace (CountedStop k Is w)
+one_counted {Is = Is} one moves k w x y (inl (a, is, p)) (inl (b, it, q)) =
+    one_last one moves b x y (subst (λ a. LastStop Is a x) (one_whole (IsCounted k) (one_octets k) w a b is it) p) q
+one_counted one moves k w x y (inl (a, is, p)) (inr (none, e)) = absurd (none a is)
+one_counted one moves k w x y (inr (none, e)) (inl (a, is, p)) = absurd (none a is)
+one_counted one moves k w x y (inr (none, e)) (inr (_, g)) = e ∙ sym g
 
 one_parameters : (w : Window) → IsOnePlace (ParametersStop w)
-one_parameters w x y (inl (_, p)) (inl (_, q)) = one_counted 2 (parameter_form true) (past 2 w) x y p q
+one_parameters w x y (inl (_, p)) (inl (_, q)) = one_counted (one_tlv 2) (tlv_moves 2) 2 (past 2 w) x y p q
 one_parameters w x y (inl (is, p)) (inr (not, q)) = absurd (not is)
 one_parameters w x y (inr (not, p)) (inl (is, q)) = absurd (not is)
-one_parameters w x y (inr (_, p)) (inr (_, q)) = one_counted 1 (parameter_form false) w x y p q
+one_parameters w x y (inr (_, p)) (inr (_, q)) = one_counted (one_tlv 1) (tlv_moves 1) 1 w x y p q
 
 one_lists : (s : SessionConfig) (withdrawn attributes announced : Window)
     → IsOnePlace (ListsStop s withdrawn attributes announced)
 one_lists s withdrawn attributes announced =
-    let f = prefix_form s family.Ipv4Unicast in
-    let last = LastStop f announced in
-    one_list f withdrawn (ListStop form.Attribute attributes last)
-    (one_list form.Attribute attributes last (one_last f announced))
+    let paths = adds_path s.add_path family.Ipv4Unicast in
+    one_prefixes paths withdrawn (one_list one_attribute attribute_moves attributes
+    (one_prefixes paths announced (λ x y p q. p ∙ sym q)))
 
 one_update : (s : SessionConfig) (w : Window) → IsOnePlace (UpdateStop s w)
 one_update s = one_thing (IsCounted 2) (one_octets 2) _ (λ withdrawn.

@@ -1,14 +1,16 @@
 -- Reading octets that are a message stops at their end.
-use Rattle.std.proofs.Common.{◌≡◌, ◌+◌, ◌≤◌, ℕ, List, length, inl, inr, refl, sym, ap, ◌∙◌, subst, arith}
+use Rattle.std.proofs.Common.{◌≡◌, ◌+◌, ◌≤◌, ℕ, Bool, true, false, List, length, inl, inr, refl, sym, ap, ◌∙◌, subst, arith}
 use Rattle.octseq.specs.Window.{Window, left, past, at, whole}
 use Rattle.octseq_format.proofs.Parts.{part_of_counted}
-use Rattle.octseq_bgp.specs.Entry.{Entry, IsEntry, IsCounted}
-use Rattle.octseq_bgp.specs.Fills.{Whole, Fills}
+use Rattle.octseq_bgp.specs.Fills.{Whole}
 use Rattle.octseq_bgp.specs.Message.{Message, IsBody, IsMessage, IsNotification, IsRouteRefresh}
 use Rattle.octseq_bgp.specs.Open.{Open, IsOpen, HasParameters}
-use Rattle.octseq_bgp.specs.Session.{prefix_form}
-use Rattle.octseq_bgp.specs.Stop.{ParametersStop, OpenStop, UpdateStop, FixedStop, BodyStop, HasHeader, IsStop}
+use Rattle.octseq_bgp.specs.Parts.{IsCounted}
+use Rattle.octseq_bgp.specs.Prefix.{Nlri, AreNlri}
+use Rattle.octseq_bgp.specs.Session.{adds_path}
+use Rattle.octseq_bgp.specs.Stop.{PrefixFilled, ParametersStop, OpenStop, UpdateStop, FixedStop, BodyStop, HasHeader, IsStop}
 use Rattle.octseq_bgp.specs.Update.{Update, IsUpdate}
+use Rattle.octseq_bgp.specs.declared.family.Afi.TheVariants as addresses
 use Rattle.octseq_bgp.specs.declared.family.AfiSafiType.TheVariants as family
 use Rattle.octseq_bgp.specs.declared.session.SessionConfig.{SessionConfig}
 
@@ -25,7 +27,7 @@ counted_end k w inside some is =
 
 -- ---- OPEN
 
-parameters_end : (w : Window) (row : List Entry) → HasParameters w row → ParametersStop w w.end
+parameters_end : (w : Window) (row : List (ℕ × Window)) → HasParameters w row → ParametersStop w w.end
 parameters_end w row (HasParameters.short not inside is fills) =
     inr (not, inl (inside, is, inr ((row, fills), counted_end 1 w inside (omega arith) is)))
 parameters_end w row (HasParameters.long long marks is fills) =
@@ -37,7 +39,7 @@ parameters_end w row (HasParameters.long long marks is fills) =
     inl (long, inl (marks.1.1, counted, inr ((row, fills), counted_end 2 (past 2 w) marks.1.1 (omega arith) counted)))
 
 -- they have at least one octet
-parameters_some : (w : Window) (row : List Entry) → HasParameters w row → 1 ≤ left w
+parameters_some : (w : Window) (row : List (ℕ × Window)) → HasParameters w row → 1 ≤ left w
 parameters_some w row (HasParameters.short _ inside is _) = is.1.2.0
 parameters_some w row (HasParameters.long long _ _ _) = let two = long.0 in omega (arith, two)
 
@@ -60,12 +62,16 @@ open_end w o is =
 same_end : (k : ℕ) (w inside v : Window) → IsCounted k w inside v → v.end ≡ w.end
 same_end k w inside v is = ap (λ (x : Window). x.end) (part_of_counted k w inside v is).2
 
+-- IPv4 prefixes that fill a window
+prefixes_fill : (paths : Bool) (w : Window) (row : List Nlri) → AreNlri paths addresses.Ipv4 w row → PrefixFilled paths w
+prefixes_fill true w row are = (are.0, are.1)
+prefixes_fill false w row are = (are.0, are.1)
+
 update_end : (s : SessionConfig) (w : Window) (u : Update) → IsUpdate s w u → UpdateStop s w w.end
 update_end s w u is =
-    let f = prefix_form s family.Ipv4Unicast in
+    let paths = adds_path s.add_path family.Ipv4Unicast in
     let parts = is.are.1 in
-    let announced : Fills (IsEntry f) parts.2.0 is.announced.0 =
-    subst (λ x. Fills (IsEntry f) x is.announced.0) parts.2.2.0 is.announced.1 in
+    let announced = subst (λ x. AreNlri paths addresses.Ipv4 x u.announced) parts.2.2.0 is.announced in
     let ends : w.end ≡ parts.2.0.end =
     sym (same_end 2 parts.0 is.parts.1.0 parts.2.0 parts.2.1 ∙ same_end 2 w is.parts.0 parts.0 parts.1) in
     inl (
@@ -77,8 +83,8 @@ update_end s w u is =
         parts.2.0,
         parts.2.1,
         inr (
-          (is.withdrawn.0, is.withdrawn.1),
-          inr ((u.attributes, is.attributes), inr ((is.announced.0, announced), ends)),
+          prefixes_fill paths is.parts.0 u.withdrawn is.withdrawn,
+          inr ((u.attributes, is.attributes), inr (prefixes_fill paths parts.2.0 u.announced announced, ends)),
         ),
       ),
     )

@@ -9,6 +9,7 @@ use Rattle.octseq.proofs.WrittenBack.{AreOctets, small_be, as_be}
 use Rattle.octseq.specs.Integer.{be, octets_be}
 use Rattle.octseq.specs.Window.{left, next, past, whole}
 use Rattle.octseq_format.specs.Canonical.{IsSound, each_next, many_next, sound_past}
+use Rattle.octseq_bgp.specs.MessageType as message_type
 use Rattle.octseq_bgp.specs.Message.{Message, IsMessage, IsShortEnough}
 use Rattle.octseq_bgp.specs.OneFrame.{length_in_front, marked_front, marked_more}
 use Rattle.octseq_bgp.specs.Stream.{IsFramed, IsFront, IsMisframed, longest_message, message_length}
@@ -43,7 +44,7 @@ within s kind size small (inl few) = at_least s.extended_message size few
 within s kind size small (inr may) = all_of s.extended_message size small may.0
 
 -- 16 octets whose number is that of a marker
-marker_octets : (xs : List ℕ) → length xs ≡ 16 → AreOctets xs → 340282366920938463463374607431768211455 ≡ be xs
+marker_octets : (xs : List ℕ) → length xs ≡ 16 → AreOctets xs → message_type.marker ≡ be xs
     → xs ≡ replicate 16 255
 unfolding octets_be
 marker_octets xs long each is = sym (as_be 16 xs long each) ∙ ap (octets_be 16) (sym is)

@@ -6,25 +6,26 @@ use Rattle.octseq_format.specs.Laws.{IsOne}
 use Rattle.octseq_format.specs.Text.{IsText, one_text}
 use Rattle.octseq_bgp.specs.Capability.{ParameterValue, IsParameterValue}
 use Rattle.octseq_bgp.specs.CapabilityText.{capability_text}
-use Rattle.octseq_bgp.specs.Entry.{Entry}
 use Rattle.octseq_bgp.specs.Message.{Message}
 use Rattle.octseq_bgp.specs.MessageText.{line, nlri_lines, attribute_lines, AreAttributeLines, IsUpdateText}
 use Rattle.octseq_bgp.specs.MessageText.{AreCapabilityLines, AreParameterValueLines, AreParameterLines, IsOpenText}
 use Rattle.octseq_bgp.specs.MessageText.{open_text, notification_text, IsNotificationText, IsMessageText}
 use Rattle.octseq_bgp.specs.Notification.{NotificationData, IsNotificationData}
+use Rattle.octseq_bgp.specs.OneParts.{one_tlv}
 use Rattle.octseq_bgp.specs.Open.{Open}
+use Rattle.octseq_bgp.specs.Parts.{Attribute, type_of, inside_of}
 use Rattle.octseq_bgp.specs.Update.{Update}
-use Rattle.octseq_bgp.specs.declared.entry.Form.TheVariants as form
 use Rattle.octseq_bgp.specs.declared.session.SessionConfig.{SessionConfig}
+use Rattle.octseq_bgp.proofs.Moves.{tlv_moves}
 use Rattle.octseq_bgp.proofs.OneCapability.{one_capability_value}
 use Rattle.octseq_bgp.proofs.Values.{one_value}
 use Rattle.octseq_bgp.proofs.Wholes.{one_whole, one_fills}
 
-one_attributes : (s : SessionConfig) (row : List Entry) (text other : List ℕ) → AreAttributeLines s row text
+one_attributes : (s : SessionConfig) (row : List Attribute) (text other : List ℕ) → AreAttributeLines s row text
     → AreAttributeLines s row other → text ≡ other
 one_attributes s [] text other a b = a ∙ sym b
 one_attributes s (e ∷ more) text other a b =
-    let values = one_value s e.kind e.octets a.0 b.0 a.2 b.2 in
+    let values = one_value s (type_of e) (inside_of e) a.0 b.0 a.2 b.2 in
     let rests = one_attributes s more a.1 b.1 a.3 b.3 in
     a.4 ∙ ap (λ v. attribute_lines e v ++ a.1) values ∙ ap (λ rest. attribute_lines e b.0 ++ rest) rests ∙ sym b.4
 
@@ -33,20 +34,20 @@ one_update_text u text other a b =
     a.2 ∙ ap (λ attributes. codes "update\n" ++ nlri_lines (codes "withdrawn") u.withdrawn ++ attributes
     ++ nlri_lines (codes "announced") u.announced) (one_attributes u.session u.attributes a.0 b.0 a.1 b.1) ∙ sym b.2
 
-one_capabilities : (row : List Entry) (text other : List ℕ) → AreCapabilityLines row text → AreCapabilityLines row other
+one_capabilities : (row : List (ℕ × Window)) (text other : List ℕ) → AreCapabilityLines row text → AreCapabilityLines row other
     → text ≡ other
 one_capabilities [] text other a b = a ∙ sym b
 one_capabilities (e ∷ more) text other a b =
-    let values = one_capability_value e.kind e.octets a.0 b.0 a.2 b.2 in
+    let values = one_capability_value e.0 e.1 a.0 b.0 a.2 b.2 in
     let rests = one_capabilities more a.1 b.1 a.3 b.3 in
-    a.4 ∙ ap (λ v. line (codes "capability") (capability_text e.kind v) ++ a.1) values
-    ∙ ap (λ rest. line (codes "capability") (capability_text e.kind b.0) ++ rest) rests ∙ sym b.4
+    a.4 ∙ ap (λ v. line (codes "capability") (capability_text e.0 v) ++ a.1) values
+    ∙ ap (λ rest. line (codes "capability") (capability_text e.0 b.0) ++ rest) rests ∙ sym b.4
 
 -- a parameter has at most one value
-one_parameter_value : (kind : ℕ) (w : Window) (a b : ParameterValue) → IsParameterValue kind w a
+pub one_parameter_value : (kind : ℕ) (w : Window) (a b : ParameterValue) → IsParameterValue kind w a
     → IsParameterValue kind w b → a ≡ b
 one_parameter_value kind w (ParameterValue.capabilities row) (ParameterValue.capabilities others) a b =
-    ap ParameterValue.capabilities (one_fills form.Capability w row others a.1 b.1)
+    ap ParameterValue.capabilities (one_fills (one_tlv 1) (tlv_moves 1) w row others a.1 b.1)
 one_parameter_value kind w (ParameterValue.capabilities row) (ParameterValue.opaque octets) a b = absurd (b.1 row a)
 one_parameter_value kind w (ParameterValue.opaque octets) (ParameterValue.capabilities row) a b = absurd (a.1 row b)
 one_parameter_value kind w (ParameterValue.opaque octets) (ParameterValue.opaque others) a b =
@@ -57,12 +58,12 @@ one_value_lines : (kind : ℕ) (v : ParameterValue) (text other : List ℕ) → 
 one_value_lines kind (ParameterValue.capabilities row) text other a b = one_capabilities row text other a b
 one_value_lines kind (ParameterValue.opaque octets) text other a b = a ∙ sym b
 
-one_parameters : (row : List Entry) (text other : List ℕ) → AreParameterLines row text → AreParameterLines row other
+one_parameters : (row : List (ℕ × Window)) (text other : List ℕ) → AreParameterLines row text → AreParameterLines row other
     → text ≡ other
 one_parameters [] text other a b = a ∙ sym b
 one_parameters (p ∷ more) text other a b =
-    let values = one_parameter_value p.kind p.octets a.0 b.0 a.3 b.3 in
-    let heres = one_value_lines p.kind b.0 a.1 b.1 (subst (λ v. AreParameterValueLines p.kind v a.1) values a.4) b.4 in
+    let values = one_parameter_value p.0 p.1 a.0 b.0 a.3 b.3 in
+    let heres = one_value_lines p.0 b.0 a.1 b.1 (subst (λ v. AreParameterValueLines p.0 v a.1) values a.4) b.4 in
     let rests = one_parameters more a.2 b.2 a.5 b.5 in
     a.6 ∙ ap (λ here. here ++ a.2) heres ∙ ap (λ rest. b.1 ++ rest) rests ∙ sym b.6
 

@@ -1,8 +1,8 @@
 -- The numbers of types differ.
 use Rattle.std.proofs.Common.{◌≡◌, ℕ, if◌then◌else◌, nat_eq, refl, sym, ap, ◌∙◌}
 use Rattle.octseq_bgp.specs.AttributeType.{type_number}
-use Rattle.octseq_bgp.specs.declared.attribute_type.AttributeType.{AttributeType}
-use Rattle.octseq_bgp.specs.declared.attribute_type.AttributeType.TheVariants as kind
+use Rattle.octseq_bgp.specs.declared.attribute.attribute_type.AttributeType.{AttributeType}
+use Rattle.octseq_bgp.specs.declared.attribute.attribute_type.AttributeType.TheVariants as kind
 
 abbrev type_of : ℕ → AttributeType
 type_of n = if nat_eq n 1 then kind.Origin

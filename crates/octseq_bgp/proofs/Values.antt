@@ -9,22 +9,24 @@ use Rattle.octseq_format.specs.Rest.{one_rest}
 use Rattle.octseq_format.specs.Where.{IsWhere, one_where}
 use Rattle.octseq_bgp.specs.AttributeType.{type_number}
 use Rattle.octseq_bgp.specs.Community.{large_community}
-use Rattle.octseq_bgp.specs.Entry.{IsNumber}
+use Rattle.octseq_bgp.specs.Family.{afi_of}
 use Rattle.octseq_bgp.specs.Fills.{Whole}
-use Rattle.octseq_bgp.specs.OneEntry.{one_number, one_octets}
-use Rattle.octseq_bgp.specs.Path.{path_form, asn_size}
+use Rattle.octseq_bgp.specs.OneParts.{one_number, one_octets, one_segment}
+use Rattle.octseq_bgp.specs.Parts.{IsNumber}
+use Rattle.octseq_bgp.specs.Path.{asn_size}
 use Rattle.octseq_bgp.specs.NextHop.{IsNextHop}
 use Rattle.octseq_bgp.specs.Prefix.{Nlri, ArePrefixes}
-use Rattle.octseq_bgp.specs.Session.{prefix_form}
+use Rattle.octseq_bgp.specs.Session.{adds_path}
 use Rattle.octseq_bgp.specs.Value.{Reach, Unreach, IsReachFront, IsReach, IsUnreachFront, IsUnreach, Value, SomeItems}
 use Rattle.octseq_bgp.specs.Value.{IsPath, Made, HasForm, IsTyped, IsValue}
-use Rattle.octseq_bgp.specs.declared.attribute_type.AttributeType.{AttributeType}
-use Rattle.octseq_bgp.specs.declared.attribute_type.AttributeType.TheVariants as kind
+use Rattle.octseq_bgp.specs.declared.attribute.attribute_type.AttributeType.{AttributeType}
+use Rattle.octseq_bgp.specs.declared.attribute.attribute_type.AttributeType.TheVariants as kind
 use Rattle.octseq_bgp.specs.declared.family.AfiSafiType.{AfiSafiType}
-use Rattle.octseq_bgp.specs.declared.next_hop.NextHop.{NextHop}
+use Rattle.octseq_bgp.specs.declared.attribute.next_hop.NextHop.{NextHop}
 use Rattle.octseq_bgp.specs.declared.session.SessionConfig.{SessionConfig}
 use Rattle.octseq_bgp.proofs.Chunks.{one_filling}
 use Rattle.octseq_bgp.proofs.Families.{one_family}
+use Rattle.octseq_bgp.proofs.Moves.{segment_moves}
 use Rattle.octseq_bgp.proofs.NextHops.{one_next_hop}
 use Rattle.octseq_bgp.proofs.Types.{one_type}
 use Rattle.octseq_bgp.proofs.Wholes.{one_whole, one_fills, one_nlri}
@@ -53,7 +55,7 @@ one_reach s w r o a b =
     let front = one_whole IsReachFront one_reach_front w _ _ a.front b.front in
     let family = one_family r.family o.family (ap (λ f. f.0) front) (ap (λ f. f.1.0) front) in
     let moved = subst (λ f. ArePrefixes s f a.rest r.prefixes) family a.prefixes in
-    let row = one_nlri (prefix_form s o.family) b.rest r.prefixes o.prefixes
+    let row = one_nlri (adds_path s.add_path o.family) (afi_of o.family) b.rest r.prefixes o.prefixes
     (subst (λ f. ArePrefixes s o.family f.1.1.1.1 r.prefixes) front moved) b.prefixes in
     let hops = subst (λ f. IsNextHop f a.next_hops r.next_hop) family a.next_hop in
     let hop = one_next_hop o.family b.next_hops r.next_hop o.next_hop
@@ -73,7 +75,7 @@ one_unreach s w r o a b =
     let front = one_whole IsUnreachFront one_unreach_front w _ _ a.front b.front in
     let family = one_family r.family o.family (ap (λ f. f.0) front) (ap (λ f. f.1.0) front) in
     let moved = subst (λ f. ArePrefixes s f a.rest r.prefixes) family a.prefixes in
-    let row = one_nlri (prefix_form s o.family) b.rest r.prefixes o.prefixes
+    let row = one_nlri (adds_path s.add_path o.family) (afi_of o.family) b.rest r.prefixes o.prefixes
     (subst (λ f. ArePrefixes s o.family f.1.1 r.prefixes) front moved) b.prefixes in
     ap (λ f. unreach_from f r.prefixes) family ∙ ap (unreach_from o.family) row
 
@@ -86,7 +88,7 @@ pair : (k : ℕ) (w : Window) → OneSaid (Whole (IsNumber k then IsNumber 4) w)
 pair k w = one_whole (IsNumber k then IsNumber 4) (one_number k one_then one_number 4) w
 
 path : (wide : Bool) (w : Window) → OneSaid (IsPath wide w)
-path wide w p q a b = same_pair (a.0 ∙ sym b.0) (one_fills (path_form wide) w p.1 q.1 a.1 b.1)
+path wide w p q a b = same_pair (a.0 ∙ sym b.0) (one_fills (one_segment (asn_size wide)) (segment_moves (asn_size wide)) w p.1 q.1 a.1 b.1)
 
 pub one_form : (s : SessionConfig) (t : AttributeType) (w : Window) → OneSaid (HasForm s t w)
 one_form s kind.Origin w = one_made Value.origin (one_whole (IsWhere (IsNumber 1) (λ n. n) (λ n. n ≤ 2))

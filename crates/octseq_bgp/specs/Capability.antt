@@ -7,28 +7,27 @@ use Rattle.octseq_format.specs.Fixed.{IsFixed}
 use Rattle.octseq_format.specs.Pair.{◌then◌}
 use Rattle.octseq_format.specs.Rest.{IsRest}
 use Rattle.octseq_bgp.specs.CapabilityType.{code_number}
-use Rattle.octseq_bgp.specs.Entry.{Entry, IsEntry, IsNumber}
 use Rattle.octseq_bgp.specs.FamilyTuple.{family_tuple}
 use Rattle.octseq_bgp.specs.Fills.{Whole, Fills}
+use Rattle.octseq_bgp.specs.Parts.{IsNumber, IsTlv}
 use Rattle.octseq_bgp.specs.Value.{SomeItems}
-use Rattle.octseq_bgp.specs.declared.capability_type.CapabilityType.{CapabilityType}
-use Rattle.octseq_bgp.specs.declared.capability_type.CapabilityType.TheVariants as code
-use Rattle.octseq_bgp.specs.declared.entry.Form.TheVariants as form
+use Rattle.octseq_bgp.specs.declared.capability.capability_type.CapabilityType.{CapabilityType}
+use Rattle.octseq_bgp.specs.declared.capability.capability_type.CapabilityType.TheVariants as code
 
 -- The value of a parameter: capabilities, or opaque octets.
 pub data ParameterValue : Type 0 where
-  capabilities : List Entry → ParameterValue
+  capabilities : List (ℕ × Window) → ParameterValue
   opaque : Window → ParameterValue
 
 -- the octets of a parameter of type 2 are capabilities
-abbrev pub AreCapabilities : ℕ → Window → List Entry → Type 0
-AreCapabilities kind w row = (kind ≡ 2) × Fills (IsEntry form.Capability) w row
+abbrev pub AreCapabilities : ℕ → Window → List (ℕ × Window) → Type 0
+AreCapabilities kind w row = (kind ≡ 2) × Fills (IsTlv 1) w row
 
 -- the value of a parameter
 abbrev pub IsParameterValue : ℕ → Window → ParameterValue → Type 0
 IsParameterValue kind w (ParameterValue.capabilities row) = AreCapabilities kind w row
 IsParameterValue kind w (ParameterValue.opaque octets) =
-    (octets ≡ w) × ((row : List Entry) → ¬ AreCapabilities kind w row)
+    (octets ≡ w) × ((row : List (ℕ × Window)) → ¬ AreCapabilities kind w row)
 
 -- Graceful restart: sixteen bits, and address families with flags: RFC 4724, 3.
 pub record Restart : Type 0 where

@@ -1,26 +1,25 @@
 -- What contracts see of capabilities.
-use Rattle.std.specs.Prelude.{List}
+use Rattle.std.specs.Prelude.{ℕ, List}
 use Rattle.octseq.specs.declared.AsOctets.{Ghosts}
 use Rattle.octseq.specs.Parser.{window}
 use Rattle.octseq_bgp.specs.Capability as said
-use Rattle.octseq_bgp.specs.Entry.{Entry}
-use Rattle.octseq_bgp.specs.EntryOf.{entries_left}
+use Rattle.octseq.specs.Window.{Window}
 use Rattle.octseq_bgp.specs.Items.{items_left}
 use Rattle.octseq_bgp.specs.declared.capability.Capabilities.{Capabilities}
 use Rattle.octseq_bgp.specs.declared.capability.Capability.{Capability}
 use Rattle.octseq_bgp.specs.declared.capability.ParameterValue.{ParameterValue}
 use Rattle.octseq_bgp.specs.declared.capability.ParameterValue.TheVariants as value
-use Rattle.octseq_bgp.specs.declared.capability_value.CapabilityValue.{CapabilityValue}
-use Rattle.octseq_bgp.specs.declared.capability_value.CapabilityValue.TheVariants as code
-use Rattle.octseq_bgp.specs.declared.capability_value.GracefulRestart.{GracefulRestart}
+use Rattle.octseq_bgp.specs.declared.capability.value.CapabilityValue.{CapabilityValue}
+use Rattle.octseq_bgp.specs.declared.capability.value.CapabilityValue.TheVariants as code
+use Rattle.octseq_bgp.specs.declared.capability.value.GracefulRestart.{GracefulRestart}
 
--- a capability
-abbrev pub capability_entry : {R : Type 0} {g : Ghosts R} → Capability R g → Entry
-capability_entry c = record { number = 0; kind = c.code; octets = window c.octets }
+-- a capability: its code, and the window of its octets
+abbrev pub capability_of : {R : Type 0} {g : Ghosts R} → Capability R g → ℕ × Window
+capability_of c = (c.code, window c.octets)
 
 -- the capabilities that are left
-abbrev pub capabilities_left : {R : Type 0} {g : Ghosts R} → Capabilities R g → List Entry
-capabilities_left c = entries_left c.entries
+abbrev pub capabilities_left : {R : Type 0} {g : Ghosts R} → Capabilities R g → List (ℕ × Window)
+capabilities_left c = c.ahead.0
 
 -- the value of a parameter
 abbrev pub parameter_value_of : {R : Type 0} {g : Ghosts R} → ParameterValue R g → said.ParameterValue

@@ -1,7 +1,7 @@
 -- The codes of capabilities.
 use Rattle.std.specs.Prelude.{ℕ}
-use Rattle.octseq_bgp.specs.declared.capability_type.CapabilityType.{CapabilityType}
-use Rattle.octseq_bgp.specs.declared.capability_type.CapabilityType.TheVariants as code
+use Rattle.octseq_bgp.specs.declared.capability.capability_type.CapabilityType.{CapabilityType}
+use Rattle.octseq_bgp.specs.declared.capability.capability_type.CapabilityType.TheVariants as code
 
 -- the number of a code
 abbrev pub code_number : CapabilityType → ℕ

@@ -1,17 +1,17 @@
 -- What contracts see of faults.
 use Rattle.std.specs.Prelude.{ℕ, ◌+◌, List, Option, Some, None, length}
 use Rattle.octseq.specs.declared.AsOctets.{Ghosts}
-use Rattle.octseq_bgp.specs.Entry.{Entry}
 use Rattle.octseq_bgp.specs.Fault as said
 use Rattle.octseq_bgp.specs.Fault.{AreFaults, Marks}
 use Rattle.octseq_bgp.specs.Handling.{rank}
-use Rattle.octseq_bgp.specs.Lists.{attribute_entry, attributes_left, attributes_session}
+use Rattle.octseq_bgp.specs.Lists.{attribute_of, attributes_left, attributes_session}
+use Rattle.octseq_bgp.specs.Parts.{Attribute}
 use Rattle.octseq_bgp.specs.declared.attribute.PathAttribute.{PathAttribute}
-use Rattle.octseq_bgp.specs.declared.fault.Fault.{Fault}
-use Rattle.octseq_bgp.specs.declared.fault.Faults.{Faults}
+use Rattle.octseq_bgp.specs.declared.message.fault.Fault.{Fault}
+use Rattle.octseq_bgp.specs.declared.message.fault.Faults.{Faults}
 
-abbrev pub place_of : {R : Type 0} {g : Ghosts R} → Option (PathAttribute R g) → Option Entry
-place_of (Some attribute) = Some (attribute_entry attribute)
+abbrev pub place_of : {R : Type 0} {g : Ghosts R} → Option (PathAttribute R g) → Option Attribute
+place_of (Some attribute) = Some (attribute_of attribute)
 place_of None = None
 
 -- a fault
@@ -20,7 +20,7 @@ fault_of f = record { place = place_of f.attribute; rank = rank f.handling }
 
 -- These are the faults that are left, given any attributes whose types were seen.
 abbrev pub AreLeft : {R : Type 0} {g : Ghosts R} → Faults R g → List said.Fault → Type 0
-AreLeft q row = (before : List Entry) → Marks q.seen before
+AreLeft q row = (before : List Attribute) → Marks q.seen before
     → AreFaults (attributes_session q.attributes) q.external before (attributes_left q.attributes) (rank q.missing) row
 
 -- at most this many faults are left

@@ -3,16 +3,16 @@ use Rattle.std.specs.Prelude.{◌≡◌, ◌↔◌, ◌<◌, ◌≤◌, ◌/◌,
 use Rattle.std.specs.Prelude.{if◌then◌else◌, nat_eq, nat_le}
 use Rattle.octseq.specs.Integer.{be}
 use Rattle.octseq.specs.Window.{Window, left, next, past}
-use Rattle.octseq_bgp.specs.AttributeType.{type_number}
-use Rattle.octseq_bgp.specs.Entry.{Entry}
+use Rattle.octseq_bgp.specs.AttributeType.{type_number, type_flags}
 use Rattle.octseq_bgp.specs.Family.{afi_number, safi_number}
+use Rattle.octseq_bgp.specs.Parts.{Attribute, flags_of, type_of, inside_of}
 use Rattle.octseq_bgp.specs.Update.{Update}
 use Rattle.octseq_bgp.specs.Value.{Reach, IsReach, Value, HasForm}
-use Rattle.octseq_bgp.specs.declared.attribute_type.AttributeType.{AttributeType}
-use Rattle.octseq_bgp.specs.declared.attribute_type.AttributeType.TheVariants as kind
+use Rattle.octseq_bgp.specs.declared.attribute.attribute_type.AttributeType.{AttributeType}
+use Rattle.octseq_bgp.specs.declared.attribute.attribute_type.AttributeType.TheVariants as kind
 use Rattle.octseq_bgp.specs.declared.family.AfiSafiType.{AfiSafiType}
-use Rattle.octseq_bgp.specs.declared.handling.Handling.{Handling}
-use Rattle.octseq_bgp.specs.declared.handling.Handling.TheVariants as handling
+use Rattle.octseq_bgp.specs.declared.message.handling.Handling.{Handling}
+use Rattle.octseq_bgp.specs.declared.message.handling.Handling.TheVariants as handling
 use Rattle.octseq_bgp.specs.declared.session.SessionConfig.{SessionConfig}
 
 -- how severe a handling is
@@ -22,35 +22,28 @@ rank handling.AttributeDiscard = 1
 rank handling.TreatAsWithdraw = 2
 rank handling.SessionReset = 3
 
--- the two upper flags of a type, optional and transitive: RFC 4271, 4.3
-abbrev pub type_flags : AttributeType → ℕ
-type_flags kind.Origin = 1
-type_flags kind.AsPath = 1
-type_flags kind.NextHop = 1
-type_flags kind.MultiExitDisc = 2
-type_flags kind.LocalPref = 1
-type_flags kind.AtomicAggregate = 1
-type_flags kind.Aggregator = 3
-type_flags kind.Communities = 3
-type_flags kind.OriginatorId = 2
-type_flags kind.ClusterList = 2
-type_flags kind.MpReachNlri = 2
-type_flags kind.MpUnreachNlri = 2
-type_flags kind.ExtendedCommunities = 3
-type_flags kind.As4Path = 3
-type_flags kind.As4Aggregator = 3
-type_flags kind.LargeCommunities = 3
+abbrev pub accept : ℕ
+accept = rank handling.Accept
+
+abbrev pub attribute_discard : ℕ
+attribute_discard = rank handling.AttributeDiscard
+
+abbrev pub treat_as_withdraw : ℕ
+treat_as_withdraw = rank handling.TreatAsWithdraw
+
+abbrev pub session_reset : ℕ
+session_reset = rank handling.SessionReset
 
 -- the handling if the flags are others: RFC 7606, 3 (c)
 abbrev pub flags_rank : AttributeType → ℕ → ℕ
-flags_rank t flags = if nat_eq (flags / 64) (type_flags t) then 0 else 2
+flags_rank t flags = if nat_eq (flags / 64) (type_flags t) then accept else treat_as_withdraw
 
 -- the handling of an attribute from an external peer, whatever its value: RFC 7606, 7.5, 7.9 and 7.10
 abbrev pub external_rank : Bool → AttributeType → ℕ
-external_rank external kind.LocalPref = if external then 1 else 0
-external_rank external kind.OriginatorId = if external then 1 else 0
-external_rank external kind.ClusterList = if external then 1 else 0
-external_rank external _ = 0
+external_rank external kind.LocalPref = if external then attribute_discard else accept
+external_rank external kind.OriginatorId = if external then attribute_discard else accept
+external_rank external kind.ClusterList = if external then attribute_discard else accept
+external_rank external _ = accept
 
 -- The octets name a family whose prefixes are parsed, or are too few to name one.
 abbrev pub NamesFamily : Window → Type 0
@@ -59,57 +52,59 @@ NamesFamily w =
 
 -- the handling if the octets don't have the form of the type: RFC 7606, 7
 abbrev pub opaque_rank : Bool → Bool → AttributeType → ℕ
-opaque_rank external names kind.LocalPref = if external then 1 else 2
-opaque_rank external names kind.OriginatorId = if external then 1 else 2
-opaque_rank external names kind.ClusterList = if external then 1 else 2
-opaque_rank external names kind.AtomicAggregate = 1
-opaque_rank external names kind.Aggregator = 1
-opaque_rank external names kind.As4Path = 1
-opaque_rank external names kind.As4Aggregator = 1
-opaque_rank external names kind.MpReachNlri = if names then 3 else 0
-opaque_rank external names kind.MpUnreachNlri = if names then 3 else 0
-opaque_rank external names _ = 2
+opaque_rank external names kind.LocalPref = if external then attribute_discard else treat_as_withdraw
+opaque_rank external names kind.OriginatorId = if external then attribute_discard else treat_as_withdraw
+opaque_rank external names kind.ClusterList = if external then attribute_discard else treat_as_withdraw
+opaque_rank external names kind.AtomicAggregate = attribute_discard
+opaque_rank external names kind.Aggregator = attribute_discard
+opaque_rank external names kind.As4Path = attribute_discard
+opaque_rank external names kind.As4Aggregator = attribute_discard
+opaque_rank external names kind.MpReachNlri = if names then session_reset else accept
+opaque_rank external names kind.MpUnreachNlri = if names then session_reset else accept
+opaque_rank external names _ = treat_as_withdraw
 
 -- the worst of these, for the first attribute of a type
 abbrev pub type_rank : Bool → Bool → Bool → AttributeType → ℕ → ℕ
 type_rank external typed names t flags =
-    max (flags_rank t flags) (max (external_rank external t) (if typed then 0 else opaque_rank external names t))
+    max (flags_rank t flags) (max (external_rank external t) (if typed then accept else opaque_rank external names t))
 
 -- the handling of an attribute whose type has occurred before: RFC 7606, 3 (g)
 abbrev pub again_rank : ℕ → ℕ
-again_rank number = if nat_eq number 14 then 3 else (if nat_eq number 15 then 3 else 1)
+again_rank number =
+    if nat_eq number (type_number kind.MpReachNlri) then session_reset
+    else (if nat_eq number (type_number kind.MpUnreachNlri) then session_reset else attribute_discard)
 
 -- the handling of an attribute of unknown type: RFC 4271, 6.3
 abbrev pub unknown_rank : ℕ → ℕ
-unknown_rank flags = if nat_le 128 flags then 0 else 3
+unknown_rank flags = if nat_le 128 flags then accept else session_reset
 
 -- The handling of an attribute, of a known or an unknown type, given whether its type has occurred before.
-pub data IsRank (s : SessionConfig) (external again : Bool) (e : Entry) (n : ℕ) : Type 0 where
-  repeated : again ≡ true → n ≡ again_rank e.kind → IsRank s external again e n
-  known : ¬ (again ≡ true) → (t : AttributeType) → type_number t ≡ e.kind → (typed names : Bool)
-      → IsTrue typed ↔ ((v : Value) × HasForm s t e.octets v) → IsTrue names ↔ NamesFamily e.octets
-      → n ≡ type_rank external typed names t e.number → IsRank s external again e n
-  unknown : ¬ (again ≡ true) → ((t : AttributeType) → ¬ (type_number t ≡ e.kind)) → n ≡ unknown_rank e.number
+pub data IsRank (s : SessionConfig) (external again : Bool) (e : Attribute) (n : ℕ) : Type 0 where
+  repeated : again ≡ true → n ≡ again_rank (type_of e) → IsRank s external again e n
+  known : ¬ (again ≡ true) → (t : AttributeType) → type_number t ≡ type_of e → (typed names : Bool)
+      → IsTrue typed ↔ ((v : Value) × HasForm s t (inside_of e) v) → IsTrue names ↔ NamesFamily (inside_of e)
+      → n ≡ type_rank external typed names t (flags_of e) → IsRank s external again e n
+  unknown : ¬ (again ≡ true) → ((t : AttributeType) → ¬ (type_number t ≡ type_of e)) → n ≡ unknown_rank (flags_of e)
       → IsRank s external again e n
 
 -- an attribute of this type is in the list
-abbrev pub HasType : List Entry → ℕ → Type 0
+abbrev pub HasType : List Attribute → ℕ → Type 0
 HasType [] number = ⊥
-HasType (e ∷ more) number = (e.kind ≡ number) ⊎ HasType more number
+HasType (e ∷ more) number = (type_of e ≡ number) ⊎ HasType more number
 
 -- The worst handling of the attributes of a list, given those before them. If it is empty, they are accepted.
-abbrev pub IsWorst : SessionConfig → Bool → List Entry → List Entry → ℕ → Type 0
-IsWorst s external before [] n = n ≡ 0
+abbrev pub IsWorst : SessionConfig → Bool → List Attribute → List Attribute → ℕ → Type 0
+IsWorst s external before [] n = n ≡ accept
 IsWorst s external before (e ∷ more) n =
-    (again : Bool) × (IsTrue again ↔ HasType before e.kind) × (x : ℕ) × IsRank s external again e x
+    (again : Bool) × (IsTrue again ↔ HasType before (type_of e)) × (x : ℕ) × IsRank s external again e x
     × (y : ℕ) × IsWorst s external (e ∷ before) more y × (n ≡ max x y)
 
 -- the attribute is an MP_REACH_NLRI that has prefixes
-abbrev pub Reaches : SessionConfig → Entry → Type 0
-Reaches s e = (e.kind ≡ 14) × (r : Reach) × IsReach s e.octets r × (1 ≤ length r.prefixes)
+abbrev pub Reaches : SessionConfig → Attribute → Type 0
+Reaches s e = (type_of e ≡ type_number kind.MpReachNlri) × (r : Reach) × IsReach s (inside_of e) r × (1 ≤ length r.prefixes)
 
 -- one of the attributes is
-abbrev pub ReachesSome : SessionConfig → List Entry → Type 0
+abbrev pub ReachesSome : SessionConfig → List Attribute → Type 0
 ReachesSome s [] = ⊥
 ReachesSome s (e ∷ more) = Reaches s e ⊎ ReachesSome s more
 
@@ -120,8 +115,8 @@ Announces s u = (1 ≤ length u.announced) ⊎ ReachesSome s u.attributes
 -- A mandatory attribute is missing: ORIGIN or AS_PATH if prefixes are announced, NEXT_HOP if the UPDATE itself
 -- announces them: RFC 4271, 5, and RFC 7606, 3 (d).
 abbrev pub Misses : SessionConfig → Update → Type 0
-Misses s u = Announces s u × (¬ HasType u.attributes 1 ⊎ ¬ HasType u.attributes 2)
-    ⊎ (1 ≤ length u.announced) × ¬ HasType u.attributes 3
+Misses s u = Announces s u × (¬ HasType u.attributes (type_number kind.Origin) ⊎ ¬ HasType u.attributes (type_number kind.AsPath))
+    ⊎ (1 ≤ length u.announced) × ¬ HasType u.attributes (type_number kind.NextHop)
 
 -- the handling of an UPDATE: the worst of all these
 pub record IsHandling (external : Bool) (u : Update) (n : ℕ) : Type 0 where
@@ -129,4 +124,4 @@ pub record IsHandling (external : Bool) (u : Update) (n : ℕ) : Type 0 where
   pub is_worst : IsWorst u.session external [] u.attributes worst
   pub misses : Bool
   pub is_missing : IsTrue misses ↔ Misses u.session u
-  pub is : n ≡ max worst (if misses then 2 else 0)
+  pub is : n ≡ max worst (if misses then treat_as_withdraw else accept)

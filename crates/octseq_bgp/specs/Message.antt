@@ -5,8 +5,9 @@ use Rattle.octseq.specs.Window.{Window, left, whole}
 use Rattle.octseq_format.specs.Laws.{Relation}
 use Rattle.octseq_format.specs.Pair.{◌then◌}
 use Rattle.octseq_format.specs.Rest.{IsRest}
-use Rattle.octseq_bgp.specs.Entry.{IsNumber}
+use Rattle.octseq_bgp.specs.Parts.{IsNumber}
 use Rattle.octseq_bgp.specs.Fills.{Whole}
+use Rattle.octseq_bgp.specs.MessageType as message_type
 use Rattle.octseq_bgp.specs.Open.{Open, IsOpen}
 use Rattle.octseq_bgp.specs.Update.{Update, IsUpdate, IsUpdateParts}
 use Rattle.octseq_bgp.specs.declared.session.SessionConfig.{SessionConfig}
@@ -23,7 +24,7 @@ pub data Message : Type 0 where
 -- 16 octets of 255, the length of the message, its type, and what follows
 abbrev pub IsHeader : Window → ℕ × (ℕ × Window) → Type 0
 IsHeader w h = Whole (IsNumber 16 then IsNumber 2 then IsNumber 1 then IsRest) w
-    (340282366920938463463374607431768211455, h)
+    (message_type.marker, h)
 
 -- what a NOTIFICATION has after its header: RFC 4271, 4.5
 abbrev pub IsNotification : Relation (ℕ × (ℕ × Window))
@@ -35,15 +36,15 @@ IsRouteRefresh = IsNumber 2 then IsNumber 1 then IsNumber 1 then IsRest
 
 -- what follows a header, by its type
 abbrev pub IsBody : SessionConfig → Window → ℕ → Message → Type 0
-IsBody s w kind (Message.opens o) = (kind ≡ 1) × IsOpen w o
-IsBody s w kind (Message.update u) = (kind ≡ 2) × IsUpdate s w u
-IsBody s w kind (Message.notification n) = (kind ≡ 3) × Whole IsNotification w n
-IsBody s w kind Message.keepalive = (kind ≡ 4) × (left w ≡ 0)
-IsBody s w kind (Message.route_refresh r) = (kind ≡ 5) × Whole IsRouteRefresh w r
+IsBody s w kind (Message.opens o) = (kind ≡ message_type.opens) × IsOpen w o
+IsBody s w kind (Message.update u) = (kind ≡ message_type.update) × IsUpdate s w u
+IsBody s w kind (Message.notification n) = (kind ≡ message_type.notification) × Whole IsNotification w n
+IsBody s w kind Message.keepalive = (kind ≡ message_type.keepalive) × (left w ≡ 0)
+IsBody s w kind (Message.route_refresh r) = (kind ≡ message_type.route_refresh) × Whole IsRouteRefresh w r
 
 -- the messages of a session that may exceed 4,096 octets: all but OPEN and KEEPALIVE, if messages are extended
 abbrev pub MayBeLong : SessionConfig → ℕ → Type 0
-MayBeLong s kind = IsTrue s.extended_message × (kind ≢ 1) × (kind ≢ 4)
+MayBeLong s kind = IsTrue s.extended_message × (kind ≢ message_type.opens) × (kind ≢ message_type.keepalive)
 
 -- a number of octets that a message may have (no length can say more than 65,535)
 abbrev pub IsShortEnough : SessionConfig → ℕ → ℕ → Type 0
@@ -60,6 +61,6 @@ pub record IsMessage (s : SessionConfig) (octets : List ℕ) (m : Message) : Typ
 -- By their header the octets are an UPDATE, and these are its three parts, whether lists fill them or not.
 pub record HasUpdateParts (s : SessionConfig) (octets : List ℕ) (parts : Window × (Window × Window)) : Type 0 where
   pub body : Window
-  pub header : IsHeader (whole octets) (length octets, (2, body))
+  pub header : IsHeader (whole octets) (length octets, (message_type.update, body))
   pub short : IsShortEnough s 2 (length octets)
   pub are : Whole IsUpdateParts body parts

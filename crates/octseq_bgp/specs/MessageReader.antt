@@ -1,6 +1,6 @@
 -- What contracts see of a `MessageReader`.
 use Rattle.std.specs.Prelude.{ℕ, List, Bool}
-use Rattle.octseq_bgp.specs.declared.reader.MessageReader.{MessageReader}
+use Rattle.octseq_bgp.specs.declared.message.reader.MessageReader.{MessageReader}
 use Rattle.octseq_bgp.specs.declared.session.SessionConfig.{SessionConfig}
 use Rattle.octseq_stream.specs.FrameReader as read
 

@@ -5,12 +5,12 @@ use Rattle.std.specs.List.{flat_map}
 use Rattle.octseq.specs.Window.{Window, rest}
 use Rattle.octseq_bgp.specs.Capability.{CapabilityValue, IsCapabilityValue, ParameterValue, IsParameterValue}
 use Rattle.octseq_bgp.specs.CapabilityText.{capability_text, parameter_text, numbers_family}
-use Rattle.octseq_bgp.specs.Entry.{Entry}
 use Rattle.octseq_bgp.specs.Message.{Message}
 use Rattle.octseq_bgp.specs.Notification.{NotificationData, IsNotificationData}
 use Rattle.octseq_bgp.specs.OctetsText.{spaced, number_dotted}
 use Rattle.octseq.specs.OctetsText.{opaque_text, string_text}
 use Rattle.octseq_bgp.specs.Open.{Open}
+use Rattle.octseq_bgp.specs.Parts.{Attribute, type_of, inside_of}
 use Rattle.octseq_bgp.specs.Prefix.{Nlri}
 use Rattle.octseq_bgp.specs.Update.{Update}
 use Rattle.octseq_bgp.specs.Value.{Value, IsValue}
@@ -34,13 +34,13 @@ value_lines (Value.unreach r) = nlri_lines (codes "unreached") r.prefixes
 value_lines _ = []
 
 -- an attribute, and its prefixes
-abbrev pub attribute_lines : Entry → Value → List ℕ
+abbrev pub attribute_lines : Attribute → Value → List ℕ
 attribute_lines e v = line (codes "attribute") (attribute_text e v) ++ value_lines v
 
 -- the lines of each attribute, by its value
-abbrev pub AreAttributeLines : SessionConfig → List Entry → List ℕ → Type 0
+abbrev pub AreAttributeLines : SessionConfig → List Attribute → List ℕ → Type 0
 AreAttributeLines s [] text = text ≡ []
-AreAttributeLines s (e ∷ more) text = (v : Value) × (rest : List ℕ) × IsValue s e.kind e.octets v
+AreAttributeLines s (e ∷ more) text = (v : Value) × (rest : List ℕ) × IsValue s (type_of e) (inside_of e) v
     × AreAttributeLines s more rest × (text ≡ attribute_lines e v ++ rest)
 
 -- an UPDATE: its word, the withdrawn prefixes, the attributes, and the announced prefixes
@@ -52,10 +52,10 @@ IsUpdateText u text = (attributes : List ℕ) × AreAttributeLines u.session u.a
 -- ---- OPEN
 
 -- a line for each capability, by its value
-abbrev pub AreCapabilityLines : List Entry → List ℕ → Type 0
+abbrev pub AreCapabilityLines : List (ℕ × Window) → List ℕ → Type 0
 AreCapabilityLines [] text = text ≡ []
-AreCapabilityLines (e ∷ more) text = (v : CapabilityValue) × (rest : List ℕ) × IsCapabilityValue e.kind e.octets v
-    × AreCapabilityLines more rest × (text ≡ line (codes "capability") (capability_text e.kind v) ++ rest)
+AreCapabilityLines (e ∷ more) text = (v : CapabilityValue) × (rest : List ℕ) × IsCapabilityValue e.0 e.1 v
+    × AreCapabilityLines more rest × (text ≡ line (codes "capability") (capability_text e.0 v) ++ rest)
 
 -- the lines of a parameter: those of its capabilities, or one line
 abbrev pub AreParameterValueLines : ℕ → ParameterValue → List ℕ → Type 0
@@ -64,10 +64,10 @@ AreParameterValueLines kind (ParameterValue.opaque w) text =
     text ≡ line (codes "parameter") (parameter_text kind w)
 
 -- the lines of each parameter
-abbrev pub AreParameterLines : List Entry → List ℕ → Type 0
+abbrev pub AreParameterLines : List (ℕ × Window) → List ℕ → Type 0
 AreParameterLines [] text = text ≡ []
 AreParameterLines (p ∷ more) text = (v : ParameterValue) × (here : List ℕ) × (rest : List ℕ)
-    × IsParameterValue p.kind p.octets v × AreParameterValueLines p.kind v here × AreParameterLines more rest
+    × IsParameterValue p.0 p.1 v × AreParameterValueLines p.0 v here × AreParameterLines more rest
     × (text ≡ here ++ rest)
 
 -- the text of an OPEN before its parameters

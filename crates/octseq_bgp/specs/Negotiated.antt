@@ -2,7 +2,7 @@
 -- messages).
 use Rattle.std.specs.Prelude.{◌≡◌, Bool, true, false, ◌&&◌, ◌||◌, ℕ, List, [], ◌∷◌, ◌++◌, if◌then◌else◌, nat_eq}
 use Rattle.octseq_bgp.specs.Capability.{ParameterValue, IsParameterValue, CapabilityValue, IsCapabilityValue}
-use Rattle.octseq_bgp.specs.Entry.{Entry}
+use Rattle.octseq.specs.Window.{Window}
 use Rattle.octseq_bgp.specs.Family.{afi_number, safi_number}
 use Rattle.octseq_bgp.specs.declared.family.AfiSafiType.{AfiSafiType}
 use Rattle.octseq_bgp.specs.declared.family.AfiSafiType.TheVariants as family
@@ -10,21 +10,21 @@ use Rattle.octseq_bgp.specs.declared.session.AddPath.{AddPath}
 use Rattle.octseq_bgp.specs.declared.session.SessionConfig.{SessionConfig}
 
 -- the values of capabilities
-abbrev pub AreValues : List Entry → List CapabilityValue → Type 0
+abbrev pub AreValues : List (ℕ × Window) → List CapabilityValue → Type 0
 AreValues [] values = values ≡ []
 AreValues (e ∷ more) values =
-    (v : CapabilityValue) × IsCapabilityValue e.kind e.octets v × (rest : List CapabilityValue)
+    (v : CapabilityValue) × IsCapabilityValue e.0 e.1 v × (rest : List CapabilityValue)
     × AreValues more rest × (values ≡ v ∷ rest)
 
 -- the capabilities of a parameter
-abbrev pub said_capabilities : ParameterValue → List Entry
+abbrev pub said_capabilities : ParameterValue → List (ℕ × Window)
 said_capabilities (ParameterValue.capabilities row) = row
 said_capabilities (ParameterValue.opaque octets) = []
 
 -- the values of the capabilities of parameters, in order
-abbrev pub SayAll : List Entry → List CapabilityValue → Type 0
+abbrev pub SayAll : List (ℕ × Window) → List CapabilityValue → Type 0
 SayAll [] values = values ≡ []
-SayAll (p ∷ more) values = (v : ParameterValue) × IsParameterValue p.kind p.octets v
+SayAll (p ∷ more) values = (v : ParameterValue) × IsParameterValue p.0 p.1 v
     × (here : List CapabilityValue) × AreValues (said_capabilities v) here
     × (rest : List CapabilityValue) × SayAll more rest × (values ≡ here ++ rest)
 
@@ -82,6 +82,6 @@ agreed ours theirs = record {
 }
 
 -- the same for two lists of parameters
-abbrev pub IsAgreed : List Entry → List Entry → SessionConfig → Type 0
+abbrev pub IsAgreed : List (ℕ × Window) → List (ℕ × Window) → SessionConfig → Type 0
 IsAgreed ours theirs s = (a b : List CapabilityValue) × SayAll ours a × SayAll theirs b
     × (s ≡ agreed (all_say silence a) (all_say silence b))

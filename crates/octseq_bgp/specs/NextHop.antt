@@ -8,8 +8,8 @@ use Rattle.octseq_format.specs.Pair.{◌then◌}
 use Rattle.octseq_bgp.specs.Family.{afi_number}
 use Rattle.octseq_bgp.specs.Fills.{Whole}
 use Rattle.octseq_bgp.specs.declared.family.AfiSafiType.{AfiSafiType}
-use Rattle.octseq_bgp.specs.declared.next_hop.NextHop.{NextHop}
-use Rattle.octseq_bgp.specs.declared.next_hop.NextHop.TheVariants as hop
+use Rattle.octseq_bgp.specs.declared.attribute.next_hop.NextHop.{NextHop}
+use Rattle.octseq_bgp.specs.declared.attribute.next_hop.NextHop.TheVariants as hop
 
 -- the next k octets, as they are
 abbrev pub AreOctets : ℕ → Relation (List ℕ)

@@ -5,21 +5,19 @@ use Rattle.octseq.specs.Window.{Window, left, next, past}
 use Rattle.octseq_format.specs.Laws.{Relation}
 use Rattle.octseq_format.specs.Pair.{◌then◌}
 use Rattle.octseq_format.specs.Rest.{IsRest}
-use Rattle.octseq_bgp.specs.Entry.{Entry, IsEntry, IsNumber, IsCounted}
 use Rattle.octseq_bgp.specs.Fills.{Whole, Fills}
-use Rattle.octseq_bgp.specs.declared.entry.Form.{Form}
-use Rattle.octseq_bgp.specs.declared.entry.Form.TheVariants as form
+use Rattle.octseq_bgp.specs.Parts.{IsNumber, IsCounted, IsTlv}
 
--- the form of parameters, with lengths of two octets or of one
-abbrev pub parameter_form : Bool → Form
-parameter_form long = if long then form.LongParameter else form.Parameter
+-- the number of octets of the length of a parameter, in the long form and in the short one
+abbrev pub length_octets : Bool → ℕ
+length_octets long = if long then 2 else 1
 
 pub record Open : Type 0 where
   pub version : ℕ
   pub my_asn : ℕ
   pub holdtime : ℕ
   pub identifier : ℕ
-  pub parameters : List Entry
+  pub parameters : List (ℕ × Window)
 
 -- a nonzero length, followed by the octet 255
 abbrev pub IsLong : Window → Type 0
@@ -31,12 +29,12 @@ IsLongPart = IsNumber 1 then IsNumber 1 then IsCounted 2
 
 -- Parameters: after their length of one octet; or, if that isn't 0 and 255 follows, in the long form. They end the
 -- message.
-pub data HasParameters (w : Window) (row : List Entry) : Type 0 where
+pub data HasParameters (w : Window) (row : List (ℕ × Window)) : Type 0 where
   short : ¬ IsLong w → (inside : Window) → Whole (IsCounted 1) w inside
-      → Fills (IsEntry (parameter_form false)) inside row
+      → Fills (IsTlv (length_octets false)) inside row
       → HasParameters w row
   long : IsLong w → (marks : ℕ × (ℕ × Window)) → Whole IsLongPart w marks
-      → Fills (IsEntry (parameter_form true)) marks.1.1 row → HasParameters w row
+      → Fills (IsTlv (length_octets true)) marks.1.1 row → HasParameters w row
 
 -- version, AS number, hold time, identifier, and what follows
 abbrev pub IsOpenFront : Relation (ℕ × (ℕ × (ℕ × (ℕ × Window))))

@@ -8,9 +8,9 @@ use Rattle.octseq_bgp.specs.Open.{Open}
 use Rattle.octseq_bgp.specs.Update.{Update}
 use Rattle.octseq_bgp.specs.declared.message.Message.{Message}
 use Rattle.octseq_bgp.specs.declared.message.Message.TheVariants as kind
-use Rattle.octseq_bgp.specs.declared.open.OpenMessage.{OpenMessage}
-use Rattle.octseq_bgp.specs.declared.update.UpdateMessage.{UpdateMessage}
-use Rattle.octseq_bgp.specs.declared.update.UpdateParts.{UpdateParts}
+use Rattle.octseq_bgp.specs.declared.message.open.OpenMessage.{OpenMessage}
+use Rattle.octseq_bgp.specs.declared.message.update.UpdateMessage.{UpdateMessage}
+use Rattle.octseq_bgp.specs.declared.message.update.UpdateParts.{UpdateParts}
 
 -- the three parts of an UPDATE
 abbrev pub parts_of : {R : Type 0} {g : Ghosts R} → UpdateParts R g → Window × (Window × Window)

@@ -4,20 +4,14 @@ use Rattle.std.specs.Prelude.{Bool, ℕ, if◌then◌else◌}
 use Rattle.std.specs.Coded.{coded_ℕ}
 use Rattle.octseq.specs.Window.{Window}
 use Rattle.octseq_format.specs.Row.{Holds, held_once}
-use Rattle.octseq_bgp.specs.Entry.{IsNumber}
-use Rattle.octseq_bgp.specs.OneEntry.{one_number}
-use Rattle.octseq_bgp.specs.declared.entry.Form.{Form}
-use Rattle.octseq_bgp.specs.declared.entry.Form.TheVariants as form
-use Rattle.octseq_bgp.specs.declared.path.SegmentType.{SegmentType}
-use Rattle.octseq_bgp.specs.declared.path.SegmentType.TheVariants as kind
+use Rattle.octseq_bgp.specs.Parts.{IsNumber}
+use Rattle.octseq_bgp.specs.OneParts.{one_number}
+use Rattle.octseq_bgp.specs.declared.attribute.path.SegmentType.{SegmentType}
+use Rattle.octseq_bgp.specs.declared.attribute.path.SegmentType.TheVariants as kind
 
 -- the number of octets of an AS number
 abbrev pub asn_size : Bool → ℕ
 asn_size wide = if wide then 4 else 2
-
--- the form of segments with AS numbers of four octets, or two
-abbrev pub path_form : Bool → Form
-path_form wide = if wide then form.Segment else form.ShortSegment
 
 -- the number of a type of segments
 abbrev pub segment_number : SegmentType → ℕ

@@ -3,10 +3,10 @@ use Rattle.std.specs.Prelude.{Option, Some, None, List, []}
 use Rattle.octseq.specs.declared.AsOctets.{Ghosts}
 use Rattle.octseq_bgp.specs.Items.{items_left}
 use Rattle.octseq_bgp.specs.Negotiated as said
-use Rattle.octseq_bgp.specs.declared.family_tuple.FamilyTuple.{FamilyTuple}
+use Rattle.octseq_bgp.specs.declared.capability.family_tuple.FamilyTuple.{FamilyTuple}
 use Rattle.octseq_bgp.specs.declared.item.Item.{Ghosts as ItemGhosts}
 use Rattle.octseq_bgp.specs.declared.item.Items.{Items}
-use Rattle.octseq_bgp.specs.declared.negotiated.Spoken.{Spoken}
+use Rattle.octseq_bgp.specs.declared.session.negotiated.Spoken.{Spoken}
 
 -- the families of a list, or none
 abbrev pub paths_of : {R : Type 0} {o : Ghosts R} {t : ItemGhosts FamilyTuple}

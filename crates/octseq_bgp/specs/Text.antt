@@ -4,14 +4,14 @@ use Rattle.std.specs.Prelude.{ℕ, ◌/◌, ◌%◌, List, ◌++◌, take, codes
 use Rattle.std.specs.Fmt.{decimal}
 use Rattle.std.specs.Net.Text.{ipv4_text}
 use Rattle.octseq.specs.OctetsText.{ipv6_address_text}
-use Rattle.octseq_bgp.specs.declared.attribute_type.AttributeType.{AttributeType}
-use Rattle.octseq_bgp.specs.declared.attribute_type.AttributeType.TheVariants as kind
+use Rattle.octseq_bgp.specs.declared.attribute.attribute_type.AttributeType.{AttributeType}
+use Rattle.octseq_bgp.specs.declared.attribute.attribute_type.AttributeType.TheVariants as kind
 use Rattle.octseq_bgp.specs.declared.family.Afi.{Afi}
 use Rattle.octseq_bgp.specs.declared.family.Afi.TheVariants as addresses
 use Rattle.octseq_bgp.specs.declared.family.AfiSafiType.{AfiSafiType}
 use Rattle.octseq_bgp.specs.declared.family.AfiSafiType.TheVariants as family
-use Rattle.octseq_bgp.specs.declared.path.SegmentType.{SegmentType}
-use Rattle.octseq_bgp.specs.declared.path.SegmentType.TheVariants as segment
+use Rattle.octseq_bgp.specs.declared.attribute.path.SegmentType.{SegmentType}
+use Rattle.octseq_bgp.specs.declared.attribute.path.SegmentType.TheVariants as segment
 
 -- a community: its upper and its lower 16 bits
 abbrev pub community_text : ℕ → List ℕ

@@ -4,10 +4,9 @@ use Rattle.octseq.specs.Window.{Window}
 use Rattle.octseq_format.specs.Laws.{Relation}
 use Rattle.octseq_format.specs.Pair.{◌then◌}
 use Rattle.octseq_format.specs.Rest.{IsRest}
-use Rattle.octseq_bgp.specs.Entry.{Entry, IsEntry, IsCounted}
 use Rattle.octseq_bgp.specs.Fills.{Whole, Fills}
+use Rattle.octseq_bgp.specs.Parts.{Attribute, IsAttribute, IsCounted}
 use Rattle.octseq_bgp.specs.Prefix.{Nlri, ArePrefixes}
-use Rattle.octseq_bgp.specs.declared.entry.Form.TheVariants as form
 use Rattle.octseq_bgp.specs.declared.family.AfiSafiType.TheVariants as family
 use Rattle.octseq_bgp.specs.declared.session.SessionConfig.{SessionConfig}
 
@@ -15,7 +14,7 @@ use Rattle.octseq_bgp.specs.declared.session.SessionConfig.{SessionConfig}
 pub record Update : Type 0 where
   pub session : SessionConfig
   pub withdrawn : List Nlri
-  pub attributes : List Entry
+  pub attributes : List Attribute
   pub announced : List Nlri
 
 -- withdrawn routes after their length, attributes after theirs, and prefixes up to the end
@@ -28,5 +27,5 @@ pub record IsUpdate (s : SessionConfig) (w : Window) (u : Update) : Type 0 where
   pub are : Whole IsUpdateParts w parts
   pub of_session : u.session ≡ s
   pub withdrawn : ArePrefixes s family.Ipv4Unicast parts.0 u.withdrawn
-  pub attributes : Fills (IsEntry form.Attribute) parts.1.0 u.attributes
+  pub attributes : Fills IsAttribute parts.1.0 u.attributes
   pub announced : ArePrefixes s family.Ipv4Unicast parts.1.1 u.announced

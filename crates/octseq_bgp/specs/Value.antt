@@ -9,16 +9,16 @@ use Rattle.octseq_format.specs.Rest.{IsRest}
 use Rattle.octseq_format.specs.Where.{IsWhere}
 use Rattle.octseq_bgp.specs.AttributeType.{type_number}
 use Rattle.octseq_bgp.specs.Community.{large_community}
-use Rattle.octseq_bgp.specs.Entry.{Entry, IsEntry, IsNumber, IsCounted}
 use Rattle.octseq_bgp.specs.Family.{afi_number, safi_number}
 use Rattle.octseq_bgp.specs.Fills.{Whole, Fills}
 use Rattle.octseq_bgp.specs.NextHop.{IsNextHop}
-use Rattle.octseq_bgp.specs.Path.{path_form, asn_size}
+use Rattle.octseq_bgp.specs.Parts.{IsNumber, IsCounted, IsSegment, Segment}
+use Rattle.octseq_bgp.specs.Path.{asn_size}
 use Rattle.octseq_bgp.specs.Prefix.{Nlri, ArePrefixes}
-use Rattle.octseq_bgp.specs.declared.attribute_type.AttributeType.{AttributeType}
-use Rattle.octseq_bgp.specs.declared.attribute_type.AttributeType.TheVariants as kind
+use Rattle.octseq_bgp.specs.declared.attribute.attribute_type.AttributeType.{AttributeType}
+use Rattle.octseq_bgp.specs.declared.attribute.attribute_type.AttributeType.TheVariants as kind
 use Rattle.octseq_bgp.specs.declared.family.AfiSafiType.{AfiSafiType}
-use Rattle.octseq_bgp.specs.declared.next_hop.NextHop.{NextHop}
+use Rattle.octseq_bgp.specs.declared.attribute.next_hop.NextHop.{NextHop}
 use Rattle.octseq_bgp.specs.declared.session.SessionConfig.{SessionConfig}
 
 -- Reachable prefixes: a family, next hops, and the prefixes.
@@ -57,7 +57,7 @@ pub record IsUnreach (s : SessionConfig) (w : Window) (r : Unreach) : Type 0 whe
 -- AS number and an address; communities; prefixes; or octets without the form of their type.
 pub data Value : Type 0 where
   origin : ℕ → Value
-  as_path : Bool × List Entry → Value
+  as_path : Bool × List Segment → Value
   next_hop : ℕ → Value
   multi_exit_disc : ℕ → Value
   local_pref : ℕ → Value
@@ -69,7 +69,7 @@ pub data Value : Type 0 where
   reach : Reach → Value
   unreach : Unreach → Value
   extended_communities : List ℕ → Value
-  as4_path : Bool × List Entry → Value
+  as4_path : Bool × List Segment → Value
   as4_aggregator : ℕ × ℕ → Value
   large_communities : List (ℕ × (ℕ × ℕ)) → Value
   opaque : Window → Value
@@ -79,8 +79,8 @@ abbrev pub SomeItems : {A : Type 0} → ℕ → (List ℕ → A) → Window → 
 SomeItems k reads w row = Fills (IsFixed k reads) w row × (1 ≤ length row)
 
 -- segments with AS numbers of four octets or two fill the window
-abbrev pub IsPath : Bool → Window → Bool × List Entry → Type 0
-IsPath wide w path = (path.0 ≡ wide) × Fills (IsEntry (path_form wide)) w path.1
+abbrev pub IsPath : Bool → Window → Bool × List Segment → Type 0
+IsPath wide w path = (path.0 ≡ wide) × Fills (IsSegment (asn_size wide)) w path.1
 
 -- a value made from what a window says
 abbrev pub Made : {A : Type 0} → (A → Value) → (A → Type 0) → Value → Type 0

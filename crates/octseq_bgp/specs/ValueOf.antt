@@ -5,10 +5,10 @@ use Rattle.octseq_bgp.specs.Items.{items_left}
 use Rattle.octseq_bgp.specs.Lists.{prefixes_left}
 use Rattle.octseq_bgp.specs.PathOf.{path_of}
 use Rattle.octseq_bgp.specs.Value.{Reach, Unreach, Value}
-use Rattle.octseq_bgp.specs.declared.reach.MpReachNlri.{MpReachNlri}
-use Rattle.octseq_bgp.specs.declared.reach.MpUnreachNlri.{MpUnreachNlri}
-use Rattle.octseq_bgp.specs.declared.value.AttributeValue.{AttributeValue}
-use Rattle.octseq_bgp.specs.declared.value.AttributeValue.TheVariants as kind
+use Rattle.octseq_bgp.specs.declared.attribute.reach.MpReachNlri.{MpReachNlri}
+use Rattle.octseq_bgp.specs.declared.attribute.reach.MpUnreachNlri.{MpUnreachNlri}
+use Rattle.octseq_bgp.specs.declared.attribute.value.AttributeValue.{AttributeValue}
+use Rattle.octseq_bgp.specs.declared.attribute.value.AttributeValue.TheVariants as kind
 
 -- reachable prefixes
 abbrev pub reach_of : {R : Type 0} {g : Ghosts R} → MpReachNlri R g → Reach

@@ -6,18 +6,18 @@ use Rattle.std.specs.List.{flat_map}
 use Rattle.std.specs.Net.Text.{ipv4_text}
 use Rattle.octseq.specs.Integer.{be}
 use Rattle.octseq.specs.Window.{rest}
-use Rattle.octseq_bgp.specs.Entry.{Entry}
 use Rattle.octseq_bgp.specs.ExtendedText.{extended_text}
 use Rattle.octseq_bgp.specs.OctetsText.{spaced, number_dotted}
 use Rattle.octseq.specs.OctetsText.{opaque_text}
+use Rattle.octseq_bgp.specs.Parts.{Attribute, Segment, flags_of, type_of}
 use Rattle.octseq_bgp.specs.Path.{asn_size}
 use Rattle.octseq_bgp.specs.Prefix.{Nlri}
 use Rattle.octseq_bgp.specs.PrefixValue.{address_of}
 use Rattle.octseq_bgp.specs.Text.{community_text, large_text, family_text, address_text, prefix_text}
 use Rattle.octseq_bgp.specs.Value.{Value}
 use Rattle.octseq_bgp.specs.declared.family.Afi.TheVariants as addresses
-use Rattle.octseq_bgp.specs.declared.next_hop.NextHop.{NextHop}
-use Rattle.octseq_bgp.specs.declared.next_hop.NextHop.TheVariants as hop
+use Rattle.octseq_bgp.specs.declared.attribute.next_hop.NextHop.{NextHop}
+use Rattle.octseq_bgp.specs.declared.attribute.next_hop.NextHop.TheVariants as hop
 use Rattle.octseq_bgp.specs.declared.prefix.PathId.{PathId}
 
 -- a letter if a bit is set
@@ -68,11 +68,11 @@ abbrev pub numbers_text : List ℕ → List ℕ
 numbers_text = flat_map (λ n. spaced (decimal n))
 
 -- a segment: its type, and its AS numbers
-abbrev pub segment_words : Bool → Entry → List ℕ
-segment_words wide e = segment_name e.number ++ numbers_text (numbers (asn_size wide) e.kind (rest e.octets))
+abbrev pub segment_words : Bool → Segment → List ℕ
+segment_words wide e = segment_name e.0 ++ numbers_text (numbers (asn_size wide) e.1.0 (rest e.1.1))
 
 -- each segment of a path after a space
-abbrev pub path_text : Bool × List Entry → List ℕ
+abbrev pub path_text : Bool × List Segment → List ℕ
 path_text path = flat_map (λ e. spaced (segment_words path.0 e)) path.1
 
 -- each next hop after a space
@@ -106,8 +106,8 @@ value_text (Value.large_communities row) = flat_map (λ it. spaced (large_text i
 value_text (Value.opaque w) = spaced (opaque_text (rest w))
 
 -- an attribute, with its value
-abbrev pub attribute_text : Entry → Value → List ℕ
-attribute_text e v = flags_text e.number ++ spaced (name_text e.kind) ++ value_text v
+abbrev pub attribute_text : Attribute → Value → List ℕ
+attribute_text e v = flags_text (flags_of e) ++ spaced (name_text (type_of e)) ++ value_text v
 
 -- the path id, if there is one
 abbrev pub path_id_text : Option PathId → List ℕ

@@ -1,15 +1,27 @@
 //! Capabilities: RFC 5492.
-ghost use Rattle.std.specs.Prelude.{◌≡◌, ◌+◌, ◌≤◌, List, length, IsErr, IfOk, ⊤};
+ghost use Rattle.std.specs.Prelude.{◌≡◌, ◌+◌, ◌≤◌, ℕ, List, length, IsErr, IfOk, ⊤};
 ghost use Rattle.octseq.specs.Parser.{window};
 ghost use Rattle.octseq.specs.Window.{left};
-ghost use Rattle.octseq_bgp.specs.Entry.{Entry, IsEntry};
+ghost use Rattle.octseq.specs.Window.{Window};
+ghost use Rattle.octseq_format.specs.Row.{Holds, held_once};
 ghost use Rattle.octseq_bgp.specs.Fills.{Fills};
-ghost use Rattle.octseq_bgp.specs.declared.entry.Form.TheVariants as form;
+ghost use Rattle.octseq_bgp.specs.OneParts.{one_tlv, prefix_code};
+ghost use Rattle.octseq_bgp.specs.Parts.{IsTlv};
 
-use crate::entry::{Entries, Form};
-use crate::parameter::Parameter;
+mod capability_type;
+mod compose;
+mod family_tuple;
+mod value;
+
+use crate::list::{count_all, take_first};
+use crate::message::Parameter;
+pub use capability_type::CapabilityType;
+pub use compose::{ComposeCapability, NewCapability};
+pub use family_tuple::FamilyTuple;
 use octseq::{AsOctets, Malformed, Parser, Turns};
+use octseq_format::{Counted, Nested, U8};
 use std::alloc::AllocError;
+pub use value::{CapabilityValue, GracefulRestart};
 
 /// A capability, where it was read.
 #[derive(Debug)]
@@ -32,11 +44,15 @@ impl<R: AsOctets + Copy> Clone for Capability<R> {
     }
 }
 
+/// A code, and octets after their length.
+type CapabilityFormat = (U8, Counted<U8, Nested, 0>);
+
 /// An iterator over the capabilities of a parameter.
 #[derive(Debug)]
 pub struct Capabilities<R: AsOctets> {
-    entries: Entries<R>,
-    ghost capabilities: { entries.form ≡ form.Capability },
+    parser: Parser<R>,
+    left: usize,
+    ghost ahead: { Holds (IsTlv 1) (window parser) left } by { held_once prefix_code (IsTlv 1) (one_tlv 1) (window parser) left },
 }
 
 impl<R: AsOctets + Copy> Copy for Capabilities<R> {}
@@ -63,38 +79,37 @@ impl<R: AsOctets + Copy> Capabilities<R> {
         parser: Parser<R>,
         turns: &mut Turns,
     ) -> Result<Capabilities<R>, Malformed>
-        ensures capabilities { IfOk result (λ it.
-            Fills (IsEntry form.Capability) (window parser) (capabilities_left it)) }
-        ensures malformed { IsErr result → (row : List Entry) → ¬ Fills (IsEntry form.Capability) (window parser) row }
+        ensures capabilities { IfOk result (λ it. Fills (IsTlv 1) (window parser) (capabilities_left it)) }
+        ensures malformed { IsErr result → (row : List (ℕ × Window)) → ¬ Fills (IsTlv 1) (window parser) row }
         ensures some { turns.old ≤ turns.new }
         ensures least { IfOk result (λ it. turns.old + length (capabilities_left it) ≤ turns.new) }
         ensures turns { turns.new ≤ turns.old + left (window parser) }
     {
-        let entries = Entries::parse_counted(parser, Form::Capability, turns)?;
-        Ok(Capabilities { entries })
+        let left = count_all::<R, CapabilityFormat>(parser, turns)?;
+        Ok(Capabilities { parser, left })
     }
 }
 
 impl<R: AsOctets + Copy> Iterator for Capabilities<R> {
     ghost use Rattle.std.specs.Iterator.{YieldsFirstBy, item_count};
-    ghost use Rattle.octseq_bgp.specs.CapabilityOf.{capability_entry, capabilities_left};
+    ghost use Rattle.octseq_bgp.specs.CapabilityOf.{capability_of, capabilities_left};
 
     type Item = Capability<R>;
 
-    ghost next_gives = { YieldsFirstBy capability_entry capabilities_left };
+    ghost next_gives = { YieldsFirstBy capability_of capabilities_left };
 
     ghost remaining = { item_count capabilities_left };
 
     fn next(&mut self) -> Option<Capability<R>> {
-        let mut entries = self.entries;
-        let Some(entry) = entries.take_first(Form::Capability) else {
+        let Some(first) = take_first::<R, CapabilityFormat>(self.parser, self.left) else {
             return None;
         };
-        *self = Capabilities { entries };
-        Some(Capability {
-            code: entry.kind,
-            octets: entry.octets,
-        })
+        let ((code, octets), parser) = first;
+        *self = Capabilities {
+            parser,
+            left: self.left - 1,
+        };
+        Some(Capability { code, octets })
     }
 }
 

@@ -8,24 +8,43 @@ ghost use Rattle.octseq_bgp.specs.Message.{IsHeader, IsRouteRefresh, IsBody, IsM
 ghost use Rattle.octseq_bgp.specs.Message.{HasUpdateParts};
 ghost use Rattle.octseq_bgp.specs.declared.session.SessionConfig.{SessionConfig as Session};
 
-use crate::notification::NotificationMessage;
-use crate::open::OpenMessage;
+mod end_of_rib;
+mod fault;
+mod handling;
+mod keepalive;
+mod notification;
+mod notification_builder;
+mod open;
+mod open_builder;
+mod parameter;
+mod place;
+mod reader;
+mod route_refresh_builder;
+mod update;
+mod update_builder;
+mod written;
+
 use crate::session::SessionConfig;
-use crate::update::{UpdateMessage, UpdateParts};
 use crate::whole::parse_all;
+pub use fault::{Fault, Faults};
+pub use handling::Handling;
+pub use keepalive::keepalive_octets;
+pub use notification::{NotificationData, NotificationMessage};
+pub use notification_builder::NotificationBuilder;
 use octseq::{AsOctets, Malformed, Parser, Turns};
 use octseq_format::{Nested, U8, U16Be, U128Be};
-
-/// Octets are a message of a session in at most one way.
-///
-/// It does nothing. Calling it brings the law into the caller's proof.
-pub fn one_message()
-    ensures { (session : Session) (octets : List ℕ) (m n : said.Message)
-        → IsMessage session octets m → IsMessage session octets n → m ≡ n }
-{}
+pub use open::OpenMessage;
+pub use open_builder::OpenBuilder;
+pub use parameter::{Parameter, Parameters};
+pub use place::place_of_fault;
+pub use reader::{MessageReader, ReadMessageError, read_message};
+pub use route_refresh_builder::RouteRefreshBuilder;
+pub use update::{UpdateMessage, UpdateParts};
+pub use update_builder::UpdateBuilder;
+pub use update_builder::part::{Announced, Attributes, MpList, Part, Withdrawn};
 
 /// 16 octets of 255, as a number.
-const MARKER: u128 = 340282366920938463463374607431768211455;
+const MARKER: u128 = u128::MAX;
 
 /// A ROUTE-REFRESH: RFC 2918, 3.
 #[derive(Debug, Drop)]

@@ -1,15 +1,20 @@
 //! Prefixes: RFC 4271, 4.3, and RFC 7911, 3, for their path ids.
-ghost use Rattle.std.specs.Prelude.{◌≡◌, ◌+◌, ◌<◌, ◌≤◌, List, slice_index, true, IsErr, IfOk, ⊤};
+ghost use Rattle.std.specs.Prelude.{◌≡◌, ◌∷◌, [], ◌+◌, ◌-◌, ◌<◌, ◌≤◌, ℕ, List, length, slice_index, IsErr, IfOk, IsNone, IsSome, IfSome, ⊤};
 ghost use Rattle.octseq.specs.Parser.{window};
-ghost use Rattle.octseq.specs.Window.{left, rest};
+ghost use Rattle.octseq.specs.Window.{Window as Place, left, rest};
+ghost use Rattle.octseq_format.specs.Row.{Holds};
+ghost use Rattle.octseq_bgp.specs.Fills.{Counts, TakesFirst};
+ghost use Rattle.octseq_bgp.specs.Parts.{IsPathPrefix, IsPrefix, octets_of_bits};
 ghost use Rattle.octseq_bgp.specs.Prefix as said;
-ghost use Rattle.octseq_bgp.specs.Prefix.{is_prefix_form, path_id_in, afi_in, ArePrefixes};
+ghost use Rattle.octseq_bgp.specs.Prefix.{AreAhead, ArePrefixes, ahead_once, most_bits};
 ghost use Rattle.octseq_bgp.specs.PrefixValue.{bits_after, cleared, address_of};
 
-use crate::entry::{Entries, Form};
 use crate::family::{Afi, AfiSafiType};
+use crate::key_octet::KeyOctet;
+use crate::list::{count_all, take_first};
 use crate::session::SessionConfig;
 use octseq::{AsOctets, Malformed, Parser, Turns};
+use octseq_format::{Keyed, Nested, Reckoning, Sized, Test, Through, U32Be, When};
 use std::alloc::AllocError;
 
 /// A path id: RFC 7911, 3.
@@ -41,11 +46,49 @@ impl<R: AsOctets + Copy> Clone for Nlri<R> {
     }
 }
 
+/// As many octets as a number of bits needs.
+#[derive(Debug)]
+pub struct OctetsOfBits;
+
+impl Reckoning for OctetsOfBits {
+    ghost of = { octets_of_bits };
+
+    #[inline(always)]
+    fn of(bits: usize) -> usize {
+        bits / 8 + (bits % 8 + 7) / 8
+    }
+}
+
+/// At most `MOST`.
+#[derive(Debug)]
+pub struct AtMost<const MOST: usize>;
+
+impl<const MOST: usize> Test for AtMost<MOST> {
+    ghost holds = { λ bits. bits ≤ MOST };
+
+    #[inline(always)]
+    fn test(bits: usize) -> bool {
+        bits <= MOST
+    }
+}
+
+/// A length in bits, at most `MOST`, and as many octets as the bits need.
+pub type PrefixFormat<const MOST: usize> = Keyed<
+    KeyOctet,
+    When<AtMost<MOST>, Through<OctetsOfBits, Sized<Nested, 0>>>,
+>;
+
+/// The same after a path id.
+pub type PathPrefixFormat<const MOST: usize> = (U32Be, PrefixFormat<MOST>);
+
 /// An iterator over prefixes.
 #[derive(Debug)]
 pub struct Prefixes<R: AsOctets> {
-    entries: Entries<R>,
-    ghost prefixes: { is_prefix_form entries.form ≡ true },
+    parser: Parser<R>,
+    left: usize,
+    afi: Afi,
+    paths: bool,
+    ghost ahead: { AreAhead paths afi (window parser) left } by { ahead_once paths afi (window parser) left },
 }
 
 impl<R: AsOctets + Copy> Copy for Prefixes<R> {}
@@ -60,8 +103,41 @@ impl<R: AsOctets + Copy> Clone for Prefixes<R> {
     }
 }
 
+/// Returns how many prefixes without path ids fill what a parser has left, and counts a turn for each.
+fn count_plain<R: AsOctets + Copy>(
+    parser: Parser<R>,
+    afi: Afi,
+    turns: &mut Turns,
+) -> Result<usize, Malformed>
+    ensures counts { Counts (IsPrefix (most_bits afi)) (window parser) result }
+    ensures some { turns.old ≤ turns.new }
+    ensures least { IfOk result (λ count. turns.old + count ≤ turns.new) }
+    ensures turns { turns.new ≤ turns.old + left (window parser) }
+{
+    match afi {
+        Afi::Ipv4 => count_all::<R, PrefixFormat<32>>(parser, turns),
+        Afi::Ipv6 => count_all::<R, PrefixFormat<128>>(parser, turns),
+    }
+}
+
+/// Returns how many prefixes with path ids fill what a parser has left, and counts a turn for each.
+fn count_with_paths<R: AsOctets + Copy>(
+    parser: Parser<R>,
+    afi: Afi,
+    turns: &mut Turns,
+) -> Result<usize, Malformed>
+    ensures counts { Counts (IsPathPrefix (most_bits afi)) (window parser) result }
+    ensures some { turns.old ≤ turns.new }
+    ensures least { IfOk result (λ count. turns.old + count ≤ turns.new) }
+    ensures turns { turns.new ≤ turns.old + left (window parser) }
+{
+    match afi {
+        Afi::Ipv4 => count_all::<R, PathPrefixFormat<32>>(parser, turns),
+        Afi::Ipv6 => count_all::<R, PathPrefixFormat<128>>(parser, turns),
+    }
+}
+
 impl<R: AsOctets + Copy> Prefixes<R> {
-    ghost use Rattle.std.specs.Prelude.{length};
     ghost use Rattle.octseq_bgp.specs.Lists.{prefixes_left};
 
     /// Reads all that a parser has left as prefixes of a family, and counts a turn for each.
@@ -83,15 +159,65 @@ impl<R: AsOctets + Copy> Prefixes<R> {
         ensures least { IfOk result (λ prefixes. turns.old + length (prefixes_left prefixes) ≤ turns.new) }
         ensures turns { turns.new ≤ turns.old + left (window parser) }
     {
-        let entries = Entries::parse_counted(parser, session.prefix_form(family), turns)?;
-        Ok(Prefixes { entries })
+        let afi = family.afi();
+        let paths = session.add_path.has(family);
+        if paths {
+            let left = count_with_paths(parser, afi, turns)?;
+            return Ok(Prefixes {
+                parser,
+                left,
+                afi,
+                paths,
+            });
+        }
+        let left = count_plain(parser, afi, turns)?;
+        Ok(Prefixes {
+            parser,
+            left,
+            afi,
+            paths,
+        })
     }
 
     /// Returns the number of prefixes that are left.
     pub fn len(&self) -> usize
         ensures { result ≡ length (prefixes_left self.now) }
     {
-        self.entries.len()
+        self.left
+    }
+}
+
+/// Reads the first of the prefixes without path ids that are known to be there. Returns it, and a parser past it.
+#[inline(always)]
+fn take_plain<R: AsOctets + Copy>(
+    parser: Parser<R>,
+    left: usize,
+    afi: Afi,
+) -> Option<((u8, Parser<R>), Parser<R>)>
+    requires { Holds (IsPrefix (most_bits afi)) (window parser) left }
+    ensures { TakesFirst (IsPrefix (most_bits afi)) (λ it. (it.0, window it.1)) (λ after. window after) (window parser)
+        left result }
+{
+    match afi {
+        Afi::Ipv4 => take_first::<R, PrefixFormat<32>>(parser, left),
+        Afi::Ipv6 => take_first::<R, PrefixFormat<128>>(parser, left),
+    }
+}
+
+/// Reads the first of the prefixes with path ids that are known to be there. Returns it, and a parser past it.
+#[inline(always)]
+fn take_with_path<R: AsOctets + Copy>(
+    parser: Parser<R>,
+    left: usize,
+    afi: Afi,
+) -> Option<((u32, (u8, Parser<R>)), Parser<R>)>
+    requires { Holds (IsPathPrefix (most_bits afi)) (window parser) left }
+    ensures { TakesFirst (IsPathPrefix (most_bits afi)) (λ it. (it.0, (it.1.0, window it.1.1))) (λ after. window after)
+        (window parser) left result }
+{
+    match afi {
+        Afi::Ipv4 => take_first::<R, PathPrefixFormat<32>>(parser, left),
+        Afi::Ipv6 => take_first::<R, PathPrefixFormat<128>>(parser, left),
     }
 }
 
@@ -105,39 +231,45 @@ impl<R: AsOctets + Copy> Iterator for Prefixes<R> {
 
     ghost remaining = { item_count prefixes_left };
 
+    #[inline(always)]
     fn next(&mut self) -> Option<Nlri<R>> {
-        let mut entries = self.entries;
-        let form = entries.form();
-        let Some(entry) = entries.take_first(form) else {
+        let (afi, paths) = (self.afi, self.paths);
+        if paths {
+            let Some(first) = take_with_path(self.parser, self.left, afi) else {
+                return None;
+            };
+            let ((id, (len, octets)), parser) = first;
+            let left = self.left - 1;
+            *self = Prefixes {
+                parser,
+                left,
+                afi,
+                paths,
+            };
+            return Some(Nlri {
+                path_id: Some(PathId(id)),
+                afi,
+                len,
+                octets,
+            });
+        }
+        let Some(first) = take_plain(self.parser, self.left, afi) else {
             return None;
         };
-        *self = Prefixes { entries };
+        let ((len, octets), parser) = first;
+        let left = self.left - 1;
+        *self = Prefixes {
+            parser,
+            left,
+            afi,
+            paths,
+        };
         Some(Nlri {
-            path_id: path_id(form, entry.number),
-            afi: afi(form),
-            len: entry.kind,
-            octets: entry.octets,
+            path_id: None,
+            afi,
+            len,
+            octets,
         })
-    }
-}
-
-/// Returns the path id of a prefix of a form.
-fn path_id(form: Form, number: u32) -> Option<PathId>
-    ensures { result ≡ path_id_in form number }
-{
-    match form {
-        Form::Ipv4Path | Form::Ipv6Path => Some(PathId(number)),
-        _ => None,
-    }
-}
-
-/// Returns the family of the address of a prefix of a form.
-fn afi(form: Form) -> Afi
-    ensures { result ≡ afi_in form }
-{
-    match form {
-        Form::Ipv6 | Form::Ipv6Path => Afi::Ipv6,
-        _ => Afi::Ipv4,
     }
 }
 
@@ -154,7 +286,7 @@ pub struct Prefix {
 }
 
 /// Clears the last `bits` bits of an octet.
-fn clear(octet: u8, bits: usize) -> u8
+pub(crate) fn clear(octet: u8, bits: usize) -> u8
     requires { bits ≤ 8 }
     ensures { result ≡ cleared bits octet }
 {

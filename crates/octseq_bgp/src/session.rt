@@ -1,8 +1,9 @@
 //! What two speakers agreed on. Octets alone don't say how messages are to be read.
 ghost use Rattle.std.specs.Prelude.{◌≡◌, true, false};
-ghost use Rattle.octseq_bgp.specs.Session.{prefix_form, adds_path};
+ghost use Rattle.octseq_bgp.specs.Session.{adds_path};
 
-use crate::entry::Form;
+mod negotiated;
+
 use crate::family::AfiSafiType;
 
 /// The families that have path ids before their prefixes: RFC 7911, 4.
@@ -82,21 +83,6 @@ impl SessionConfig {
             four_octet_asn: false,
             add_path: AddPath::all(false),
             extended_message: false,
-        }
-    }
-
-    /// Returns the form of the prefixes of a family.
-    pub(crate) fn prefix_form(&self, family: AfiSafiType) -> Form
-        ensures { result ≡ prefix_form self.now family }
-    {
-        let has = self.add_path.has(family);
-        match family {
-            AfiSafiType::Ipv4Unicast | AfiSafiType::Ipv4Multicast => {
-                if has { Form::Ipv4Path } else { Form::Ipv4 }
-            }
-            AfiSafiType::Ipv6Unicast | AfiSafiType::Ipv6Multicast => {
-                if has { Form::Ipv6Path } else { Form::Ipv6 }
-            }
         }
     }
 }

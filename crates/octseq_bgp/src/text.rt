@@ -10,12 +10,11 @@ mod lines;
 mod octets;
 mod value;
 
-use crate::attribute_type::AttributeType;
+use crate::attribute::{Asn, AttributeType, SegmentType};
 use crate::community::{ClusterId, LargeCommunity, StandardCommunity};
 use crate::family::AfiSafiType;
-use crate::path::{Asn, SegmentType};
 use crate::prefix::{PathId, Prefix};
-pub use lines::{one_text, write_attribute_lines};
+pub use lines::write_attribute_lines;
 pub use octets::{write_address, write_dotted, write_opaque};
 use std::fmt;
 pub use value::write_next_hop;

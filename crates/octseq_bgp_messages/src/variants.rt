@@ -2,7 +2,7 @@
 use crate::append_message;
 use octseq::StrBuilder;
 use octseq::str::DisplayError;
-use octseq_bgp::SessionConfig;
+use octseq_bgp::session::SessionConfig;
 use std::fmt;
 
 /// What an octet is changed to: lengths that are none, the least and the most, and both sides of the first bit.

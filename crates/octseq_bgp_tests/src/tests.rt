@@ -26,4 +26,6 @@ mod refused;
 mod sessions;
 mod streams;
 mod text;
+mod update_builder;
 mod values;
+mod written;

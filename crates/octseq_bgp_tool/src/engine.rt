@@ -10,7 +10,7 @@ use crate::engine::messages::{Messages, one_stream_piece};
 use crate::engine::records::{Records, one_record_piece};
 use crate::engine::shown::{OneMessage, one_message_piece};
 use crate::options::Options;
-use octseq_bgp::{framed_messages_are_apart, misframed_begins_none};
+use octseq_bgp::laws::{framed_messages_are_apart, misframed_begins_none};
 use octseq_cli::{Commands, ProgramFault, Status, take_stream, take_whole};
 use octseq_mrt::records_are_apart;
 use std::alloc::Global;

@@ -3,7 +3,7 @@ ghost use Rattle.std.specs.Prelude.{◌≡◌};
 ghost use Rattle.octseq_bgp_tool.specs.Words.{session_of, words_of};
 ghost use Rattle.octseq_cli.specs.Run.{IsNamed};
 
-use octseq_bgp::{AddPath, SessionConfig};
+use octseq_bgp::session::{AddPath, SessionConfig};
 
 /// The options of a session, by the words after a command. Without any, AS numbers have four octets, there are no path
 /// ids, and messages have at most 4,096 octets.

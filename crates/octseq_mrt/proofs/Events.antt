@@ -3,9 +3,9 @@ use Rattle.std.proofs.Common.{◌≡◌, ℕ, Bool, true, Option, subst}
 use Rattle.octseq.specs.Window.{Window}
 use Rattle.octseq_format.specs.Pair.{◌then◌}
 use Rattle.octseq_format.specs.Rest.{IsRest}
-use Rattle.octseq_bgp.specs.Entry.{IsNumber}
+use Rattle.octseq_bgp.specs.Parts.{IsNumber}
 use Rattle.octseq_bgp.specs.Fills.{Whole}
-use Rattle.octseq_bgp.specs.OneEntry.{one_number}
+use Rattle.octseq_bgp.specs.OneParts.{one_number}
 use Rattle.octseq_bgp.specs.Path.{asn_size}
 use Rattle.octseq_bgp.specs.declared.family.Afi.{Afi}
 use Rattle.octseq_mrt.specs.Address.{Address, IsOptional}

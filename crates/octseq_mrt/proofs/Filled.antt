@@ -9,9 +9,8 @@ use Rattle.octseq_format.specs.Counted.{Times}
 use Rattle.octseq_format.specs.Fixed.{onward_fixed}
 use Rattle.octseq_format.specs.Laws.{Relation, NoneAt, IsOne, IsMoving}
 use Rattle.octseq_format.specs.Row.{Row, Many}
-use Rattle.octseq_bgp.specs.Entry.{IsEntry, IsNumber}
+use Rattle.octseq_bgp.specs.Parts.{IsAttribute, IsNumber}
 use Rattle.octseq_bgp.specs.Fills.{Whole, Fills}
-use Rattle.octseq_bgp.specs.declared.entry.Form.TheVariants as form
 use Rattle.octseq_bgp.proofs.Wholes.{counted_left}
 use Rattle.octseq_mrt.specs.Ahead.{AllAhead, ahead_once, one_filling}
 use Rattle.octseq_mrt.specs.Listed.{AttributesAhead, attributes_once, EntriesAhead, entries_once}
@@ -98,7 +97,7 @@ first_attributes paths w u v parts [] some are ends is =
     let same = ap left is in absurd (omega (arith, same, some, ends))
 first_attributes paths w u v parts (e ∷ row) some are ends is =
     let same = (one_entry_parts paths).same w (entry_parts e is.1.octets) parts is.0 u is.1.parts are in
-    (e.attributes, ∣ subst (λ p. Fills (IsEntry form.Attribute) p.1.1.1 e.attributes) same.0 is.1.attributes ∣₁)
+    (e.attributes, ∣ subst (λ p. Fills IsAttribute p.1.1.1 e.attributes) same.0 is.1.attributes ∣₁)
 
 -- attributes fill the octets of the first entry
 pub attributes_ahead : (paths : Bool) (w u : Window) (parts : ℕ × (ℕ × (Option ℕ × Window)))
@@ -108,7 +107,7 @@ attributes_ahead paths w u parts ahead some are = ∥∥₁_elim ahead.1 (attrib
 
 -- what follows that entry
 pub entries_more : (paths : Bool) (w u octets : Window) (e : RibEntry) (ahead : EntriesAhead paths w)
-    → HasEntryParts paths w (entry_parts e octets) u → ∥ Fills (IsEntry form.Attribute) octets e.attributes ∥₁
+    → HasEntryParts paths w (entry_parts e octets) u → ∥ Fills IsAttribute octets e.attributes ∥₁
     → EntriesAhead paths u
 entries_more paths w u octets e ahead are fills = ∥∥₁_elim fills (entries_once paths u) (λ f.
     ahead_more rib_entry_code (IsRibEntry paths) (one_rib_entry paths) (rib_entry_moves paths) w u e ahead
@@ -117,7 +116,7 @@ entries_more paths w u octets e ahead are fills = ∥∥₁_elim fills (entries_
 -- that entry, and then those after it
 pub entries_then : (paths : Bool) (w u octets : Window) (e : RibEntry) (ahead : EntriesAhead paths w)
     (after : EntriesAhead paths u) → HasEntryParts paths w (entry_parts e octets) u
-    → ∥ Fills (IsEntry form.Attribute) octets e.attributes ∥₁ → ahead.0 ≡ e ∷ after.0
+    → ∥ Fills IsAttribute octets e.attributes ∥₁ → ahead.0 ≡ e ∷ after.0
 entries_then paths w u octets e ahead after are fills =
     ∥∥₁_elim fills (Coded-set (coded_list rib_entry_code) ahead.0 (e ∷ after.0)) (λ f.
     ahead_then rib_entry_code (IsRibEntry paths) (one_rib_entry paths) (rib_entry_moves paths) w u e ahead after

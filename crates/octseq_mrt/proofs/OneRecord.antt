@@ -6,18 +6,19 @@ use Rattle.octseq_format.specs.Counted.{Times, one_times}
 use Rattle.octseq_format.specs.Laws.{Relation, IsOne, one_by}
 use Rattle.octseq_format.specs.Pair.{◌then◌, ◌one_then◌}
 use Rattle.octseq_format.specs.Rest.{one_rest}
-use Rattle.octseq_bgp.specs.Entry.{IsNumber, IsCounted, IsPrefix}
+use Rattle.octseq_bgp.specs.Parts.{IsNumber, IsCounted, IsPrefix}
 use Rattle.octseq_bgp.specs.Family.{afi_of}
-use Rattle.octseq_bgp.specs.OneEntry.{one_number, one_octets, one_next, one_deciding, one_prefix}
+use Rattle.octseq_bgp.specs.OneParts.{one_number, one_octets, one_deciding, one_prefix}
 use Rattle.octseq_bgp.specs.Path.{asn_size}
 use Rattle.octseq_bgp.specs.declared.family.Afi.{Afi}
 use Rattle.octseq_bgp.specs.declared.family.Afi.TheVariants as addresses
 use Rattle.octseq_bgp.specs.declared.family.AfiSafiType.{AfiSafiType}
 use Rattle.octseq_bgp.proofs.Values.{OneSaid}
 use Rattle.octseq_bgp.proofs.Wholes.{one_whole}
-use Rattle.octseq_mrt.specs.Address.{Address, IsFamily, family_number, address_bits}
+use Rattle.octseq_bgp.specs.Prefix.{most_bits}
+use Rattle.octseq_mrt.specs.Address.{Address, IsFamily, family_number}
 use Rattle.octseq_mrt.specs.Bgp4Mp.{Bgp4Mp, Event, ArePeers, IsBgp4MpFront, IsEvent, IsBgp4Mp}
-use Rattle.octseq_mrt.specs.Header.{IsHeader, IsRecord}
+use Rattle.octseq_mrt.specs.Header.{IsNext, IsHeader, IsRecord}
 use Rattle.octseq_mrt.specs.Kind.{kind_type, kind_subtype, has_wide_asns}
 use Rattle.octseq_mrt.specs.OneListed.{one_address, one_optional, one_peer, one_rib_entry}
 use Rattle.octseq_mrt.specs.Peer.{Peer, IsPeer, PeerIndexTable, IsPeerIndexTable}
@@ -34,7 +35,7 @@ use Rattle.octseq_mrt.proofs.OneKind.{one_kind}
 abbrev pub header_parts : CommonHeader → ℕ × (ℕ × (ℕ × ℕ))
 header_parts h = (h.timestamp, (h.type_code, (h.subtype, h.length)))
 
-header_from : ℕ × (ℕ × (ℕ × ℕ)) → CommonHeader
+unfoldable pub header_from : ℕ × (ℕ × (ℕ × ℕ)) → CommonHeader
 header_from p = record { timestamp = p.0; type_code = p.1.0; subtype = p.1.1.0; length = p.1.1.1 }
 
 header_again : (h : CommonHeader) → header_from (header_parts h) ≡ h
@@ -44,6 +45,9 @@ header_again h = refl
 pub one_header : IsOne IsHeader
 one_header = one_by header_parts header_from header_again
     (one_number 4 one_then one_number 2 one_then one_number 2 one_then one_number 4)
+
+one_next : (k : ℕ) → IsOne (IsNext k)
+one_next k = record { same = λ w a b u v is other. (is.1 ∙ sym other.1, is.2 ∙ sym other.2) }
 
 pub one_record_at : IsOne IsRecord
 one_record_at = one_deciding one_header (λ h. one_next h.length)
@@ -70,10 +74,10 @@ one_table w t u a b = ap table_from (one_whole IsTable one_table_at w (t.collect
 -- ---- RIBs
 
 abbrev pub IsRoutes : AfiSafiType → Bool → Relation (ℕ × ((ℕ × Window) × List RibEntry))
-IsRoutes f paths = IsNumber 4 then IsPrefix (address_bits (afi_of f)) then Times 2 (IsRibEntry paths)
+IsRoutes f paths = IsNumber 4 then IsPrefix (most_bits (afi_of f)) then Times 2 (IsRibEntry paths)
 
 pub one_routes : (f : AfiSafiType) (paths : Bool) → IsOne (IsRoutes f paths)
-one_routes f paths = one_number 4 one_then one_prefix (address_bits (afi_of f))
+one_routes f paths = one_number 4 one_then one_prefix (most_bits (afi_of f))
     one_then one_times 2 (IsRibEntry paths) (one_rib_entry paths)
 
 rib_from : AfiSafiType → ℕ × ((ℕ × Window) × List RibEntry) → Rib

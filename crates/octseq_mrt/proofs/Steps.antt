@@ -1,7 +1,7 @@
 -- If one of several consecutive values isn't there, not all of them are.
 use Rattle.octseq.specs.Window.{Window}
 use Rattle.octseq_format.specs.Laws.{Relation, NoneAt}
-use Rattle.octseq_bgp.specs.Entry.{◌deciding◌}
+use Rattle.octseq_bgp.specs.Parts.{◌deciding◌}
 
 module _ {A B : Type 0} (First : Relation A) (Second : A → Relation B) where
   -- the first one isn't there

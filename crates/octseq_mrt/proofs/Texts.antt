@@ -2,9 +2,9 @@
 use Rattle.std.proofs.Common.{◌≡◌, ℕ, List, [], ◌∷◌, ◌++◌, codes, sym, ap, ◌∙◌, subst}
 use mathlib.Core.Logic.{inl, inr}
 use Rattle.octseq.specs.Window.{Window}
-use Rattle.octseq_bgp.specs.Entry.{Entry, IsCounted}
+use Rattle.octseq_bgp.specs.Parts.{Attribute, IsCounted, type_of, inside_of}
 use Rattle.octseq_bgp.specs.MessageText.{line, IsMessageText}
-use Rattle.octseq_bgp.specs.OneEntry.{one_octets}
+use Rattle.octseq_bgp.specs.OneParts.{one_octets}
 use Rattle.octseq_bgp.specs.declared.session.SessionConfig.{SessionConfig}
 use Rattle.octseq_bgp.proofs.OneMessage.{one_message}
 use Rattle.octseq_bgp.proofs.Texts.{one_message_text}
@@ -31,11 +31,11 @@ one_rib_value kind w (RibValue.value v) (RibValue.next_hop inside) a b = absurd 
 one_rib_value kind w (RibValue.value v) (RibValue.value other) a b =
     ap RibValue.value (one_value rib_session kind w v other a.0 b.0)
 
-one_attributes : (row : List Entry) (text other : List ℕ) → AreRibAttributeLines row text
+one_attributes : (row : List Attribute) (text other : List ℕ) → AreRibAttributeLines row text
     → AreRibAttributeLines row other → text ≡ other
 one_attributes [] text other a b = a ∙ sym b
 one_attributes (e ∷ more) text other a b =
-    let values = one_rib_value e.kind e.octets a.0 b.0 a.2 b.2 in
+    let values = one_rib_value (type_of e) (inside_of e) a.0 b.0 a.2 b.2 in
     let rests = one_attributes more a.1 b.1 a.3 b.3 in
     a.4 ∙ ap (λ v. rib_attribute_lines e v ++ a.1) values ∙ ap (λ rest. rib_attribute_lines e b.0 ++ rest) rests
     ∙ sym b.4

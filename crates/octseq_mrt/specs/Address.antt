@@ -5,7 +5,7 @@ use Rattle.std.specs.declared.net.ip_addr.IpAddr.{IpAddr}
 use Rattle.std.specs.declared.net.ip_addr.IpAddr.TheVariants.{V4, V6}
 use Rattle.octseq_format.specs.Fixed.{IsFixed}
 use Rattle.octseq_format.specs.Laws.{Relation}
-use Rattle.octseq_bgp.specs.Entry.{IsNumber}
+use Rattle.octseq_bgp.specs.Parts.{IsNumber}
 use Rattle.octseq_bgp.specs.declared.family.Afi.{Afi}
 use Rattle.octseq_bgp.specs.declared.family.Afi.TheVariants as addresses
 
@@ -23,11 +23,6 @@ address_of (V6 ip) = Address.ipv6 (ipv6_segments ip)
 abbrev pub family_number : Afi → ℕ
 family_number addresses.Ipv4 = 1
 family_number addresses.Ipv6 = 2
-
--- the number of bits of an address of a family
-abbrev pub address_bits : Afi → ℕ
-address_bits addresses.Ipv4 = 32
-address_bits addresses.Ipv6 = 128
 
 -- the next address of a family
 abbrev pub IsAddress : Afi → Relation Address

@@ -4,7 +4,7 @@ use Rattle.octseq.specs.Window.{Window}
 use Rattle.octseq_format.specs.Laws.{Relation}
 use Rattle.octseq_format.specs.Pair.{◌then◌}
 use Rattle.octseq_format.specs.Rest.{IsRest}
-use Rattle.octseq_bgp.specs.Entry.{IsNumber, ◌deciding◌}
+use Rattle.octseq_bgp.specs.Parts.{IsNumber, ◌deciding◌}
 use Rattle.octseq_bgp.specs.Fills.{Whole}
 use Rattle.octseq_bgp.specs.Path.{asn_size}
 use Rattle.octseq_bgp.specs.declared.family.Afi.{Afi}

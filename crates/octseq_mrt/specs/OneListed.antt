@@ -10,12 +10,13 @@ use Rattle.octseq_format.specs.Fixed.{one_fixed, onward_fixed}
 use Rattle.octseq_format.specs.Laws.{Relation, IsOne, IsOnward, IsMoving, one_by, moving_of}
 use Rattle.octseq_format.specs.Pair.{◌then◌, ◌one_then◌, ◌onward_then◌}
 use Rattle.octseq_format.specs.Rest.{IsRest}
-use Rattle.octseq_bgp.specs.Entry.{Entry, IsEntry, IsNumber}
+use Rattle.octseq_bgp.specs.Parts.{Attribute, IsAttribute, IsNumber}
 use Rattle.octseq_bgp.specs.Fills.{Fills}
-use Rattle.octseq_bgp.specs.OneEntry.{one_number, one_octets, one_deciding, weaker, onward_number}
-use Rattle.octseq_bgp.specs.OneEntry.{onward_deciding, one_entry, entry_moves, entry_code}
+use Rattle.octseq_bgp.specs.OneParts.{one_number, one_octets, one_deciding}
+use Rattle.octseq_bgp.proofs.Moves.{weaker, onward_number}
+use Rattle.octseq_bgp.specs.OneParts.{one_attribute, part_code}
+use Rattle.octseq_bgp.proofs.Moves.{onward_deciding, attribute_moves}
 use Rattle.octseq_bgp.specs.Path.{asn_size}
-use Rattle.octseq_bgp.specs.declared.entry.Form.TheVariants as form
 use Rattle.octseq_bgp.specs.declared.family.Afi.{Afi}
 use Rattle.octseq_bgp.specs.declared.family.Afi.TheVariants as addresses
 use Rattle.octseq_mrt.specs.Address.{Address, IsAddress, IsOptional}
@@ -92,7 +93,7 @@ onward_optional has = record {
 abbrev pub peer_parts : Peer → ℕ × (ℕ × (Address × ℕ))
 peer_parts p = (p.peer_type, (p.bgp_id, (p.addr, p.asn)))
 
-peer_from : ℕ × (ℕ × (Address × ℕ)) → Peer
+unfoldable pub peer_from : ℕ × (ℕ × (Address × ℕ)) → Peer
 peer_from parts = record { peer_type = parts.0; bgp_id = parts.1.0; addr = parts.1.1.0; asn = parts.1.1.1 }
 
 peer_again : (p : Peer) → peer_from (peer_parts p) ≡ p
@@ -139,7 +140,7 @@ one_entry_parts paths = one_number 2 one_then one_number 4 one_then one_optional
 abbrev pub entry_parts : RibEntry → Window → ℕ × (ℕ × (Option ℕ × Window))
 entry_parts e octets = (e.peer_index, (e.originated_time, (e.path_id, octets)))
 
-entry_from : ℕ × (ℕ × (Option ℕ × Window)) → List Entry → RibEntry
+entry_from : ℕ × (ℕ × (Option ℕ × Window)) → List Attribute → RibEntry
 entry_from parts row = record {
   peer_index = parts.0;
   originated_time = parts.1.0;
@@ -155,8 +156,8 @@ one_rib_entry paths = record { same = same } where
   same w a b u v is other =
       let parts = (one_entry_parts paths).same w (entry_parts a is.octets) (entry_parts b other.octets) u v is.parts
       other.parts in
-      let moved = subst (λ p. Fills (IsEntry form.Attribute) p.1.1.1 a.attributes) parts.0 is.attributes in
-      let row = one_filling (IsEntry form.Attribute) (one_entry form.Attribute) (entry_moves form.Attribute)
+      let moved = subst (λ p. Fills IsAttribute p.1.1.1 a.attributes) parts.0 is.attributes in
+      let row = one_filling IsAttribute one_attribute attribute_moves
       other.octets a.attributes b.attributes moved other.attributes in (
         ap (λ p. entry_from p a.attributes) parts.0 ∙ ap (entry_from (entry_parts b other.octets)) row,
         parts.1,
@@ -176,10 +177,10 @@ onward_rib_entry paths = record {
 pub rib_entry_moves : (paths : Bool) → IsMoving (IsRibEntry paths)
 rib_entry_moves paths = moving_of (onward_rib_entry paths) (omega arith)
 
-listed_parts : RibEntry → ℕ × (ℕ × (Option ℕ × List Entry))
+listed_parts : RibEntry → ℕ × (ℕ × (Option ℕ × List Attribute))
 listed_parts e = (e.peer_index, (e.originated_time, (e.path_id, e.attributes)))
 
-listed_from : ℕ × (ℕ × (Option ℕ × List Entry)) → RibEntry
+listed_from : ℕ × (ℕ × (Option ℕ × List Attribute)) → RibEntry
 listed_from parts = record {
   peer_index = parts.0;
   originated_time = parts.1.0;
@@ -192,6 +193,6 @@ unfolding listed_parts listed_from
 listed_again e = refl
 
 pub rib_entry_code : Coded RibEntry
-rib_entry_code = code_by (ℕ × (ℕ × (Option ℕ × List Entry)))
-    (coded× coded_ℕ (coded× coded_ℕ (coded× (coded_option coded_ℕ) (coded_list entry_code)))) listed_parts listed_from
+rib_entry_code = code_by (ℕ × (ℕ × (Option ℕ × List Attribute)))
+    (coded× coded_ℕ (coded× coded_ℕ (coded× (coded_option coded_ℕ) (coded_list part_code)))) listed_parts listed_from
     listed_again

@@ -3,7 +3,7 @@ use Rattle.std.specs.Prelude.{List}
 use Rattle.octseq.specs.declared.AsOctets.{Ghosts}
 use Rattle.octseq.specs.Parser.{window}
 use Rattle.octseq.specs.Window.{Window}
-use Rattle.octseq_bgp.specs.Entry.{Entry}
+use Rattle.octseq_bgp.specs.Parts.{Attribute}
 use Rattle.octseq_bgp.specs.ValueOf as bgp
 use Rattle.octseq_mrt.specs.Address.{address_of}
 use Rattle.octseq_mrt.specs.Bgp4Mp as events
@@ -50,11 +50,11 @@ table_of t = record {
 }
 
 -- an attribute of a RIB entry
-abbrev pub attribute_of : {R : Type 0} {g : Ghosts R} → RibAttribute R g → Entry
-attribute_of a = record { number = a.flags.0; kind = a.type_code; octets = window a.value }
+abbrev pub attribute_of : {R : Type 0} {g : Ghosts R} → RibAttribute R g → Attribute
+attribute_of a = (a.flags.0, (a.type_code, window a.value))
 
 -- the attributes that are left
-abbrev pub attributes_left : {R : Type 0} {g : Ghosts R} → RibAttributes R g → List Entry
+abbrev pub attributes_left : {R : Type 0} {g : Ghosts R} → RibAttributes R g → List Attribute
 attributes_left attributes = attributes.ahead.0
 
 -- the value of an attribute of a RIB entry

@@ -4,7 +4,7 @@ use Rattle.octseq.specs.Window.{Window}
 use Rattle.octseq_format.specs.Counted.{Times}
 use Rattle.octseq_format.specs.Laws.{Relation}
 use Rattle.octseq_format.specs.Pair.{◌then◌}
-use Rattle.octseq_bgp.specs.Entry.{IsNumber, IsCounted, ◌deciding◌}
+use Rattle.octseq_bgp.specs.Parts.{IsNumber, IsCounted, ◌deciding◌}
 use Rattle.octseq_bgp.specs.Fills.{Whole}
 use Rattle.octseq_bgp.specs.Path.{asn_size}
 use Rattle.octseq_bgp.specs.declared.family.Afi.{Afi}
@@ -36,6 +36,8 @@ pub record PeerIndexTable : Type 0 where
   pub peers : List Peer
 
 -- the identifier of the collector, a name after its length, and as many peers as a count says
+abbrev pub IsTable : Relation (ℕ × (Window × List Peer))
+IsTable = IsNumber 4 then IsCounted 2 then Times 2 IsPeer
+
 abbrev pub IsPeerIndexTable : Window → PeerIndexTable → Type 0
-IsPeerIndexTable w t =
-    Whole (IsNumber 4 then IsCounted 2 then Times 2 IsPeer) w (t.collector_bgp_id, (t.view_name, t.peers))
+IsPeerIndexTable w t = Whole IsTable w (t.collector_bgp_id, (t.view_name, t.peers))

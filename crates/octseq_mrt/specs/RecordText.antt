@@ -3,7 +3,7 @@ use Rattle.std.specs.Prelude.{◌≡◌, ◌⊎◌, ℕ, ◌+◌, ◌-◌, if◌
 use Rattle.std.specs.Prelude.{List, [], ◌∷◌, ◌++◌, length, take, drop, replicate, codes}
 use Rattle.std.specs.Fmt.{decimal}
 use Rattle.octseq.specs.Window.{Window, rest}
-use Rattle.octseq_bgp.specs.Entry.{Entry}
+use Rattle.octseq_bgp.specs.Parts.{Attribute, flags_of, type_of, inside_of}
 use Rattle.octseq_bgp.specs.Family.{afi_of}
 use Rattle.octseq_bgp.specs.Message as bgp
 use Rattle.octseq_bgp.specs.MessageText.{line, attribute_lines, IsMessageText}
@@ -12,9 +12,9 @@ use Rattle.octseq.specs.OctetsText.{opaque_text, string_text}
 use Rattle.octseq_bgp.specs.Prefix.{Nlri}
 use Rattle.octseq_bgp.specs.Text.{type_text}
 use Rattle.octseq_bgp.specs.ValueText.{flags_text, next_hop_text, nlri_text}
-use Rattle.octseq_bgp.specs.declared.attribute_type.AttributeType.TheVariants as kind
-use Rattle.octseq_bgp.specs.declared.next_hop.NextHop.{NextHop}
-use Rattle.octseq_bgp.specs.declared.next_hop.NextHop.TheVariants as hop
+use Rattle.octseq_bgp.specs.declared.attribute.attribute_type.AttributeType.TheVariants as kind
+use Rattle.octseq_bgp.specs.declared.attribute.next_hop.NextHop.{NextHop}
+use Rattle.octseq_bgp.specs.declared.attribute.next_hop.NextHop.TheVariants as hop
 use Rattle.octseq_bgp.specs.declared.session.SessionConfig.{SessionConfig}
 use Rattle.octseq_mrt.specs.Bgp4Mp.{Bgp4Mp, Event}
 use Rattle.octseq_mrt.specs.Peer.{Peer, PeerIndexTable}
@@ -53,14 +53,14 @@ hops_line flags octets = line (codes "attribute")
     (flags_text flags ++ spaced (type_text kind.MpReachNlri) ++ next_hop_text (hops_of octets))
 
 -- the lines of an attribute of a RIB entry: that one, or those of an attribute of a message
-abbrev pub rib_attribute_lines : Entry → RibValue → List ℕ
-rib_attribute_lines e (RibValue.next_hop inside) = hops_line e.number (rest inside)
+abbrev pub rib_attribute_lines : Attribute → RibValue → List ℕ
+rib_attribute_lines e (RibValue.next_hop inside) = hops_line (flags_of e) (rest inside)
 rib_attribute_lines e (RibValue.value v) = attribute_lines e v
 
 -- the lines of each attribute, by its value
-abbrev pub AreRibAttributeLines : List Entry → List ℕ → Type 0
+abbrev pub AreRibAttributeLines : List Attribute → List ℕ → Type 0
 AreRibAttributeLines [] text = text ≡ []
-AreRibAttributeLines (e ∷ more) text = (v : RibValue) × (rest : List ℕ) × IsRibValue e.kind e.octets v
+AreRibAttributeLines (e ∷ more) text = (v : RibValue) × (rest : List ℕ) × IsRibValue (type_of e) (inside_of e) v
     × AreRibAttributeLines more rest × (text ≡ rib_attribute_lines e v ++ rest)
 
 -- an entry, and its attributes

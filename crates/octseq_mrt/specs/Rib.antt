@@ -5,15 +5,15 @@ use Rattle.octseq.specs.Window.{Window, left}
 use Rattle.octseq_format.specs.Counted.{Times}
 use Rattle.octseq_format.specs.Laws.{Relation}
 use Rattle.octseq_format.specs.Pair.{◌then◌}
-use Rattle.octseq_bgp.specs.Entry.{Entry, IsEntry, IsNumber, IsCounted, IsPrefix}
+use Rattle.octseq_bgp.specs.Parts.{Attribute, IsAttribute, IsNumber, IsCounted, IsPrefix}
 use Rattle.octseq_bgp.specs.Family.{afi_of}
 use Rattle.octseq_bgp.specs.Fills.{Whole, Fills}
 use Rattle.octseq_bgp.specs.Value as bgp
-use Rattle.octseq_bgp.specs.declared.entry.Form.TheVariants as form
 use Rattle.octseq_bgp.specs.declared.family.AfiSafiType.{AfiSafiType}
 use Rattle.octseq_bgp.specs.declared.prefix.PathId.{PathId}
 use Rattle.octseq_bgp.specs.declared.session.SessionConfig.{SessionConfig}
-use Rattle.octseq_mrt.specs.Address.{IsOptional, address_bits}
+use Rattle.octseq_bgp.specs.Prefix.{most_bits}
+use Rattle.octseq_mrt.specs.Address.{IsOptional}
 use Rattle.octseq_mrt.specs.Bgp4Mp.{all_paths}
 
 -- the number of a path id, if there is one
@@ -25,7 +25,7 @@ pub record RibEntry : Type 0 where
   pub peer_index : ℕ
   pub originated_time : ℕ
   pub path_id : Option ℕ
-  pub attributes : List Entry
+  pub attributes : List Attribute
 
 -- the number of a peer, seconds, a path id if the record has them, and octets after their length
 abbrev pub HasEntryParts : Bool → Relation (ℕ × (ℕ × (Option ℕ × Window)))
@@ -35,7 +35,7 @@ HasEntryParts paths = IsNumber 2 then IsNumber 4 then IsOptional paths then IsCo
 pub record IsRibEntry (paths : Bool) (w : Window) (e : RibEntry) (v : Window) : Type 0 where
   pub octets : Window
   pub parts : HasEntryParts paths w (e.peer_index, (e.originated_time, (e.path_id, octets))) v
-  pub attributes : Fills (IsEntry form.Attribute) octets e.attributes
+  pub attributes : Fills IsAttribute octets e.attributes
 
 -- A RIB: its address family, a sequence number, a prefix (its length in bits and the window of its octets), and the
 -- entries.
@@ -48,7 +48,7 @@ pub record Rib : Type 0 where
 -- a sequence number, a prefix, and as many entries as a count says
 abbrev pub IsRib : AfiSafiType → Bool → Window → Rib → Type 0
 IsRib f paths w r = (r.family ≡ f)
-    × Whole (IsNumber 4 then IsPrefix (address_bits (afi_of f)) then Times 2 (IsRibEntry paths)) w
+    × Whole (IsNumber 4 then IsPrefix (most_bits (afi_of f)) then Times 2 (IsRibEntry paths)) w
     (r.sequence, (r.prefix, r.entries))
 
 -- ---- attributes of RIB entries

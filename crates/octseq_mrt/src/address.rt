@@ -1,13 +1,15 @@
 //! Addresses, AS numbers, and optional numbers.
-ghost use Rattle.std.specs.Prelude.{IsErr, IfOk};
+ghost use Rattle.std.specs.Prelude.{◌≡◌, ◌<◌, ◌≤◌, ◌^◌, ◌↔◌, take, IsErr, IsTrue, IfOk};
 ghost use Rattle.octseq.specs.Parser.{window};
 ghost use Rattle.octseq_format.specs.Laws.{NoneAt};
-ghost use Rattle.octseq_bgp.specs.Entry.{IsNumber};
+ghost use Rattle.octseq_bgp.specs.Parts.{IsNumber};
 ghost use Rattle.octseq_bgp.specs.Path.{asn_size};
+ghost use Rattle.octseq_mrt.specs.Written.{FitsFamily, address_octets};
 ghost use Rattle.octseq_mrt.specs.Address.{address_of, IsAddress, IsFamily, IsOptional};
 
 use octseq::{AsOctets, Malformed, Parser};
-use octseq_bgp::{Afi, Asn};
+use octseq_bgp::attribute::Asn;
+use octseq_bgp::family::Afi;
 use octseq_format::{Format, Octets, U16Be, U32Be};
 use std::net::{IpAddr, Ipv4Addr, Ipv6Addr};
 
@@ -29,6 +31,38 @@ pub(crate) fn parse_address<R: AsOctets + Copy>(
             Ok(IpAddr::V6(Ipv6Addr::from_octets(octets)))
         }
     }
+}
+
+/// Whether an address is of a family.
+pub(crate) fn is_of_family(addr: IpAddr, afi: Afi) -> bool
+    ensures { IsTrue result ↔ FitsFamily afi (address_of addr) }
+{
+    match (addr, afi) {
+        (IpAddr::V4(_), Afi::Ipv4) | (IpAddr::V6(_), Afi::Ipv6) => true,
+        _ => false,
+    }
+}
+
+/// Returns the octets of an address, and how many of the sixteen these are.
+pub(crate) fn address_octets(addr: IpAddr) -> ([u8; 16], usize)
+    ensures octets { take result.1 result.0 ≡ address_octets (address_of addr) }
+    ensures most { result.1 ≤ 16 }
+{
+    match addr {
+        IpAddr::V4(addr) => {
+            let mut octets = [0; 16];
+            octets[..4].copy_from_slice(&addr.octets());
+            (octets, 4)
+        }
+        IpAddr::V6(addr) => (addr.octets(), 16),
+    }
+}
+
+/// Whether an AS number fits four octets, or two.
+pub(crate) fn fits_asn(asn: Asn, wide: bool) -> bool
+    ensures { IsTrue result ↔ (asn.0 < 256 ^ asn_size wide) }
+{
+    wide || asn.0 < 0x1_0000
 }
 
 /// Reads the next address family number.

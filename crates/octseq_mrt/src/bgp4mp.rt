@@ -13,8 +13,11 @@ ghost use Rattle.octseq_mrt.specs.Bgp4Mp.{ArePeers, IsBgp4Mp, IsEvent, message_s
 use crate::address::{parse_address, parse_asn, parse_family, parse_optional};
 use crate::kind::Bgp4MpSubtype;
 use octseq::{AsOctets, Malformed, Parser};
+use octseq_bgp::attribute::Asn;
+use octseq_bgp::family::Afi;
+use octseq_bgp::message::Message;
+use octseq_bgp::session::{AddPath, SessionConfig};
 use octseq_bgp::whole::parse_all;
-use octseq_bgp::{AddPath, Afi, Asn, Message, SessionConfig};
 use octseq_format::{Format, U16Be};
 use std::alloc::AllocError;
 use std::net::IpAddr;

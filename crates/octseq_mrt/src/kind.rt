@@ -5,7 +5,7 @@ ghost use Rattle.octseq_mrt.specs.Kind.{kind_type, kind_subtype, rib_number};
 ghost use Rattle.octseq_mrt.specs.declared.kind.Bgp4MpSubtype.{Bgp4MpSubtype as Subtype};
 ghost use Rattle.octseq_mrt.specs.declared.kind.RecordKind.{RecordKind as Kind};
 
-use octseq_bgp::AfiSafiType;
+use octseq_bgp::family::AfiSafiType;
 
 /// A subtype of BGP4MP: RFC 6396, 4.4, and RFC 8050, 3.
 #[derive(Clone, Copy, Debug, PartialEq, Eq)]
@@ -162,4 +162,39 @@ impl RecordKind {
             _ => None,
         }
     }
+
+    /// Returns the type number: 13, 16 or 17.
+    pub fn type_code(self) -> u16
+        ensures { result ≡ kind_type self }
+    {
+        match self {
+            RecordKind::PeerIndexTable | RecordKind::Rib(_, _) => 13,
+            RecordKind::Bgp4Mp(_) => 16,
+            RecordKind::Bgp4MpEt(_) => 17,
+        }
+    }
+
+    /// Returns the subtype number.
+    pub fn subtype(self) -> u16
+        ensures { result ≡ kind_subtype self }
+    {
+        match self {
+            RecordKind::PeerIndexTable => 1,
+            RecordKind::Rib(family, paths) => rib_number(family, paths),
+            RecordKind::Bgp4Mp(subtype) | RecordKind::Bgp4MpEt(subtype) => subtype.number(),
+        }
+    }
+}
+
+/// Returns the subtype number of a RIB of an address family, with path ids or without.
+fn rib_number(family: AfiSafiType, paths: bool) -> u16
+    ensures { result ≡ rib_number family paths }
+{
+    let number = match family {
+        AfiSafiType::Ipv4Unicast => 2,
+        AfiSafiType::Ipv4Multicast => 3,
+        AfiSafiType::Ipv6Unicast => 4,
+        AfiSafiType::Ipv6Multicast => 5,
+    };
+    if paths { number + 6 } else { number }
 }

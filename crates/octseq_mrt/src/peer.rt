@@ -8,9 +8,10 @@ ghost use Rattle.octseq_mrt.specs.Listed.{PeersAhead, peers_once};
 ghost use Rattle.octseq_mrt.specs.Peer as said;
 ghost use Rattle.octseq_mrt.specs.Peer.{IsPeer, IsPeerIndexTable, peer_family};
 
-use crate::address::{parse_address, parse_asn};
+use crate::address::{fits_asn, is_of_family, parse_address, parse_asn};
 use octseq::{AsOctets, Malformed, Parser, Turns};
-use octseq_bgp::{Afi, Asn};
+use octseq_bgp::attribute::Asn;
+use octseq_bgp::family::Afi;
 use octseq_format::{Counted, Format, Nested, U8, U16Be, U32Be};
 use std::alloc::AllocError;
 use std::net::IpAddr;
@@ -40,7 +41,25 @@ fn peer_family(peer_type: u8) -> Afi
 }
 
 impl PeerEntry {
+    ghost use Rattle.std.specs.Prelude.{◌↔◌, IsTrue};
     ghost use Rattle.octseq_mrt.specs.Parsed.{peer_of};
+    ghost use Rattle.octseq_mrt.specs.Peer.{has_wide_asn};
+    ghost use Rattle.octseq_mrt.specs.Written.{FitsPeer};
+
+    /// Whether the AS number has four octets.
+    pub(crate) fn has_wide_asn(&self) -> bool
+        ensures { result ≡ has_wide_asn self.now.peer_type }
+    {
+        self.peer_type / 2 % 2 == 1
+    }
+
+    /// Whether the type says the family of the address, and the AS number fits its octets.
+    pub(crate) fn fits(self) -> bool
+        ensures { IsTrue result ↔ FitsPeer (peer_of self) }
+    {
+        let has_family = is_of_family(self.addr, peer_family(self.peer_type));
+        has_family && fits_asn(self.asn, self.has_wide_asn())
+    }
 
     /// Reads the next peer.
     fn parse<R: AsOctets + Copy>(parser: &mut Parser<R>) -> Result<PeerEntry, Malformed>

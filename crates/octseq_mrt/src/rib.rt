@@ -4,9 +4,9 @@ ghost use Rattle.octseq.specs.Parser.{window};
 ghost use Rattle.octseq.specs.Window.{Window, left};
 ghost use Rattle.octseq_format.specs.Laws.{NoneAt};
 ghost use Rattle.octseq_format.specs.Row.{Many};
-ghost use Rattle.octseq_bgp.specs.Entry.{IsPrefix};
+ghost use Rattle.octseq_bgp.specs.Parts.{IsPrefix};
 ghost use Rattle.octseq_bgp.specs.Family.{afi_of};
-ghost use Rattle.octseq_mrt.specs.Address.{address_bits};
+ghost use Rattle.octseq_bgp.specs.Prefix.{most_bits};
 ghost use Rattle.octseq_mrt.specs.Listed.{EntriesAhead, entries_once};
 ghost use Rattle.octseq_mrt.specs.ReadTurns.{entries_turns};
 ghost use Rattle.octseq_mrt.specs.Rib as said;
@@ -15,7 +15,8 @@ ghost use Rattle.octseq_mrt.specs.Rib.{path_of, HasEntryParts, IsRibEntry, IsRib
 use crate::address::parse_optional;
 use crate::rib_attribute::{RibAttributes, pass_attributes};
 use octseq::{AsOctets, Malformed, Parser, Turns};
-use octseq_bgp::{Afi, AfiSafiType, Nlri, PathId};
+use octseq_bgp::family::{Afi, AfiSafiType};
+use octseq_bgp::prefix::{Nlri, PathId, PrefixFormat};
 use octseq_format::{Counted, Format, Nested, U16Be, U32Be};
 use std::alloc::AllocError;
 
@@ -205,30 +206,19 @@ impl<R: AsOctets + Copy> Clone for Rib<R> {
     }
 }
 
-/// Returns the number of bits of an address of a family.
-fn address_bits(afi: Afi) -> u8
-    ensures { result ≡ address_bits afi }
-{
-    match afi {
-        Afi::Ipv4 => 32,
-        Afi::Ipv6 => 128,
-    }
-}
-
-/// Reads the next prefix of at most `most` bits. Returns its length, and its octets as a parser.
+/// Reads the next prefix of a family. Returns its length, and its octets as a parser.
 fn parse_prefix<R: AsOctets + Copy>(
     parser: &mut Parser<R>,
-    most: u8,
+    afi: Afi,
 ) -> Result<(u8, Parser<R>), Malformed>
-    ensures prefix { IfOk result (λ it. IsPrefix most (window parser.old) (it.0, window it.1) (window parser.new)) }
-    ensures malformed { IsErr result → NoneAt (IsPrefix most) (window parser.old) }
+    ensures prefix { IfOk result (λ it.
+        IsPrefix (most_bits afi) (window parser.old) (it.0, window it.1) (window parser.new)) }
+    ensures malformed { IsErr result → NoneAt (IsPrefix (most_bits afi)) (window parser.old) }
 {
-    let len = parser.parse_u8()?;
-    if len > most {
-        return Err(Malformed);
+    match afi {
+        Afi::Ipv4 => PrefixFormat::<32>::parse(parser),
+        Afi::Ipv6 => PrefixFormat::<128>::parse(parser),
     }
-    let octets = parser.parse_parser((usize::from(len) + 7) / 8)?;
-    Ok((len, octets))
 }
 
 impl<R: AsOctets + Copy> Rib<R> {
@@ -250,7 +240,7 @@ impl<R: AsOctets + Copy> Rib<R> {
     {
         let mut ahead = parser;
         let sequence = U32Be::parse(&mut ahead)?;
-        let (len, octets) = parse_prefix(&mut ahead, address_bits(family.afi()))?;
+        let (len, octets) = parse_prefix(&mut ahead, family.afi())?;
         let count = U16Be::parse(&mut ahead)?;
         let first = ahead;
         pass_entries(&mut ahead, paths, count, turns)?;

@@ -3,24 +3,18 @@ ghost use Rattle.std.specs.Prelude.{◌≡◌, ◌+◌, ◌≤◌, ◌↔◌, Li
 ghost use Rattle.octseq.specs.Parser.{window};
 ghost use Rattle.octseq.specs.Window.{Window, left};
 ghost use Rattle.octseq_format.specs.Laws.{NoneAt};
-ghost use Rattle.octseq_bgp.specs.Entry.{Entry, IsEntry};
+ghost use Rattle.octseq_bgp.specs.Parts.{Attribute, IsAttribute};
 ghost use Rattle.octseq_bgp.specs.Fills.{Fills};
-ghost use Rattle.octseq_bgp.specs.declared.entry.Form.TheVariants as form;
 ghost use Rattle.octseq_mrt.specs.Listed.{AttributesAhead, attributes_once};
 ghost use Rattle.octseq_mrt.specs.ReadTurns.{rib_value_turns};
 ghost use Rattle.octseq_mrt.specs.Rib.{rib_session, is_next_hop_size, IsNextHopAlone, IsRibValue};
 
 use octseq::{AsOctets, Malformed, Parser, Turns};
+use octseq_bgp::attribute::{AttributeFormat, AttributeValue, Flags, PathAttribute};
+use octseq_bgp::session::SessionConfig;
 use octseq_bgp::whole::parse_all;
-use octseq_bgp::{AttributeValue, Flags, PathAttribute, SessionConfig};
-use octseq_format::{Counted, Format, Nested, U8, U16Be};
+use octseq_format::{Counted, Format, Nested, U8};
 use std::alloc::AllocError;
-
-/// A type, and octets with a length of one octet before them.
-type Short = (U8, Counted<U8, Nested, 0>);
-
-/// A type, and octets with a length of two octets before them.
-type Long = (U8, Counted<U16Be, Nested, 0>);
 
 /// A path attribute of a RIB entry, where it was read.
 #[derive(Debug)]
@@ -51,15 +45,10 @@ impl<R: AsOctets + Copy> RibAttribute<R> {
     /// Reads the next attribute.
     fn parse(parser: &mut Parser<R>) -> Result<RibAttribute<R>, Malformed>
         ensures attribute { IfOk result (λ it.
-            IsEntry form.Attribute (window parser.old) (attribute_of it) (window parser.new)) }
-        ensures malformed { IsErr result → NoneAt (IsEntry form.Attribute) (window parser.old) }
+            IsAttribute (window parser.old) (attribute_of it) (window parser.new)) }
+        ensures malformed { IsErr result → NoneAt IsAttribute (window parser.old) }
     {
-        let flags = U8::parse(parser)?;
-        let (type_code, value) = if flags / 16 % 2 == 1 {
-            <Long as Format<R>>::parse(parser)?
-        } else {
-            <Short as Format<R>>::parse(parser)?
-        };
+        let (flags, (type_code, value)) = AttributeFormat::parse(parser)?;
         Ok(RibAttribute {
             flags: Flags(flags),
             type_code,
@@ -88,12 +77,23 @@ impl<R: AsOctets + Copy> Clone for RibAttributes<R> {
 }
 
 impl<R: AsOctets + Copy> RibAttributes<R> {
+    ghost use Rattle.octseq.specs.Window.{rest};
+    ghost use Rattle.octseq_mrt.specs.Parsed.{attributes_left};
+
     /// Returns an iterator over the attributes that fill what a parser has left.
     pub(crate) fn at(parser: Parser<R>) -> RibAttributes<R>
         requires { AttributesAhead (window parser) }
         ensures { window result.parser ≡ window parser }
     {
         RibAttributes { parser }
+    }
+
+    /// Returns the octets of the attributes that are left.
+    pub fn as_slice(&self) -> &[u8]
+        ensures { (w : Window) × ∥ Fills IsAttribute w (attributes_left self.now) ∥₁
+            × (result.now ≡ rest w) }
+    {
+        self.parser.peek_all()
     }
 }
 
@@ -127,10 +127,10 @@ pub(crate) fn pass_attributes<R: AsOctets + Copy>(
     parser: &mut Parser<R>,
     turns: &mut Turns,
 ) -> Result<(), Malformed>
-    ensures attributes { OnOk result ((row : List Entry) × Fills (IsEntry form.Attribute) (window parser.old) row) }
-    ensures malformed { IsErr result → (row : List Entry) → ¬ Fills (IsEntry form.Attribute) (window parser.old) row }
+    ensures attributes { OnOk result ((row : List Attribute) × Fills IsAttribute (window parser.old) row) }
+    ensures malformed { IsErr result → (row : List Attribute) → ¬ Fills IsAttribute (window parser.old) row }
     ensures some { turns.old ≤ turns.new }
-    ensures least { OnOk result ((row : List Entry) → Fills (IsEntry form.Attribute) (window parser.old) row
+    ensures least { OnOk result ((row : List Attribute) → Fills IsAttribute (window parser.old) row
         → turns.old + length row ≤ turns.new) }
     ensures turns { turns.new ≤ turns.old + left (window parser.old) }
 {

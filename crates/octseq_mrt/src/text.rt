@@ -14,8 +14,9 @@ use crate::peer::PeerEntry;
 use crate::rib::RibEntry;
 pub use lines::one_record_text;
 use octseq::AsOctets;
+use octseq_bgp::family::Afi;
+use octseq_bgp::prefix::PathId;
 use octseq_bgp::text::{write_address, write_dotted};
-use octseq_bgp::{Afi, PathId};
 use std::fmt;
 use std::net::IpAddr;
 

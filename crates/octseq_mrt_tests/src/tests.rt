@@ -20,3 +20,4 @@ mod readers;
 mod records;
 mod refused;
 mod texts;
+mod written;

@@ -1,6 +1,8 @@
 //! Reading a BGP message.
 use octseq::AsOctets;
-use octseq_bgp::{Message, Prefix, SessionConfig};
+use octseq_bgp::message::Message;
+use octseq_bgp::prefix::Prefix;
+use octseq_bgp::session::SessionConfig;
 use std::alloc::Global;
 
 /// Returns the prefixes that an UPDATE announces, and none for other messages.

@@ -11,11 +11,9 @@ ghost use Rattle.octseq_bgp.specs.CapabilityText.{restart_text, use_text, paths_
 ghost use Rattle.octseq_bgp.specs.Items.{items_left};
 ghost use Rattle.octseq_bgp.specs.OctetsText.{spaced};
 
-use crate::capability::Capability;
-use crate::capability_value::{CapabilityValue, GracefulRestart};
-use crate::family_tuple::FamilyTuple;
+use crate::capability::{Capability, CapabilityValue, FamilyTuple, GracefulRestart};
 use crate::item::Items;
-use crate::parameter::Parameter;
+use crate::message::Parameter;
 use crate::text::octets::write_opaque;
 use octseq::AsOctets;
 use std::fmt;

@@ -4,7 +4,7 @@ ghost use Rattle.std.specs.Fmt.{WritesOnOk, HasWritten, IsPlainFormatter, decima
 ghost use Rattle.octseq.specs.Parser.{window};
 ghost use Rattle.octseq_bgp.specs.CapabilityOf.{capabilities_left, capability_value_of, parameter_value_of};
 ghost use Rattle.octseq_bgp.specs.CapabilityText.{capability_text};
-ghost use Rattle.octseq_bgp.specs.Lists.{attribute_entry, attributes_left, attributes_session, nlri_of};
+ghost use Rattle.octseq_bgp.specs.Lists.{attribute_of, attributes_left, attributes_session, nlri_of};
 ghost use Rattle.octseq_bgp.specs.Lists.{parameters_left, prefixes_left};
 ghost use Rattle.octseq_bgp.specs.Message as said;
 ghost use Rattle.octseq_bgp.specs.MessageText.{line, nlri_lines, value_lines, attribute_lines, AreAttributeLines};
@@ -18,29 +18,19 @@ ghost use Rattle.octseq_bgp.specs.Parsed.{message_of, open_of, update_of};
 ghost use Rattle.octseq_bgp.specs.ValueOf.{value_of};
 ghost use Rattle.octseq_bgp.specs.ValueText.{nlri_text};
 
-use crate::attribute::{PathAttribute, PathAttributes};
-use crate::capability::{Capabilities, ParameterValue};
-use crate::capability_value::CapabilityValue;
-use crate::message::{Message, RouteRefreshMessage};
-use crate::notification::{NotificationData, NotificationMessage};
-use crate::open::OpenMessage;
-use crate::parameter::Parameters;
+use crate::attribute::{AttributeValue, PathAttribute, PathAttributes};
+use crate::capability::{Capabilities, CapabilityValue, ParameterValue};
+use crate::message::{
+    Message, NotificationData, NotificationMessage, OpenMessage, Parameters, RouteRefreshMessage,
+    UpdateMessage,
+};
 use crate::prefix::{Nlri, Prefixes};
 use crate::text::capability::{write_capability, write_family};
 use crate::text::octets::{write_dotted, write_opaque};
 use crate::text::value::write_attribute;
-use crate::update::UpdateMessage;
-use crate::value::AttributeValue;
 use octseq::octets_text::write_string;
 use octseq::{AsOctets, Parser};
 use std::fmt;
-
-/// A message has at most one text.
-///
-/// It does nothing. Calling it brings the law into the caller's proof.
-pub fn one_text()
-    ensures { (m : said.Message) (text other : List ℕ) → IsMessageText m text → IsMessageText m other → text ≡ other }
-{}
 
 /// Writes the line of a prefix, after a word.
 fn write_prefix<W: fmt::Write, R: AsOctets + Copy>(
@@ -90,7 +80,7 @@ pub fn write_attribute_lines<W: fmt::Write, R: AsOctets + Copy>(
     value: &AttributeValue<R>,
 ) -> fmt::Result
     ensures { WritesOnOk W.write_str_gives f.old result
-        (attribute_lines (attribute_entry attribute.now) (value_of value.now)) f.new }
+        (attribute_lines (attribute_of attribute.now) (value_of value.now)) f.new }
 {
     f.write_str("attribute ")?;
     write_attribute(f, attribute, value)?;

@@ -6,9 +6,9 @@ ghost use Rattle.octseq.specs.Parser.{window};
 ghost use Rattle.octseq_bgp.specs.ExtendedText.{extended_type, extended_subtype, extended_value, extended_text};
 ghost use Rattle.octseq_bgp.specs.ExtendedText.{extended_name, extended_parts, extended_digits, is_named};
 ghost use Rattle.octseq_bgp.specs.Items.{items_left};
-ghost use Rattle.octseq_bgp.specs.Lists.{attribute_entry, nlri_of};
+ghost use Rattle.octseq_bgp.specs.Lists.{attribute_of, nlri_of};
 ghost use Rattle.octseq_bgp.specs.OctetsText.{spaced, number_dotted};
-ghost use Rattle.octseq_bgp.specs.PathOf.{asns_left, path_of, segment_entry};
+ghost use Rattle.octseq_bgp.specs.PathOf.{asns_left, path_of, segment_of};
 ghost use Rattle.octseq_bgp.specs.Text.{community_text, large_text, address_text};
 ghost use Rattle.octseq_bgp.specs.Value.{Value, IsValue};
 ghost use Rattle.octseq_bgp.specs.ValueOf.{value_of};
@@ -17,17 +17,15 @@ ghost use Rattle.octseq_bgp.specs.ValueText.{segment_words, path_text, next_hop_
 ghost use Rattle.octseq_bgp.specs.ValueText.{attribute_text, path_id_text, nlri_text};
 ghost use Rattle.octseq_bgp.specs.declared.family.Afi.TheVariants as addresses;
 
-use crate::attribute::{Flags, PathAttribute};
-use crate::attribute_type::AttributeType;
+use crate::attribute::{
+    Aggregator, AsPath, Asns, AttributeType, AttributeValue, Flags, NextHop, PathAttribute, Segment,
+};
 use crate::community::{
     ClusterIds, ExtendedCommunities, ExtendedCommunity, LargeCommunities, StandardCommunities,
 };
 use crate::family::Afi;
-use crate::next_hop::NextHop;
-use crate::path::{AsPath, Asns, Segment};
 use crate::prefix::{Nlri, PathId};
 use crate::text::octets::{write_address, write_dotted, write_number_hex, write_opaque};
-use crate::value::{Aggregator, AttributeValue};
 use octseq::AsOctets;
 use std::fmt;
 use std::net::Ipv4Addr;
@@ -229,7 +227,7 @@ fn write_origin<W: fmt::Write>(f: &mut fmt::Formatter<W>, origin: u8) -> fmt::Re
 
 /// Prints the type, and each AS number after a space.
 impl<R: AsOctets + Copy> fmt::Display for Segment<R> {
-    ghost output = { λ segment. Some (segment_words segment.wide (segment_entry segment)) };
+    ghost output = { λ segment. Some (segment_words segment.wide (segment_of segment)) };
 
     fn fmt<W: fmt::Write>(&self, f: &mut fmt::Formatter<W>) -> fmt::Result {
         let kind = self.kind;
@@ -359,7 +357,7 @@ impl<R: AsOctets + Copy> fmt::Display for PathAttribute<R> {
 
     fn fmt<W: fmt::Write>(&self, f: &mut fmt::Formatter<W>) -> fmt::Result
         ensures shown { (value : Value) → IsValue self.now.session self.now.type_code (window self.now.value) value
-            → WritesOnOk W.write_str_gives f.old result (attribute_text (attribute_entry self.now) value) f.new }
+            → WritesOnOk W.write_str_gives f.old result (attribute_text (attribute_of self.now) value) f.new }
     {
         let value = self.value();
         write_attribute(f, self, &value)
@@ -373,7 +371,7 @@ pub(crate) fn write_attribute<W: fmt::Write, R: AsOctets + Copy>(
     value: &AttributeValue<R>,
 ) -> fmt::Result
     ensures { WritesOnOk W.write_str_gives f.old result
-        (attribute_text (attribute_entry attribute.now) (value_of value.now)) f.new }
+        (attribute_text (attribute_of attribute.now) (value_of value.now)) f.new }
 {
     let flags = attribute.flags;
     write!(f, "{flags} ")?;

@@ -3,7 +3,7 @@ use crate::tests::octets::octets;
 use crate::tests::text::{lines_of, text_of};
 use crate::tests::unwrap;
 use octseq_asserts::assert_equal;
-use octseq_bgp::SessionConfig;
+use octseq_bgp::session::SessionConfig;
 use std::alloc::AllocGlobal;
 use std::process::Abort;
 

@@ -3,7 +3,8 @@ use crate::tests::octets::message;
 use crate::tests::unwrap;
 use octseq::AsOctets;
 use octseq_asserts::assert_equal;
-use octseq_bgp::{Fault, Handling, Message, SessionConfig, UpdateMessage};
+use octseq_bgp::message::{Fault, Handling, Message, UpdateMessage};
+use octseq_bgp::session::SessionConfig;
 use std::alloc::AllocGlobal;
 use std::process::Abort;
 

@@ -4,7 +4,8 @@ use crate::tests::unwrap;
 use octseq::str::DisplayError;
 use octseq::{Array, AsOctets, Malformed, OctetsBuilder, StrBuilder, Truncate};
 use octseq_asserts::{assert_equal, assert_true};
-use octseq_bgp::{AddPath, Message, SessionConfig};
+use octseq_bgp::message::Message;
+use octseq_bgp::session::{AddPath, SessionConfig};
 use std::alloc::AllocGlobal;
 use std::process::Abort;
 

@@ -2,7 +2,7 @@
 use crate::tests::octets::{message, octets};
 use crate::tests::text::{lines_of, text_of};
 use octseq_asserts::assert_equal;
-use octseq_bgp::{AddPath, SessionConfig};
+use octseq_bgp::session::{AddPath, SessionConfig};
 use std::alloc::AllocGlobal;
 use std::process::Abort;
 

@@ -3,7 +3,8 @@ use crate::tests::limits::{extended, zeros};
 use crate::tests::octets::{message, octets};
 use crate::tests::unwrap;
 use octseq_asserts::assert_equal;
-use octseq_bgp::{AddPath, SessionConfig, place_of_fault};
+use octseq_bgp::message::place_of_fault;
+use octseq_bgp::session::{AddPath, SessionConfig};
 use std::alloc::AllocGlobal;
 use std::process::Abort;
 

@@ -7,7 +7,8 @@ use crate::tests::unwrap;
 use octseq::str::DisplayError;
 use octseq::{AsOctets, StrBuilder};
 use octseq_asserts::{assert_equal, assert_true};
-use octseq_bgp::{Message, MessageReader, ReadMessageError, SessionConfig};
+use octseq_bgp::message::{Message, MessageReader, ReadMessageError};
+use octseq_bgp::session::SessionConfig;
 
 /// Appends the text of a message.
 fn append<R: AsOctets + Copy>(

@@ -3,7 +3,9 @@ use crate::tests::octets::message;
 use crate::tests::unwrap;
 use octseq::{AsOctets, Malformed};
 use octseq_asserts::assert_equal;
-use octseq_bgp::{AfiSafiType, Handling, Message, SessionConfig};
+use octseq_bgp::family::AfiSafiType;
+use octseq_bgp::message::{Handling, Message};
+use octseq_bgp::session::SessionConfig;
 use std::alloc::AllocGlobal;
 use std::process::Abort;
 

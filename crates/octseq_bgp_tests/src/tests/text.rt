@@ -1,7 +1,8 @@
 //! The text of octets: that of a message, or `malformed`.
 use crate::tests::unwrap;
 use octseq::{AsOctets, StrBuilder};
-use octseq_bgp::{Message, SessionConfig};
+use octseq_bgp::message::Message;
+use octseq_bgp::session::SessionConfig;
 use std::alloc::AllocGlobal;
 use std::process::Abort;
 

@@ -4,10 +4,11 @@ use crate::tests::text::text_of;
 use crate::tests::unwrap;
 use octseq::{AsOctets, Malformed, Parser};
 use octseq_asserts::{assert_equal, assert_true};
-use octseq_bgp::{
-    AfiSafiType, CapabilityValue, GracefulRestart, Message, NextHop, NotificationData, OpenMessage,
-    ParameterValue, SessionConfig,
-};
+use octseq_bgp::attribute::NextHop;
+use octseq_bgp::capability::{CapabilityValue, GracefulRestart, ParameterValue};
+use octseq_bgp::family::AfiSafiType;
+use octseq_bgp::message::{Message, NotificationData, OpenMessage};
+use octseq_bgp::session::SessionConfig;
 use std::alloc::AllocGlobal;
 use std::process::Abort;
 

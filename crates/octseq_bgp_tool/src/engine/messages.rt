@@ -8,10 +8,11 @@ ghost use Rattle.octseq_bgp_tool.specs.Streams.{IsBlock, IsMessagesEnd, IsMessag
 
 use crate::engine::shown::{note_on, one_message_piece, push_shown};
 use octseq::StrBuilder;
-use octseq_bgp::{
-    ReadMessageError, SessionConfig, framed_messages_are_apart, misframed_begins_none,
-    misframed_octets_stay_so, read_message,
+use octseq_bgp::laws::{
+    framed_messages_are_apart, misframed_begins_none, misframed_octets_stay_so,
 };
+use octseq_bgp::message::{ReadMessageError, read_message};
+use octseq_bgp::session::SessionConfig;
 use octseq_cli::streams::{drop_rest, failed_read};
 use octseq_cli::{Ending, FrameCommand, Next, Piece, ProgramFault, StreamCommand, stop_line};
 use std::alloc::{AllocError, Global};

@@ -4,7 +4,9 @@ ghost use Rattle.octseq_bgp.specs.declared.session.SessionConfig.{SessionConfig 
 ghost use Rattle.octseq_bgp_tool.specs.Shown.{IsMessagePiece, IsNote, IsRead, IsShown};
 
 use octseq::{AsOctets, StrBuilder};
-use octseq_bgp::{Message, SessionConfig, one_message, one_stop, one_text, place_of_fault};
+use octseq_bgp::laws::{one_message, one_stop, one_text};
+use octseq_bgp::message::{Message, place_of_fault};
+use octseq_bgp::session::SessionConfig;
 use octseq_cli::{FrameCommand, Piece, stop_line};
 use std::alloc::{AllocError, Global};
 

@@ -18,8 +18,9 @@ use crate::record::{Record, RecordValue};
 use crate::text::rib::write_rib;
 use octseq::AsOctets;
 use octseq::octets_text::write_string;
+use octseq_bgp::message::Message;
+use octseq_bgp::session::SessionConfig;
 use octseq_bgp::text::{write_dotted, write_opaque};
-use octseq_bgp::{Message, SessionConfig};
 use std::fmt;
 
 /// A record has at most one text.

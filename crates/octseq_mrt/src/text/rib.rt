@@ -13,8 +13,8 @@ use crate::header::CommonHeader;
 use crate::rib::{Rib, RibEntries, RibEntry};
 use crate::rib_attribute::{RibAttribute, RibAttributes, RibValue};
 use octseq::AsOctets;
+use octseq_bgp::attribute::{AttributeType, Flags, NextHop};
 use octseq_bgp::text::{write_attribute_lines, write_next_hop};
-use octseq_bgp::{AttributeType, Flags, NextHop};
 use std::fmt;
 
 /// Returns octets as an address.

@@ -1,6 +1,7 @@
 //! Types and subtypes: RFC 6396, 4, and RFC 8050.
 use octseq_asserts::assert_equal;
-use octseq_bgp::{AddPath, AfiSafiType};
+use octseq_bgp::family::AfiSafiType;
+use octseq_bgp::session::AddPath;
 use octseq_mrt::{Bgp4MpSubtype, RecordKind};
 
 #[test]

@@ -2,7 +2,8 @@
 use crate::tests::unwrap;
 use octseq::{AsOctets, Malformed, Parser, Turns};
 use octseq_asserts::{assert_equal, assert_true};
-use octseq_bgp::{Afi, SessionConfig};
+use octseq_bgp::family::Afi;
+use octseq_bgp::session::SessionConfig;
 use octseq_mrt::{
     CommonHeader, Event, Record, RecordValue, RibAttribute, RibValue, next_record, one_record,
     one_record_value,

@@ -1,8 +1,7 @@
 use Rattle.std.proofs.Common.{refl, subst, arith}
 use Rattle.octseq.specs.Parser.{window}
-use Rattle.octseq_bgp.specs.Entry.{IsEntry}
+use Rattle.octseq_bgp.specs.Parts.{IsAttribute}
 use Rattle.octseq_bgp.specs.Fills.{Fills}
-use Rattle.octseq_bgp.specs.declared.entry.Form.TheVariants as form
 use Rattle.octseq_mrt.specs.OneListed.{one_entry_parts, entry_parts}
 use Rattle.octseq_mrt.proofs.Filled.{no_entry, parts_left}
 use Rattle.octseq_mrt.proofs.rib.pass_entry.Goals as goal
@@ -16,7 +15,7 @@ returns-in_err-pass_attributes-clause-malformed g c = λ _ e v is.
     let same = (one_entry_parts c.args.paths).same (window c.args.parser.now) (entry_parts e is.octets) _ v
     (window c.parse.new.parser) is.parts c.in_ok-parts.ensures.parts in
     c.in_err-pass_attributes.ensures.malformed refl e.attributes
-    (subst (λ p. Fills (IsEntry form.Attribute) p.1.1.1 e.attributes) same.0 is.attributes)
+    (subst (λ p. Fills IsAttribute p.1.1.1 e.attributes) same.0 is.attributes)
 
 pub returns-in_err-pass_attributes-clause-turns : goal.returns-in_err-pass_attributes-clause-turns
 returns-in_err-pass_attributes-clause-turns g c =
@@ -57,4 +56,4 @@ returns-clause-least g c = λ e v is.
     let same = (one_entry_parts c.args.paths).same (window c.args.parser.now) (entry_parts e is.octets) _ v
     (window c.parse.new.parser) is.parts c.in_ok-parts.ensures.parts in
     c.in_ok-pass_attributes.ensures.least e.attributes
-    (subst (λ p. Fills (IsEntry form.Attribute) p.1.1.1 e.attributes) same.0 is.attributes)
+    (subst (λ p. Fills IsAttribute p.1.1.1 e.attributes) same.0 is.attributes)

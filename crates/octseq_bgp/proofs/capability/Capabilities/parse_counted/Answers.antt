@@ -1,5 +1,8 @@
 use Rattle.std.proofs.Common.{refl}
 use Rattle.octseq_bgp.proofs.capability.Capabilities.parse_counted.Goals as goal
 
-pub returns-in_err-entries-clause-malformed : goal.returns-in_err-entries-clause-malformed
-returns-in_err-entries-clause-malformed g c = λ _. c.in_err-entries.ensures.malformed refl
+pub returns-in_err-left-clause-malformed : goal.returns-in_err-left-clause-malformed
+returns-in_err-left-clause-malformed g c = λ _. c.in_err-left.ensures.counts.malformed refl
+
+pub returns-clause-capabilities : goal.returns-clause-capabilities
+returns-clause-capabilities g c = c.in_ok-left.ensures.counts.filled c.result-1.given.0

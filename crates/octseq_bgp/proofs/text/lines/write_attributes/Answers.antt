@@ -1,7 +1,7 @@
 use Rattle.std.proofs.Common.{rules, [], ◌++◌, refl, sym, subst, ◌∙◌, append_assoc, append-nil}
 use Rattle.std.proofs.Output.{has_written_append, has_written_of_eq}
 use Rattle.octseq.specs.Parser.{window}
-use Rattle.octseq_bgp.specs.Lists.{attribute_entry, attributes_left, attributes_session}
+use Rattle.octseq_bgp.specs.Lists.{attribute_of, attributes_left, attributes_session}
 use Rattle.octseq_bgp.specs.MessageText.{attribute_lines, AreAttributeLines}
 use Rattle.octseq_bgp.specs.Value.{IsValue}
 use Rattle.octseq_bgp.specs.ValueOf.{value_of}
@@ -16,7 +16,7 @@ attributes-preserved g c =
     let attribute = c.in-Some.attribute in
     let s = attributes_session c.args.attributes in
     let v = value_of c.value-value.result in
-    let text = attribute_lines (attribute_entry attribute) v in
+    let text = attribute_lines (attribute_of attribute) v in
     record {
       done = so_far.done ++ text;
       session = c.in-Some.ensures.steps.1 ∙ so_far.session;

@@ -1,7 +1,7 @@
 use Rattle.std.proofs.Common.{◌≡◌, ℕ, refl, sym, ◌∙◌, subst, arith}
 use Rattle.octseq.specs.Parser.{window}
 use Rattle.octseq.specs.Window.{Window, left, past}
-use Rattle.octseq_bgp.specs.Entry.{IsNumber}
+use Rattle.octseq_bgp.specs.Parts.{IsNumber}
 use Rattle.octseq_bgp.specs.Path.{asn_size}
 use Rattle.octseq_mrt.specs.Bgp4Mp.{IsEvent, IsBgp4MpFront}
 use Rattle.octseq_mrt.proofs.Events.{after_numbers}

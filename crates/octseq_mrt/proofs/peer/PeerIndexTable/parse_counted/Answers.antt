@@ -1,9 +1,9 @@
 use Rattle.std.proofs.Common.{◌≡◌, ◌<◌, List, length, refl, ap, subst, arith}
 use Rattle.octseq.specs.Parser.{window}
 use Rattle.octseq.specs.Window.{left}
-use Rattle.octseq_bgp.specs.Entry.{IsCounted}
+use Rattle.octseq_bgp.specs.Parts.{IsCounted}
 use Rattle.octseq_bgp.specs.Fills.{Whole}
-use Rattle.octseq_bgp.specs.OneEntry.{one_number}
+use Rattle.octseq_bgp.specs.OneParts.{one_number}
 use Rattle.octseq_mrt.specs.OneListed.{peer_code, one_peer, peer_moves}
 use Rattle.octseq_mrt.specs.Peer.{Peer, IsPeer}
 use Rattle.octseq_mrt.proofs.Filled.{ahead_as, times_of, not_whole}

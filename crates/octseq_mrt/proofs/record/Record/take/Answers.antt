@@ -1,6 +1,6 @@
 use Rattle.std.proofs.Common.{refl}
 use Rattle.octseq.specs.Parser.{window}
-use Rattle.octseq_bgp.specs.Entry.{IsNext}
+use Rattle.octseq_mrt.specs.Header.{IsNext}
 use Rattle.octseq_mrt.specs.Header.{IsHeader}
 use Rattle.octseq_mrt.proofs.Steps.{none_decided}
 use Rattle.octseq_mrt.proofs.record.Record.take.Goals as goal

@@ -2,8 +2,8 @@ use Rattle.std.proofs.Common.{ℕ, Bool, Option, refl, subst}
 use Rattle.octseq.specs.Parser.{window}
 use Rattle.octseq.specs.Window.{Window}
 use Rattle.octseq_format.specs.Laws.{NoneAt}
-use Rattle.octseq_bgp.specs.Entry.{IsNumber, IsCounted}
-use Rattle.octseq_bgp.specs.OneEntry.{one_number}
+use Rattle.octseq_bgp.specs.Parts.{IsNumber, IsCounted}
+use Rattle.octseq_bgp.specs.OneParts.{one_number}
 use Rattle.octseq_mrt.specs.Address.{IsOptional}
 use Rattle.octseq_mrt.specs.OneListed.{one_optional}
 use Rattle.octseq_mrt.specs.Rib.{HasEntryParts}

@@ -1,10 +1,10 @@
 use Rattle.std.proofs.Common.{◌≡◌, ◌<◌, ◌∙◌, ℕ, List, refl, sym, ap, subst, arith}
 use Rattle.octseq.specs.Parser.{window}
 use Rattle.octseq.specs.Window.{Window, left}
-use Rattle.octseq_bgp.specs.Entry.{IsPrefix}
+use Rattle.octseq_bgp.specs.Parts.{IsPrefix}
 use Rattle.octseq_bgp.specs.Fills.{Whole}
-use Rattle.octseq_bgp.specs.OneEntry.{one_number}
-use Rattle.octseq_mrt.specs.Address.{address_bits}
+use Rattle.octseq_bgp.specs.OneParts.{one_number}
+use Rattle.octseq_bgp.specs.Prefix.{most_bits}
 use Rattle.octseq_mrt.specs.OneListed.{rib_entry_code, one_rib_entry, rib_entry_moves}
 use Rattle.octseq_mrt.specs.ReadTurns.{entries_turns}
 use Rattle.octseq_mrt.specs.Rib.{RibEntry, IsRibEntry}
@@ -14,7 +14,7 @@ use Rattle.octseq_mrt.proofs.rib.Rib.parse_counted.Goals as goal
 
 pub returns-in_err-len-clause-malformed : goal.returns-in_err-len-clause-malformed
 returns-in_err-len-clause-malformed g c = λ _ rib is.
-    let bits = c.address_bits.ensures ∙ ap address_bits c.afi.ensures in
+    let bits = ap most_bits c.afi.ensures in
     let routes = is.1.1 in
     let there = ((one_number 4).same (window c.args.parser) rib.sequence _ routes.0 (window c.parse.new.parser) routes.1
     c.in_ok-sequence.ensures.value).1 in
@@ -31,7 +31,7 @@ returns-then-remaining-gt0-clause-malformed g c = λ _ rib is.
     let here = c.remaining.ensures.left in
     let more = c.if-remaining-gt0.true in
     let some : 0 < left v = omega (arith, here, more) in
-    let bits = c.address_bits.ensures ∙ ap address_bits c.afi.ensures in
+    let bits = ap most_bits c.afi.ensures in
     let prefix : ℕ × Window = (c.in_ok-len.len, window c.in_ok-len.octets) in
     let all = c.in_ok-pass_entries.ensures.entries in
     let times = times_of (IsRibEntry paths) (window c.parse_prefix.new.parser) (window c.parse-2.new.parser) v
@@ -65,7 +65,7 @@ returns-clause-rib g c =
     let here = c.remaining.ensures.left in
     let none = c.if-remaining-gt0.false in
     let ends : left v ≡ 0 = omega (arith, here, none) in
-    let bits = c.address_bits.ensures ∙ ap address_bits c.afi.ensures in
+    let bits = ap most_bits c.afi.ensures in
     let prefix : ℕ × Window = (c.in_ok-len.len, window c.in_ok-len.octets) in
     let all = c.in_ok-pass_entries.ensures.entries in
     let times = times_of (IsRibEntry paths) (window c.parse_prefix.new.parser) (window c.parse-2.new.parser) v

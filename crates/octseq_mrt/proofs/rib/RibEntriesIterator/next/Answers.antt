@@ -1,9 +1,8 @@
 use Rattle.std.proofs.Common.{◌≡◌, ◌∷◌, refl, sym, subst, arith}
 use Rattle.octseq.specs.Parser.{window}
 use Rattle.octseq_format.proofs.RowSteps.{fewer}
-use Rattle.octseq_bgp.specs.Entry.{IsEntry}
+use Rattle.octseq_bgp.specs.Parts.{IsAttribute}
 use Rattle.octseq_bgp.specs.Fills.{Fills}
-use Rattle.octseq_bgp.specs.declared.entry.Form.TheVariants as form
 use Rattle.octseq_mrt.specs.OneListed.{rib_entry_code, rib_entry_moves}
 use Rattle.octseq_mrt.specs.Rib.{RibEntry, IsRibEntry}
 use Rattle.octseq_mrt.proofs.Filled.{ahead_none, ahead_not, no_entry, attributes_ahead, entries_more, entries_then}
@@ -51,7 +50,7 @@ invariant_of-self g c =
       ahead = entries_more self.paths (window self.parser) (window c.parse.new.parser) (window parts.octets) e
           self.ahead
           c.in-Ok.ensures.parts
-          (subst (λ w. ∥ Fills (IsEntry form.Attribute) w attributes.0 ∥₁) c.at-attributes.ensures attributes.1);
+          (subst (λ w. ∥ Fills IsAttribute w attributes.0 ∥₁) c.at-attributes.ensures attributes.1);
     }
 
 pub returns-clause-steps : goal.returns-clause-steps
@@ -68,7 +67,7 @@ returns-clause-steps g c =
     let then = entries_then self.paths (window self.parser) (window c.parse.new.parser) (window parts.octets) e
     self.ahead
     c.self-1.given.0 c.in-Ok.ensures.parts
-    (subst (λ w. ∥ Fills (IsEntry form.Attribute) w attributes.0 ∥₁) c.at-attributes.ensures attributes.1) in
+    (subst (λ w. ∥ Fills IsAttribute w attributes.0 ∥₁) c.at-attributes.ensures attributes.1) in
     subst (λ p. self.ahead.0 ≡ record e { path_id = p } ∷ c.self-1.given.0.0) (sym c.path_id.ensures) then
 
 pub returns-clause-goes : goal.returns-clause-goes

@@ -1,9 +1,9 @@
 use Rattle.std.proofs.Common.{refl, arith}
 use Rattle.octseq.specs.Parser.{window}
 use Rattle.octseq_format.proofs.RowSteps.{fewer}
-use Rattle.octseq_bgp.specs.Entry.{IsEntry}
-use Rattle.octseq_bgp.specs.OneEntry.{entry_code, one_entry, entry_moves}
-use Rattle.octseq_bgp.specs.declared.entry.Form.TheVariants as form
+use Rattle.octseq_bgp.specs.Parts.{IsAttribute}
+use Rattle.octseq_bgp.specs.OneParts.{part_code, one_attribute}
+use Rattle.octseq_bgp.proofs.Moves.{attribute_moves}
 use Rattle.octseq_mrt.specs.Parsed.{attribute_of}
 use Rattle.octseq_mrt.proofs.Filled.{ahead_none, ahead_not, ahead_more, ahead_then}
 use Rattle.octseq_mrt.proofs.rib_attribute.RibAttributesIterator.next.Goals as goal
@@ -13,7 +13,7 @@ returns-then-remaining-eq0-clause-steps g c =
     let self = c.args.self.now in
     let here = c.remaining.ensures.left in
     let zero = c.if-remaining-eq0.true in
-    let none = ahead_none entry_code (IsEntry form.Attribute) (entry_moves form.Attribute) (window self.parser)
+    let none = ahead_none part_code IsAttribute attribute_moves (window self.parser)
     self.ahead (omega (arith, here, zero)) in
     (none, none)
 
@@ -22,14 +22,14 @@ unreachable-requires g c =
     let self = c.args.self.now in
     let here = c.remaining.ensures.left in
     let some = c.if-remaining-eq0.false in
-    ahead_not (IsEntry form.Attribute) (window self.parser) self.ahead (omega (arith, here, some))
+    ahead_not IsAttribute (window self.parser) self.ahead (omega (arith, here, some))
     (c.in-Err.ensures.malformed refl)
 
 pub invariant_of-self : goal.invariant_of-self
 invariant_of-self g c =
     let self = c.args.self.now in
     record {
-      ahead = ahead_more entry_code (IsEntry form.Attribute) (one_entry form.Attribute) (entry_moves form.Attribute)
+      ahead = ahead_more part_code IsAttribute one_attribute attribute_moves
           (window self.parser) (window c.parse.new.parser) (attribute_of c.in-Ok.attribute) self.ahead
           c.in-Ok.ensures.attribute;
     }
@@ -37,7 +37,7 @@ invariant_of-self g c =
 pub returns-clause-steps : goal.returns-clause-steps
 returns-clause-steps g c =
     let self = c.args.self.now in
-    ahead_then entry_code (IsEntry form.Attribute) (one_entry form.Attribute) (entry_moves form.Attribute)
+    ahead_then part_code IsAttribute one_attribute attribute_moves
     (window self.parser) (window c.parse.new.parser) (attribute_of c.in-Ok.attribute) self.ahead
     c.self-1.given.0 c.in-Ok.ensures.attribute
 

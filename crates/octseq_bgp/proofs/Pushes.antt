@@ -1,0 +1,215 @@
+-- What a builder's UPDATE is after a push.
+use Rattle.std.proofs.Common.{◌≡◌, ℕ, ◌+◌, ◌<◌, ◌≤◌, Bool, Option, None, Result, Ok, Err, List, [], ◌∷◌}
+use Rattle.std.proofs.Common.{◌++◌, length, sym, ap, ◌∙◌, subst, arith}
+use Rattle.std.specs.List.{AllByRecursion, flat_map}
+use Rattle.std.proofs.lemmas.List.{flat_map_more}
+use Rattle.std.proofs.Math.Logic.{∥∥₁_map}
+use Rattle.std.proofs.Math.Nat.{lt_of_not-le}
+use Rattle.octseq.specs.declared.error.WriteError.{WriteError}
+use Rattle.octseq.specs.declared.error.WriteError.TheVariants.{Malformed, Short}
+use Rattle.octseq_bgp.specs.Composed.{least}
+use Rattle.octseq_bgp.specs.Held.{Held, held_is}
+use Rattle.octseq_bgp.specs.PartOctets.{PartOctets, Puts}
+use Rattle.octseq_bgp.specs.Writing.{IsHeld, IsOpen, Pushes, Writing}
+use Rattle.octseq_bgp.specs.Written.{WrittenUpdate, update_octets, UnicastFits, AttributeFits, longest}
+use Rattle.octseq_bgp.specs.Written.{prefixes_octets, attributes_octets}
+use Rattle.octseq_bgp.specs.declared.message.update_builder.part.MpList.{MpList}
+use Rattle.octseq_bgp.specs.declared.session.SessionConfig.{SessionConfig}
+use Rattle.octseq_bgp.proofs.Composing.{least_most}
+use Rattle.octseq_bgp.proofs.Updates.{held_same, update_long}
+
+-- ---- one more
+
+pub all_more : {A : Type 0} (P : A → Type 0) (xs : List A) {x : A} → AllByRecursion P xs → P x
+    → AllByRecursion P (xs ++ x ∷ [])
+all_more P [] all one = (one, tt)
+all_more P (y ∷ xs) all one = (all.0, all_more P xs all.1 one)
+
+pub one_more : {A : Type 0} (f : A → List ℕ) (xs : List A) (x : A) → flat_map f (xs ++ x ∷ []) ≡ flat_map f xs ++ f x
+one_more f xs x = sym (flat_map_more f [] xs x)
+
+-- ---- the UPDATE that a push wants
+
+-- The octets of an UPDATE, all of which fits but for its length.
+pub record Wanted (Reaches : WrittenUpdate → Type 0) (s : SessionConfig) (w a n : List ℕ) (u : WrittenUpdate)
+    : Type 0 where
+  pub withdrawn_is : w ≡ prefixes_octets u.withdrawn
+  pub attributes_is : a ≡ attributes_octets u.attributes
+  pub announced_is : n ≡ prefixes_octets u.announced
+  pub withdrawn : UnicastFits s u.withdrawn
+  pub attributes : AllByRecursion AttributeFits u.attributes
+  pub announced : UnicastFits s u.announced
+  pub reaches : Reaches u
+
+module _ {Reaches : WrittenUpdate → Type 0} {s : SessionConfig} {w a n : List ℕ} {u : WrittenUpdate}
+    (wanted : Wanted Reaches s w a n u) where
+  pub wanted_long : 23 + length w + length a + length n ≡ length (update_octets u)
+  wanted_long =
+      let all = update_long u in
+      omega (arith, all, ap length wanted.withdrawn_is, ap length wanted.attributes_is, ap length wanted.announced_is)
+
+  pub wanted_held : {B : Type 0} {parts : PartOctets B} {open_list : Option MpList} {open_at : ℕ} → parts.withdrawn ≡ w
+      → parts.attributes ≡ a → parts.announced ≡ n → 23 + length w + length a + length n ≤ longest s
+      → IsOpen open_list open_at u.attributes → IsHeld Reaches s parts open_list open_at u
+  wanted_held withdrawn attributes announced short opened = record {
+    withdrawn_is = withdrawn ∙ wanted.withdrawn_is;
+    attributes_is = attributes ∙ wanted.attributes_is;
+    announced_is = announced ∙ wanted.announced_is;
+    fits = record {
+      withdrawn = wanted.withdrawn;
+      attributes = wanted.attributes;
+      announced = wanted.announced;
+      short = subst (λ k. k ≤ longest s) wanted_long short;
+    };
+    reaches = wanted.reaches;
+    opened = opened;
+  }
+
+-- a call that put octets stayed within its limit
+pub puts_within : {B : Type 0} {most : ℕ} {asks : Bool} {w a n : List ℕ} {old new : PartOctets B}
+    → Puts most asks (Ok tt) w a n old new → 23 + length w + length a + length n ≤ most
+puts_within puts = let less = lt_of_not-le puts.short.1 in omega (arith, less)
+
+module _ {B : Type 0} {Reaches : WrittenUpdate → Type 0} {s : SessionConfig} {w a n : List ℕ} {most : ℕ} {asks : Bool}
+    {old new : PartOctets B} {open_list : Option MpList} {open_at : ℕ} where
+  -- a call that put the octets that a push wants
+  pub put_held : {u : WrittenUpdate} → Puts most asks (Ok tt) w a n old new → most ≤ longest s
+      → Wanted Reaches s w a n u → IsOpen open_list open_at u.attributes → IsHeld Reaches s new open_list open_at u
+  put_held puts most wanted opened =
+      let fits = puts_within puts in
+      wanted_held wanted puts.withdrawn_is puts.attributes_is puts.announced_is (omega (arith, fits, most)) opened
+
+  -- one that put none
+  pub none_held : {e : WriteError} → Puts most asks (Err e) w a n old new → Held Reaches s old open_list open_at
+      → Held Reaches s new open_list open_at
+  none_held puts held = (
+    held.0,
+    ∥∥₁_map held.1 (λ x. record {
+      withdrawn_is = puts.kept.0 ∙ x.withdrawn_is;
+      attributes_is = puts.kept.1 ∙ x.attributes_is;
+      announced_is = puts.kept.2 ∙ x.announced_is;
+      fits = x.fits;
+      reaches = x.reaches;
+      opened = x.opened;
+    }),
+  )
+
+  -- either, if the list that is open stays the same
+  pub push_held : {u : WrittenUpdate} (result : Result (Unit {0}) WriteError) → Puts most asks result w a n old new
+      → most ≤ longest s → Wanted Reaches s w a n u → (held : Held Reaches s old open_list open_at)
+      → (IsOpen open_list open_at held.0.attributes → IsOpen open_list open_at u.attributes)
+      → Held Reaches s new open_list open_at
+  push_held {u} (Ok done) puts most wanted held opens = (u, ∥∥₁_map held.1 (λ x. put_held puts most wanted (opens x.opened)))
+  push_held (Err e) puts most wanted held opens = none_held puts held
+
+module _ {B : Type 0} {Reaches : WrittenUpdate → Type 0} {s : SessionConfig} {w a n : List ℕ} {u : WrittenUpdate}
+    {limit : Option ℕ} {asks : Bool} {old new : PartOctets B} where
+  -- what the push ensures
+  pub pushes_ok : {Good : Type 0} {open_list other_list : Option MpList} {open_at : ℕ} {before after : Writing B}
+      → Puts (least (longest s) limit) asks (Ok tt) w a n old new → Wanted Reaches s w a n u → Good
+      → before.session ≡ s → after.session ≡ before.session → (held : Held Reaches s new other_list open_at)
+      → after.update ≡ held.0 → after.open_list ≡ open_list → Pushes limit asks Good (Ok tt) u open_list before after
+  pushes_ok puts wanted good session same held update opens = record {
+    ok = update ∙ held_is held (put_held {open_list = None} {open_at = 0} puts (least_most (longest s) limit) wanted tt);
+    opens = opens;
+    good = good;
+    err = tt;
+    kept = tt;
+    session = same;
+    malformed = (λ none. absurd none, λ bad. bad good);
+    short = (
+      λ none. absurd none,
+      λ past. puts.short.1 (subst (λ k. least (longest s) limit < k) (sym (wanted_long wanted))
+          (subst (λ x. least (longest x) limit < length (update_octets u)) session past.1)),
+    );
+    memory = λ none. absurd none;
+  }
+
+  pub pushes_err : {e : WriteError} {Good : Type 0} {wanted_list open_list : Option MpList} {open_at : ℕ}
+      {before after : Writing B} → Puts (least (longest s) limit) asks (Err e) w a n old new → Wanted Reaches s w a n u
+      → Good → before.session ≡ s → after.session ≡ before.session → (first : Held Reaches s old open_list open_at)
+      → before.update ≡ first.0 → (held : Held Reaches s new open_list open_at) → after.update ≡ held.0
+      → after.open_list ≡ before.open_list → Pushes limit asks Good (Err e) u wanted_list before after
+  unfolding none_held
+  pushes_err puts wanted good session same first begun held update opens = record {
+    ok = tt;
+    opens = tt;
+    good = tt;
+    err = update ∙ held_same held (none_held puts first) ∙ sym begun;
+    kept = opens;
+    session = same;
+    malformed = (λ bad. absurd (puts.fits bad), λ bad. absurd (bad good));
+    short = (
+      λ short. (
+        good,
+        subst (λ x. least (longest x) limit < length (update_octets u)) (sym session)
+            (subst (λ k. least (longest s) limit < k) (wanted_long wanted) (puts.short.0 short)),
+      ),
+      λ past. puts.short.1 (subst (λ k. least (longest s) limit < k) (sym (wanted_long wanted))
+          (subst (λ x. least (longest x) limit < length (update_octets u)) session past.1)),
+    );
+    memory = puts.memory;
+  }
+
+  pub pushes : (result : Result (Unit {0}) WriteError) {Good : Type 0} {open_list : Option MpList} {open_at : ℕ}
+      {before after : Writing B} → Puts (least (longest s) limit) asks result w a n old new → Wanted Reaches s w a n u
+      → Good → before.session ≡ s → after.session ≡ before.session → (first : Held Reaches s old open_list open_at)
+      → before.update ≡ first.0 → (held : Held Reaches s new open_list open_at) → after.update ≡ held.0
+      → after.open_list ≡ before.open_list → Pushes limit asks Good result u before.open_list before after
+  pushes (Ok done) puts wanted good session same first begun held update opens =
+      pushes_ok puts wanted good session same held update opens
+  pushes (Err e) puts wanted good session same first begun held update opens =
+      pushes_err puts wanted good session same first begun held update opens
+
+-- a call that refused what isn't good
+pub refused : {B : Type 0} {limit : Option ℕ} {asks : Bool} {Good : Type 0} {wanted : WrittenUpdate}
+    {open_list : Option MpList} {before after : Writing B} → ¬ Good → after.update ≡ before.update
+    → after.open_list ≡ before.open_list → after.session ≡ before.session
+    → Pushes limit asks Good (Err Malformed) wanted open_list before after
+refused bad update opens session = record {
+  ok = tt;
+  opens = tt;
+  good = tt;
+  err = update;
+  kept = opens;
+  session = session;
+  malformed = (λ _. bad, λ _. tt);
+  short = (λ none. absurd none, λ past. absurd (bad past.0));
+  memory = λ none. absurd none;
+}
+
+-- a call that pushed, and then opened a list
+pub pushes_opened : {B : Type 0} {limit : Option ℕ} {asks : Bool} {Good Other : Type 0} {wanted : WrittenUpdate}
+    {open_list other_list : Option MpList} {before between after : Writing B}
+    → Pushes limit asks Good (Ok tt) wanted open_list before between → Other → after.update ≡ between.update
+    → after.open_list ≡ other_list → after.session ≡ between.session
+    → Pushes limit asks Other (Ok tt) wanted other_list before after
+pushes_opened pushed good update opens session = record {
+  ok = update ∙ pushed.ok;
+  opens = opens;
+  good = good;
+  err = tt;
+  kept = tt;
+  session = session ∙ pushed.session;
+  malformed = (λ none. absurd none, λ bad. bad good);
+  short = (λ none. absurd none, λ past. pushed.short.1 (pushed.good, past.1));
+  memory = λ none. absurd none;
+}
+
+-- a call that refused what doesn't fit
+pub too_long : {B : Type 0} {limit : Option ℕ} {asks : Bool} {Good : Type 0} {wanted : WrittenUpdate}
+    {open_list : Option MpList} {before after : Writing B} → Good
+    → least (longest before.session) limit < length (update_octets wanted) → after.update ≡ before.update
+    → after.open_list ≡ before.open_list → after.session ≡ before.session
+    → Pushes limit asks Good (Err Short) wanted open_list before after
+too_long good past update opens session = record {
+  ok = tt;
+  opens = tt;
+  good = tt;
+  err = update;
+  kept = opens;
+  session = session;
+  malformed = (λ none. absurd none, λ bad. absurd (bad good));
+  short = (λ _. (good, past), λ _. tt);
+  memory = λ none. absurd none;
+}

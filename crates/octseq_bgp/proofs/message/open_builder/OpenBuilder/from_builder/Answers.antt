@@ -1,0 +1,16 @@
+use Rattle.std.proofs.Common.{false, refl, ◌∙◌, arith}
+use Rattle.octseq_bgp.specs.WrittenOpen.{bare_open}
+use Rattle.octseq_bgp.proofs.WrittenOpens.{bare_written, found_open}
+use Rattle.octseq_bgp.proofs.message.open_builder.OpenBuilder.from_builder.Goals as goal
+
+pub invariant_of-result : goal.invariant_of-result
+invariant_of-result g c =
+    let is = bare_written false c.args.my_asn c.args.holdtime c.args.identifier _ (omega arith) (omega arith)
+    (omega arith) (c.in-Ok.ensures.ok ∙ c.short_front.ensures) in
+    ((bare_open false c.args.my_asn c.args.holdtime c.args.identifier, is), tt)
+
+pub returns-clause-message : goal.returns-clause-message
+returns-clause-message g c =
+    let is = bare_written false c.args.my_asn c.args.holdtime c.args.identifier _ (omega arith) (omega arith)
+    (omega arith) (c.in-Ok.ensures.ok ∙ c.short_front.ensures) in
+    found_open false _ c.result-1.given.0 (bare_open false c.args.my_asn c.args.holdtime c.args.identifier) is refl

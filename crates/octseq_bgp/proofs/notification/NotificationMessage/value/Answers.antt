@@ -1,5 +1,0 @@
-use Rattle.std.proofs.Common.{refl}
-use Rattle.octseq_bgp.proofs.notification.NotificationMessage.value.Goals as goal
-
-pub returns-in-Err : goal.returns-in-Err
-returns-in-Err g c = (refl, c.in-Err.ensures.malformed refl)

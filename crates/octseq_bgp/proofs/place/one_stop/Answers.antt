@@ -1,5 +1,0 @@
-use Rattle.octseq_bgp.proofs.Stops as laws
-use Rattle.octseq_bgp.proofs.place.one_stop.Goals as goal
-
-pub returns : goal.returns
-returns c = laws.one_stop

@@ -1,5 +1,0 @@
-use Rattle.octseq_bgp.proofs.Streams as laws
-use Rattle.octseq_bgp.proofs.reader.messages_are_framed.Goals as goal
-
-pub returns : goal.returns
-returns c = laws.framed

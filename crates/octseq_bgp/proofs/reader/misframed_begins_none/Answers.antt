@@ -1,4 +1,0 @@
-use Rattle.octseq_bgp.proofs.reader.misframed_begins_none.Goals as goal
-
-pub returns : goal.returns
-returns c = c.misframed_begins_none.ensures

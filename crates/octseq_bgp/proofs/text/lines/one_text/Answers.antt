@@ -1,5 +1,0 @@
-use Rattle.octseq_bgp.proofs.Texts as laws
-use Rattle.octseq_bgp.proofs.text.lines.one_text.Goals as goal
-
-pub returns : goal.returns
-returns c = laws.one_message_text

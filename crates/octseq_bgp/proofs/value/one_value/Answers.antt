@@ -1,5 +1,0 @@
-use Rattle.octseq_bgp.proofs.Values as laws
-use Rattle.octseq_bgp.proofs.value.one_value.Goals as goal
-
-pub returns : goal.returns
-returns c = laws.one_value

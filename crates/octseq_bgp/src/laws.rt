@@ -1,0 +1,113 @@
+//! Laws for callers. Each is the contract of a function that does nothing: calling it brings the law into the caller's
+//! proof.
+ghost use Rattle.std.specs.Prelude.{◌≡◌, ◌+◌, ◌++◌, Bool, ℕ, List, Some, length};
+ghost use Rattle.octseq.specs.Code.{HasFront};
+ghost use Rattle.octseq.specs.Window.{Window, rest};
+ghost use Rattle.octseq_format.specs.Canonical.{AreOctets};
+ghost use Rattle.octseq_bgp.specs.Capability.{CapabilityValue, IsCapabilityValue};
+ghost use Rattle.octseq_bgp.specs.Fault.{Fault, AreFaultsOf, worst_of};
+ghost use Rattle.octseq_bgp.specs.Handling.{IsHandling};
+ghost use Rattle.octseq_bgp.specs.Message as said;
+ghost use Rattle.octseq_bgp.specs.Message.{IsMessage};
+ghost use Rattle.octseq_bgp.specs.MessageText.{IsMessageText};
+ghost use Rattle.octseq_bgp.specs.Parts.{octets_of_bits};
+ghost use Rattle.octseq_bgp.specs.PrefixValue.{address_from, address_of};
+ghost use Rattle.octseq_bgp.specs.ReadWritten.{update_says};
+ghost use Rattle.octseq_bgp.specs.Stop.{IsStop};
+ghost use Rattle.octseq_bgp.specs.Stream.{IsFramed, IsMisframed};
+ghost use Rattle.octseq_bgp.specs.Update.{Update};
+ghost use Rattle.octseq_bgp.specs.Value.{Value, HasForm, IsValue};
+ghost use Rattle.octseq_bgp.specs.Written.{WrittenUpdate, UpdateFits, update_octets};
+ghost use Rattle.octseq_bgp.specs.WrittenValue.{WrittenValue, FitsForm, says_value, value_octets, value_type};
+ghost use Rattle.octseq_bgp.specs.declared.session.SessionConfig.{SessionConfig as Session};
+
+use crate::session::SessionConfig;
+use octseq_stream::frames_are_apart;
+
+/// Octets are a message of a session in at most one way.
+pub fn one_message()
+    ensures { (session : Session) (octets : List ℕ) (m n : said.Message)
+        → IsMessage session octets m → IsMessage session octets n → m ≡ n }
+{}
+
+/// A path attribute has at most one value.
+pub fn one_value()
+    ensures { (session : Session) (number : ℕ) (w : Window) (a b : Value)
+        → IsValue session number w a → IsValue session number w b → a ≡ b }
+{}
+
+/// A capability has at most one value.
+pub fn one_capability_value()
+    ensures { (number : ℕ) (w : Window) (a b : CapabilityValue)
+        → IsCapabilityValue number w a → IsCapabilityValue number w b → a ≡ b }
+{}
+
+/// A message has at most one text.
+pub fn one_text()
+    ensures { (m : said.Message) (text other : List ℕ) → IsMessageText m text → IsMessageText m other → text ≡ other }
+{}
+
+/// Reading stops at one position.
+pub fn one_stop()
+    ensures { (session : Session) (octets : List ℕ) (x y : ℕ)
+        → IsStop session octets x → IsStop session octets y → x ≡ y }
+{}
+
+/// Reading octets that are a message stops at their end.
+pub fn messages_stop_at_their_end()
+    ensures { (session : Session) (octets : List ℕ) (m : said.Message)
+        → IsMessage session octets m → IsStop session octets (length octets) }
+{}
+
+/// An UPDATE must be handled by the worst of its faults.
+pub fn worst_of_faults()
+    ensures { (external : Bool) (update : Update) (row : List Fault) → AreFaultsOf external update row
+        → IsHandling external update (worst_of row) }
+{}
+
+/// At most one framed message is at the front of octets.
+pub fn framed_messages_are_apart()
+    ensures { (session : Session) (a b x y : List ℕ) → IsFramed session a → IsFramed session b
+        → a ++ x ≡ b ++ y → a ≡ b }
+{
+    frames_are_apart::<SessionConfig>();
+}
+
+/// No framed message begins with misframed octets, whatever follows them.
+pub fn misframed_begins_none()
+    ensures { (session : Session) (octets more : List ℕ) → IsMisframed session octets
+        → ¬ HasFront (IsFramed session) (λ octets. octets) (octets ++ more) }
+{
+    octseq_stream::misframed_begins_none::<SessionConfig>();
+}
+
+/// Misframed octets stay misframed, whatever follows them.
+pub fn misframed_octets_stay_so()
+    ensures { (session : Session) (octets more : List ℕ) → IsMisframed session octets
+        → IsMisframed session (octets ++ more) }
+{}
+
+/// Octets that are a message are framed as one.
+pub fn messages_are_framed()
+    ensures { (session : Session) (octets : List ℕ) (m : said.Message) → AreOctets octets
+        → IsMessage session octets m → IsFramed session octets }
+{}
+
+/// The octets of a value of a path attribute are read as that value, under the session in which they were written.
+pub fn written_values_are_read()
+    ensures { (session : Session) (w : Window) (v : WrittenValue) → FitsForm session v → rest w ≡ value_octets session v
+        → w.end ≡ w.position + length (value_octets session v)
+        → (value : Value) × (says_value value ≡ Some v) × HasForm session (value_type v) w value }
+{}
+
+/// The octets of an UPDATE that was written are read as it, under the same session.
+pub fn updates_are_read_back()
+    ensures { (session : Session) (u : WrittenUpdate) → UpdateFits session u
+        → (read : Update) × IsMessage session (update_octets u) (said.Message.update read) × (update_says read ≡ u) }
+{}
+
+/// The octets of a prefix that was written have the address that was given, with the bits after its length cleared.
+pub fn written_addresses_are_read_back()
+    ensures { (bits : ℕ) (address : List ℕ) → AreOctets address
+        → address_of bits (address_from (octets_of_bits bits) 0 bits address) ≡ address_of bits address }
+{}

@@ -1,0 +1,93 @@
+//! The octets of a prefix: RFC 4271, 4.3, and RFC 7911, 3.
+ghost use Rattle.std.specs.Prelude.{◌≡◌, ◌≤◌, ◌<◌, ◌+◌, ◌*◌, ◌^◌, ◌↔◌, take, slice_range, IfSome, IsTrue};
+ghost use Rattle.octseq_bgp.specs.Parts.{octets_of_bits};
+ghost use Rattle.octseq_bgp.specs.PrefixValue.{address_from};
+ghost use Rattle.octseq_bgp.specs.Written.{IsPrefixOf, prefix_octets, written_prefix};
+
+use crate::family::{Afi, AfiSafiType};
+use crate::prefix::{PathId, Prefix, clear};
+use crate::session::SessionConfig;
+
+/// The octets of a prefix, in a range.
+#[derive(Drop)]
+pub(super) struct PrefixOctets {
+    octets: [u8; 21],
+    start: usize,
+    end: usize,
+    ghost within: { (start ≤ end) × (end ≤ 21) },
+}
+
+impl PrefixOctets {
+    /// Returns the octets of a prefix, with the bits after its length cleared.
+    pub(super) fn new(prefix: &Prefix, path_id: Option<PathId>) -> PrefixOctets
+        requires { prefix.now.len ≤ 128 }
+        ensures octets { slice_range result.octets result.start result.end
+            ≡ prefix_octets (written_prefix prefix.now path_id) }
+        ensures path_id { IfSome path_id (λ id. id.0 < 256 ^ 4) }
+    {
+        let len = octets_of_bits(prefix.len);
+        let address = cleared_address(prefix, len);
+        let (id, start) = match path_id {
+            Some(id) => (id.0.to_be_bytes(), 0),
+            None => ([0; 4], 4),
+        };
+        let mut octets = [0; 21];
+        octets[0..4].copy_from_slice(&id);
+        octets[4] = prefix.len;
+        octets[5..21].copy_from_slice(&address);
+        PrefixOctets {
+            octets,
+            start,
+            end: 5 + len,
+        }
+    }
+
+    /// Returns them.
+    pub(super) fn as_slice(&self) -> &[u8]
+        ensures { result.now ≡ slice_range self.now.octets self.now.start self.now.end }
+    {
+        &self.octets[self.start..self.end]
+    }
+}
+
+/// Returns how many octets a number of bits needs.
+fn octets_of_bits(bits: u8) -> usize
+    ensures octets { result ≡ octets_of_bits bits }
+    ensures bits { bits ≤ 8 * result }
+    ensures few { 8 * result ≤ bits + 7 }
+{
+    let bits = usize::from(bits);
+    bits / 8 + (bits % 8 + 7) / 8
+}
+
+/// Returns an address with the bits after a prefix cleared in the last of its `len` octets.
+fn cleared_address(prefix: &Prefix, len: usize) -> [u8; 16]
+    requires bits { prefix.now.len ≤ 8 * len }
+    requires few { 8 * len ≤ prefix.now.len + 7 }
+    requires most { len ≤ 16 }
+    ensures { take len result ≡ address_from len 0 prefix.now.len prefix.now.address }
+{
+    let mut address = prefix.address;
+    if len > 0 {
+        let last = len - 1;
+        address[last] = clear(address[last], 8 * len - usize::from(prefix.len));
+    }
+    address
+}
+
+/// Whether a prefix is one of a family, with a path id exactly if the session has them for it.
+pub(super) fn is_prefix_of(
+    session: &SessionConfig,
+    family: AfiSafiType,
+    prefix: &Prefix,
+    path_id: Option<PathId>,
+) -> bool
+    ensures { IsTrue result ↔ IsPrefixOf session.now family prefix.now path_id }
+{
+    let afi = family.afi();
+    let most = match afi {
+        Afi::Ipv4 => 32,
+        Afi::Ipv6 => 128,
+    };
+    prefix.afi == afi && prefix.len <= most && path_id.is_some() == session.add_path.has(family)
+}

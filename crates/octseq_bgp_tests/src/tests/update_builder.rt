@@ -1,0 +1,315 @@
+//! UPDATEs that are written.
+use crate::tests::octets::{message, octets};
+use crate::tests::{equal, unwrap};
+use octseq::builder::AsOctetsMut;
+use octseq::{AppendError, Array, AsOctets, OctetsBuilder, ShortBuf, Truncate, WriteError};
+use octseq_asserts::{assert_equal, assert_true};
+use octseq_bgp::attribute::{Flags, NextHop};
+use octseq_bgp::family::{Afi, AfiSafiType};
+use octseq_bgp::message::{Announced, Attributes, MpList, UpdateBuilder, Withdrawn};
+use octseq_bgp::prefix::{PathId, Prefix};
+use octseq_bgp::session::{AddPath, SessionConfig};
+use std::alloc::AllocGlobal;
+use std::process::Abort;
+
+/// Returns a session with path ids for all families.
+fn with_paths() -> SessionConfig {
+    SessionConfig {
+        four_octet_asn: true,
+        add_path: AddPath::all(true),
+        extended_message: false,
+    }
+}
+
+/// Returns an IPv4 prefix.
+fn ipv4(address: [u8; 4], len: u8) -> Prefix {
+    Prefix {
+        afi: Afi::Ipv4,
+        len,
+        address: [
+            address[0], address[1], address[2], address[3], 0, 0, 0, 0, 0, 0, 0, 0, 0, 0, 0, 0,
+        ],
+    }
+}
+
+/// Returns an IPv6 prefix whose address begins with three numbers.
+fn ipv6(first: u8, second: u8, third: u8, len: u8) -> Prefix {
+    Prefix {
+        afi: Afi::Ipv6,
+        len,
+        address: [
+            0x20, 0x01, 0x0d, 0xb8, first, second, third, 0, 0, 0, 0, 0, 0, 0, 0, 0,
+        ],
+    }
+}
+
+/// Begins an UPDATE in a vector.
+fn begin(
+    rt: &(impl AllocGlobal + Abort),
+    session: SessionConfig,
+) -> UpdateBuilder<Vec<u8>, Withdrawn> {
+    unwrap(
+        rt,
+        UpdateBuilder::from_builder(Vec::new(rt.alloc()), session),
+    )
+}
+
+/// Ends the test if the octets of a message aren't these, after the marker.
+fn assert_message(rt: &(impl AllocGlobal + Abort), what: &str, written: &[u8], text: &str) {
+    let wanted = message(rt, text);
+    equal(rt, what, written == wanted.as_slice(), true);
+}
+
+#[test]
+fn an_update_begins_as_the_end_of_rib(rt: HostRuntime) {
+    let update = begin(&rt, SessionConfig::modern());
+    assert_message(&rt, "begun", update.as_slice(), "0017 02 0000 0000");
+    let octets = update.attributes().announced().finish();
+    assert_message(&rt, "finished", &octets, "0017 02 0000 0000");
+}
+
+#[test]
+fn what_a_builder_holds_is_replaced(rt: HostRuntime) {
+    let used = octets(&rt, "010203");
+    let update = unwrap(
+        &rt,
+        UpdateBuilder::from_builder(used, SessionConfig::modern()),
+    );
+    assert_message(&rt, "begun", update.as_slice(), "0017 02 0000 0000");
+}
+
+#[test]
+fn announced_prefixes_are_written(rt: HostRuntime) {
+    let mut update = begin(&rt, SessionConfig::modern()).attributes().announced();
+    unwrap(&rt, update.push_announced(&ipv4([9, 9, 9, 0], 24), None));
+    assert_message(&rt, "one", update.as_slice(), "001b 02 0000 0000 18090909");
+    unwrap(&rt, update.push_announced(&ipv4([9, 9, 0x9f, 1], 20), None));
+    unwrap(&rt, update.push_announced(&ipv4([9, 9, 9, 9], 0), None));
+    unwrap(&rt, update.push_announced(&ipv4([10, 0, 0, 1], 32), None));
+    let wanted = "0025 02 0000 0000 18090909 14090990 00 200a000001";
+    assert_message(&rt, "four", &update.finish(), wanted);
+}
+
+#[test]
+fn path_ids_are_written_where_the_session_has_them(rt: HostRuntime) {
+    let mut update = begin(&rt, with_paths()).attributes().announced();
+    let prefix = ipv4([9, 9, 9, 0], 24);
+    unwrap(&rt, update.push_announced(&prefix, Some(PathId(7))));
+    assert_equal!(
+        &rt,
+        update.push_announced(&prefix, None),
+        Err(WriteError::Malformed)
+    );
+    let wanted = "001f 02 0000 0000 00000007 18090909";
+    assert_message(&rt, "with", &update.finish(), wanted);
+    let mut update = begin(&rt, SessionConfig::modern());
+    let refused = update.push_withdrawn(&prefix, Some(PathId(7)));
+    assert_equal!(&rt, refused, Err(WriteError::Malformed));
+    assert_message(&rt, "without", &update.finish(), "0017 02 0000 0000");
+}
+
+#[test]
+fn withdrawn_prefixes_come_first(rt: HostRuntime) {
+    let mut update = begin(&rt, SessionConfig::modern());
+    unwrap(&rt, update.push_withdrawn(&ipv4([10, 1, 2, 3], 16), None));
+    unwrap(&rt, update.push_withdrawn(&ipv4([10, 129, 0, 0], 9), None));
+    assert_message(
+        &rt,
+        "two",
+        update.as_slice(),
+        "001d 02 0006 100a01 090a80 0000",
+    );
+    let mut update = update.attributes().announced();
+    unwrap(&rt, update.push_announced(&ipv4([10, 2, 0, 0], 16), None));
+    let wanted = "0020 02 0006 100a01 090a80 0000 100a02";
+    assert_message(&rt, "three", &update.finish(), wanted);
+}
+
+#[test]
+fn other_prefixes_are_malformed(rt: HostRuntime) {
+    let mut update = begin(&rt, SessionConfig::modern());
+    let refused = update.push_withdrawn(&ipv6(0, 1, 0, 48), None);
+    assert_equal!(&rt, refused, Err(WriteError::Malformed));
+    let refused = update.push_withdrawn(&ipv4([10, 0, 0, 0], 33), None);
+    assert_equal!(&rt, refused, Err(WriteError::Malformed));
+    assert_message(&rt, "none", &update.finish(), "0017 02 0000 0000");
+}
+
+/// Pushes ORIGIN, AS_PATH and NEXT_HOP.
+fn push_three<B: OctetsBuilder + Truncate + AsOctetsMut>(
+    rt: &(impl AllocGlobal + Abort),
+    update: &mut UpdateBuilder<B, Attributes>,
+) {
+    let transitive = Flags(0x40);
+    unwrap(rt, update.push_attribute_octets(transitive, 1, &[0]));
+    unwrap(
+        rt,
+        update.push_attribute_octets(transitive, 2, &octets(rt, "02010000fdfc")),
+    );
+    unwrap(
+        rt,
+        update.push_attribute_octets(transitive, 3, &[10, 0, 0, 1]),
+    );
+}
+
+#[test]
+fn attributes_are_written_as_given(rt: HostRuntime) {
+    let mut update = begin(&rt, SessionConfig::modern()).attributes();
+    push_three(&rt, &mut update);
+    let mut update = update.announced();
+    unwrap(&rt, update.push_announced(&ipv4([9, 9, 9, 0], 24), None));
+    let wanted = "002f 02 0000 0014 40010100 40020602010000fdfc 4003040a000001 18090909";
+    assert_message(&rt, "three", &update.finish(), wanted);
+}
+
+#[test]
+fn the_flag_decides_how_a_length_is_written(rt: HostRuntime) {
+    let mut update = begin(&rt, SessionConfig::modern()).attributes();
+    unwrap(&rt, update.push_attribute_octets(Flags(0x50), 1, &[0]));
+    unwrap(&rt, update.push_attribute_octets(Flags(0x6f), 1, &[0]));
+    let refused = update.push_attribute_octets(Flags(0x40), 2, &[0; 256]);
+    assert_equal!(&rt, refused, Err(WriteError::Malformed));
+    let wanted = "0020 02 0000 0009 5001000100 6f010100";
+    assert_message(&rt, "two", update.as_slice(), wanted);
+    unwrap(&rt, update.push_attribute_octets(Flags(0x40), 2, &[0; 255]));
+    unwrap(&rt, update.push_attribute_octets(Flags(0x50), 2, &[0; 256]));
+    assert_equal!(&rt, update.as_slice().len(), 32 + 258 + 260);
+}
+
+#[test]
+fn reachable_prefixes_are_written_one_by_one(rt: HostRuntime) {
+    let mut update = begin(&rt, SessionConfig::modern()).attributes();
+    let hop = NextHop::Ipv6([0x20, 1, 0xd, 0xb8, 0, 0, 0, 0, 0, 0, 0, 0, 0, 0, 0, 1]);
+    unwrap(&rt, update.push_mp_reach(AfiSafiType::Ipv6Unicast, &hop));
+    assert_equal!(
+        &rt,
+        update.open_list(),
+        Some(MpList::Reach(AfiSafiType::Ipv6Unicast))
+    );
+    unwrap(&rt, update.push_reached(&ipv6(0, 1, 0, 48), None));
+    unwrap(&rt, update.push_reached(&ipv6(0, 1, 0, 0), None));
+    let refused = update.push_reached(&ipv4([9, 9, 9, 0], 24), None);
+    assert_equal!(&rt, refused, Err(WriteError::Malformed));
+    let refused = update.push_unreached(&ipv6(0, 1, 0, 48), None);
+    assert_equal!(&rt, refused, Err(WriteError::Malformed));
+    let wanted = "0037 02 0000 0020 800e1d 0002 01 10 20010db8 00000000 00000000 00000001 00
+        3020010db80001 00";
+    assert_message(&rt, "two", update.as_slice(), wanted);
+    unwrap(&rt, update.push_attribute_octets(Flags(0x40), 1, &[0]));
+    let refused = update.push_reached(&ipv6(0, 1, 0, 48), None);
+    assert_equal!(&rt, refused, Err(WriteError::Malformed));
+}
+
+#[test]
+fn next_hops_have_their_family(rt: HostRuntime) {
+    let mut update = begin(&rt, SessionConfig::modern()).attributes();
+    let hop = NextHop::Ipv4([10, 0, 0, 1]);
+    let refused = update.push_mp_reach(AfiSafiType::Ipv6Multicast, &hop);
+    assert_equal!(&rt, refused, Err(WriteError::Malformed));
+    unwrap(&rt, update.push_mp_reach(AfiSafiType::Ipv4Unicast, &hop));
+    unwrap(&rt, update.push_reached(&ipv4([9, 9, 9, 0], 24), None));
+    let wanted = "0027 02 0000 0010 800e0d 0001 01 04 0a000001 00 18090909";
+    assert_message(&rt, "ipv4", &update.finish(), wanted);
+    let mut update = begin(&rt, SessionConfig::modern()).attributes();
+    let hop = NextHop::Ipv6LinkLocal([1; 16], [2; 16]);
+    unwrap(&rt, update.push_mp_reach(AfiSafiType::Ipv6Multicast, &hop));
+    let wanted = "003f 02 0000 0028 800e25 0002 02 20 01010101010101010101010101010101
+        02020202020202020202020202020202 00";
+    assert_message(&rt, "link-local", &update.finish(), wanted);
+}
+
+#[test]
+fn unreachable_prefixes_are_written_one_by_one(rt: HostRuntime) {
+    let mut update = begin(&rt, with_paths()).attributes();
+    unwrap(&rt, update.push_mp_unreach(AfiSafiType::Ipv6Unicast));
+    assert_message(
+        &rt,
+        "none",
+        update.as_slice(),
+        "001d 02 0000 0006 800f03 000201",
+    );
+    assert_equal!(
+        &rt,
+        update.push_unreached(&ipv6(0, 2, 0, 48), None),
+        Err(WriteError::Malformed)
+    );
+    unwrap(
+        &rt,
+        update.push_unreached(&ipv6(0, 2, 0, 47), Some(PathId(0x01020304))),
+    );
+    let wanted = "0028 02 0000 0011 800f0e 000201 01020304 2f20010db80002";
+    assert_message(&rt, "one", &update.finish(), wanted);
+}
+
+#[test]
+fn a_list_of_more_than_255_octets_has_a_length_of_two(rt: HostRuntime) {
+    let mut update = begin(&rt, SessionConfig::modern()).attributes();
+    unwrap(&rt, update.push_mp_unreach(AfiSafiType::Ipv6Unicast));
+    for n in 0..14 {
+        unwrap(&rt, update.push_unreached(&ipv6(n, 0, 0, 128), None));
+    }
+    unwrap(&rt, update.push_unreached(&ipv6(14, 0, 0, 104), None));
+    let octets_before = octets(&rt, "0119 02 0000 0102 800fff 000201 80 20010db800");
+    assert_equal!(
+        &rt,
+        update.as_slice().get(16..35),
+        Some(octets_before.as_slice())
+    );
+    unwrap(&rt, update.push_unreached(&ipv6(0, 0, 0, 0), None));
+    let octets_after = octets(&rt, "011b 02 0000 0104 900f0100 000201 80 20010db800");
+    assert_equal!(
+        &rt,
+        update.as_slice().get(16..36),
+        Some(octets_after.as_slice())
+    );
+    unwrap(&rt, update.push_unreached(&ipv6(0, 0, 0, 0), None));
+    let octets_after = octets(&rt, "011c 02 0000 0105 900f0101 000201 80 20010db800");
+    let all = update.finish();
+    assert_equal!(
+        &rt,
+        all.as_slice().get(16..36),
+        Some(octets_after.as_slice())
+    );
+    assert_equal!(&rt, all.len(), 0x11c);
+    let last = octets(&rt, "68 20010db80e0000000000000000 00 00");
+    assert_true!(&rt, all.as_slice().ends_with(&last));
+}
+
+#[test]
+fn messages_have_at_most_4096_octets(rt: HostRuntime) {
+    let mut update = begin(&rt, SessionConfig::modern()).attributes().announced();
+    let prefix = ipv4([0, 0, 0, 0], 0);
+    for _ in 23..4096 {
+        unwrap(&rt, update.push_announced(&prefix, None));
+    }
+    assert_equal!(
+        &rt,
+        update.push_announced(&prefix, None),
+        Err(WriteError::Short)
+    );
+    let octets = update.finish();
+    assert_equal!(&rt, octets.len(), 4096);
+    assert_equal!(&rt, octets.as_slice().get(16), Some(&16));
+}
+
+#[test]
+fn builders_have_limits(rt: HostRuntime) {
+    let small = UpdateBuilder::from_builder(Array::<22>::new(), SessionConfig::modern());
+    assert_true!(&rt, matches!(small, Err(AppendError::Short(ShortBuf))));
+    let update = UpdateBuilder::from_builder(Array::<29>::new(), SessionConfig::modern());
+    let mut update = unwrap(&rt, update);
+    unwrap(&rt, update.push_withdrawn(&ipv4([10, 1, 0, 0], 16), None));
+    let refused = update.push_withdrawn(&ipv4([10, 1, 0, 0], 24), None);
+    assert_equal!(&rt, refused, Err(WriteError::Short));
+    let mut update = update.attributes();
+    let refused = update.push_attribute_octets(Flags(0x40), 1, &[0]);
+    assert_equal!(&rt, refused, Err(WriteError::Short));
+    unwrap(&rt, update.push_attribute_octets(Flags(0xC0), 99, &[]));
+    let octets = update.finish();
+    assert_message(
+        &rt,
+        "full",
+        octets.as_ref(),
+        "001d 02 0003 100a01 0003 c06300",
+    );
+}

@@ -1,0 +1,4 @@
+//! The octets of records, written: RFC 6396, 4, and RFC 8050.
+
+mod parts;
+pub mod peers;
