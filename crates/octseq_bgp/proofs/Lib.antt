@@ -10,7 +10,8 @@ pub mod Fronts
 pub mod Kept
 pub mod Lasts
 pub mod Marks
-pub mod Moves
+mod MessagesBack
+mod Moves
 pub mod Names
 pub mod NextHops
 pub mod NlriLists

@@ -16,7 +16,7 @@ use Rattle.octseq_format.specs.Row.{RowTo, row_next}
 use Rattle.octseq_bgp.specs.Composed.{header_octets, long_after, message_octets}
 use Rattle.octseq_bgp.specs.Family.{afi_of}
 use Rattle.octseq_bgp.specs.Fills.{Fills, Whole}
-use Rattle.octseq_bgp.specs.Message.{IsHeader, IsMessage, IsShortEnough, Message}
+use Rattle.octseq_bgp.specs.Message.{IsBody, IsHeader, IsMessage, IsShortEnough, Message}
 use Rattle.octseq_bgp.specs.MessageType as message_type
 use Rattle.octseq_bgp.specs.Parts.{Attribute, IsAttribute, IsCounted, IsNumber, IsPathPrefix, IsPrefix}
 use Rattle.octseq_bgp.specs.Prefix.{AreNlri, ArePrefixes, Nlri, most_bits, path_nlri, plain_nlri}
@@ -38,16 +38,16 @@ use Rattle.octseq_bgp.proofs.Composing.{header_parts}
 
 -- ---- what is left of a window, and how many octets this is
 
-abbrev exact : Window → List ℕ × ℕ
+abbrev pub exact : Window → List ℕ × ℕ
 exact w = (rest w, left w)
 
-abbrev IsExact : List ℕ × ℕ → Type 0
+abbrev pub IsExact : List ℕ × ℕ → Type 0
 IsExact said = said.1 ≡ length said.0
 
-abbrev all_of : List ℕ → List ℕ × ℕ
+abbrev pub all_of : List ℕ → List ℕ × ℕ
 all_of octets = (octets, length octets)
 
-exact_read_back : IsReadBack IsRest exact (λ said. said.0) IsExact
+pub exact_read_back : IsReadBack IsRest exact (λ said. said.0) IsExact
 exact_read_back = record {
   back = λ w said fits is all.
       let many : left w ≡ length said.0 = omega (arith, all) in
@@ -61,7 +61,7 @@ exact_read_back = record {
 -- ---- rows
 
 -- values whose octets are all that a window has left fill it
-fills : {A S : Type 0} {Is : Relation A} {says : A → S} {octets : S → List ℕ} {Fits : S → Type 0}
+pub fills : {A S : Type 0} {Is : Relation A} {says : A → S} {octets : S → List ℕ} {Fits : S → Type 0}
     → IsDelimited Is says octets Fits → (w : Window) (said : List S) → AllByRecursion Fits said
     → exact w ≡ all_of (flat_map octets said) → (row : List A) × Fills Is w row × (map says row ≡ said)
 fills {Is = Is} {says} {octets} {Fits} delimited w said fits is =
@@ -118,7 +118,7 @@ unfolding both_octets octets_be
 written_as length kind body = sym (header_parts length kind body)
 
 -- the body of a message, where its header is read
-header_read : (kind : ℕ) (body : List ℕ) → kind < 256 → 19 + length body ≤ 65535
+pub header_read : (kind : ℕ) (body : List ℕ) → kind < 256 → 19 + length body ≤ 65535
     → (b : Window) × IsHeader (whole (message_octets kind body)) (length (message_octets kind body), (kind, b))
     × (exact b ≡ all_of body)
 unfolding both_say
@@ -151,20 +151,21 @@ header_read kind body small few =
 
 -- ---- the parts of an UPDATE
 
-counted_exact : IsDelimited (IsCounted 2) exact (counted_octets 2 0 (λ said. said.0)) (CountFits 2 0 (λ said. said.0) IsExact)
-counted_exact = delimited_counted exact_read_back
+pub counted_exact : (k : ℕ) → IsDelimited (IsCounted k) exact (counted_octets k 0 (λ said. said.0))
+    (CountFits k 0 (λ said. said.0) IsExact)
+counted_exact k = delimited_counted exact_read_back
 
 parts_back : IsReadBack IsUpdateParts (exact and exact and exact)
     (counted_octets 2 0 (λ said. said.0) before counted_octets 2 0 (λ said. said.0) before (λ said. said.0))
     (CountFits 2 0 (λ said. said.0) IsExact also CountFits 2 0 (λ said. said.0) IsExact also IsExact)
-parts_back = counted_exact back_then counted_exact back_then exact_read_back
+parts_back = counted_exact 2 back_then counted_exact 2 back_then exact_read_back
 
-counted_is : (o : List ℕ) → length o < 65536
-    → CountFits 2 0 (λ said. said.0) IsExact (all_of o) × (part_of 2 o ≡ counted_octets 2 0 (λ said. said.0) (all_of o))
-counted_is o few =
+pub counted_is : (k : ℕ) (o : List ℕ) → length o < 256 ^ k
+    → CountFits k 0 (λ said. said.0) IsExact (all_of o) × (part_of k o ≡ counted_octets k 0 (λ said. said.0) (all_of o))
+counted_is k o few =
     let same = zero-add (length o) in (
-      record { tag_fits = omega (arith, few); inside = record { inside = refl; many = refl } },
-      ap (λ n. octets_be 2 n ++ o) (sym same),
+      record { tag_fits = subst (λ n. n < 256 ^ k) (sym same) few; inside = record { inside = refl; many = refl } },
+      ap (λ n. octets_be k n ++ o) (sym same),
     )
 
 -- the parts of a window that has a body left
@@ -173,8 +174,8 @@ parts_read : (w a n : List ℕ) (b : Window) → exact b ≡ all_of (body_octets
     × (exact parts.1.0 ≡ all_of a) × (exact parts.1.1 ≡ all_of n)
 unfolding both_say both_octets
 parts_read w a n b is few less =
-    let first = counted_is w few in
-    let second = counted_is a less in
+    let first = counted_is 2 w few in
+    let second = counted_is 2 a less in
     let body = body_octets w a n in
     let said : (List ℕ × ℕ) × ((List ℕ × ℕ) × (List ℕ × ℕ)) = (all_of w, (all_of a, all_of n)) in
     let octets = counted_octets 2 0 (λ said. said.0) (all_of w) ++ (counted_octets 2 0 (λ said. said.0) (all_of a) ++ n) in
@@ -190,6 +191,27 @@ parts_read w a n b is few less =
       ap (λ t. t.0) taken.tells,
       ap (λ t. t.1.0) taken.tells,
       ap (λ t. t.1.1) taken.tells,
+    )
+
+-- ---- a message
+
+-- a value that is read of a body makes a message
+pub message_read : {V : Type 0} {s : SessionConfig} {Says : V → Type 0} (make : V → Message) (kind : ℕ) (body : List ℕ)
+    → kind < 256 → 19 + length body ≤ 65535 → IsShortEnough s kind (19 + length body)
+    → ((b : Window) → exact b ≡ all_of body → (it : V) × IsBody s b kind (make it) × Says it)
+    → (it : V) × IsMessage s (message_octets kind body) (make it) × Says it
+message_read {s = s} make kind body small few short reads =
+    let header = header_read kind body small few in
+    let read = reads header.0 header.2 in (
+      read.0,
+      record {
+        kind = kind;
+        body = header.0;
+        header = header.1;
+        short = subst (IsShortEnough s kind) (sym (long_after (19 + length body) kind body)) short;
+        is = read.1;
+      },
+      read.2,
     )
 
 -- ---- an UPDATE
@@ -209,39 +231,32 @@ update_read_back s u fits =
     let all = update_long u in
     let body = update_body u in
     let count = long_after (19 + length body) message_type.update body in
-    let header = header_read message_type.update body (omega arith) (omega (arith, short, most, count)) in
-    let parts = parts_read (prefixes_octets u.withdrawn) (attributes_octets u.attributes) (prefixes_octets u.announced)
-    header.0 header.2 (omega (arith, short, most, all)) (omega (arith, short, most, all)) in
+    let few : 19 + length body ≤ longest s = omega (arith, short, count) in
+    message_read Message.update message_type.update body (omega arith) (omega (arith, most, few))
+    (short_enough s (19 + length body) few) (λ b same.
+    let parts = parts_read (prefixes_octets u.withdrawn) (attributes_octets u.attributes) (prefixes_octets u.announced) b
+    same (omega (arith, short, most, all)) (omega (arith, short, most, all)) in
     let paths = adds_path s.add_path family.Ipv4Unicast in
     let withdrawn = nlri_fill paths addresses.Ipv4 parts.0.0 u.withdrawn fits.withdrawn parts.2 in
     let attributes = fills delimited_attribute parts.0.1.0 u.attributes fits.attributes parts.3 in
-    let announced = nlri_fill paths addresses.Ipv4 parts.0.1.1 u.announced fits.announced parts.4 in
-    let read : Update = record {
-      session = s;
-      withdrawn = withdrawn.0;
-      attributes = attributes.0;
-      announced = announced.0;
-    } in (
-      read,
-      record {
-        kind = message_type.update;
-        body = header.0;
-        header = header.1;
-        short = short_enough s (length (update_octets u)) short;
-        is = (
-          refl,
-          record {
-            parts = parts.0;
-            are = parts.1;
-            of_session = refl;
-            withdrawn = withdrawn.1;
-            attributes = attributes.1;
-            announced = announced.1;
-          },
-        );
-      },
-      ap (λ w. record { withdrawn = w; attributes = map attribute_says read.attributes; announced = map nlri_says read.announced })
-          withdrawn.2
-          ∙ ap (λ a. record { withdrawn = u.withdrawn; attributes = a; announced = map nlri_says read.announced }) attributes.2
+    let announced = nlri_fill paths addresses.Ipv4 parts.0.1.1 u.announced fits.announced parts.4 in (
+      record { session = s; withdrawn = withdrawn.0; attributes = attributes.0; announced = announced.0 },
+      (
+        refl,
+        record {
+          parts = parts.0;
+          are = parts.1;
+          of_session = refl;
+          withdrawn = withdrawn.1;
+          attributes = attributes.1;
+          announced = announced.1;
+        },
+      ),
+      ap (λ w. record {
+        withdrawn = w;
+        attributes = map attribute_says attributes.0;
+        announced = map nlri_says announced.0;
+      }) withdrawn.2
+          ∙ ap (λ a. record { withdrawn = u.withdrawn; attributes = a; announced = map nlri_says announced.0 }) attributes.2
           ∙ ap (λ n. record { withdrawn = u.withdrawn; attributes = u.attributes; announced = n }) announced.2,
-    )
+    ))

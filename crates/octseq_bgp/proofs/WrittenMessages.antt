@@ -6,14 +6,15 @@ use Rattle.std.specs.Prelude.{◌↔◌, slice_index}
 use Rattle.octseq.specs.Integer.{be, octets_be}
 use Rattle.octseq.specs.Limit.{IsPast}
 use Rattle.octseq.proofs.Written.{length_be, value_be}
-use Rattle.octseq_bgp.specs.WrittenMessage.{IsWritten, limit_of, message_octets, with_length}
+use Rattle.octseq_bgp.specs.Composed.{header_octets, message_octets}
+use Rattle.octseq_bgp.specs.WrittenMessage.{IsWritten, limit_of, with_length}
 use Rattle.octseq_bgp.specs.WrittenNotification.{WrittenNotification, notification_octets, notification_in, with_data}
 use Rattle.octseq_bgp.specs.WrittenRouteRefresh.{WrittenRouteRefresh, FitsRouteRefresh, route_refresh_octets}
 use Rattle.octseq_bgp.specs.WrittenRouteRefresh.{route_refresh_in, with_orf}
 
 -- a header has 19 octets
 pub length_message : (kind : ℕ) (body : List ℕ) → length (message_octets kind body) ≡ 19 + length body
-unfolding message_octets octets_be
+unfolding header_octets octets_be
 length_message kind body = omega arith
 
 -- its length is written over two octets
@@ -40,7 +41,7 @@ length_sized octets some =
 -- octets after a message are a part of it, once its length is written
 pub message_more : (kind : ℕ) (body more : List ℕ)
     → with_length (message_octets kind body ++ more) ≡ message_octets kind (body ++ more)
-unfolding message_octets with_length octets_be
+unfolding header_octets with_length octets_be
 message_more kind body more =
     let all : length (message_octets kind body ++ more) ≡ 19 + length (body ++ more) = omega arith in
     ap (λ n. replicate 16 255 ++ (octets_be 2 n ++ kind ∷ (body ++ more))) all
@@ -105,7 +106,7 @@ module _ {M : Type 0} {octets : M → List ℕ} {Fits : M → Type 0} {found : L
 -- ---- NOTIFICATION
 
 pub notification_grows : Grows notification_octets (λ _. Unit {0}) notification_in with_data
-unfolding message_octets octets_be
+unfolding header_octets octets_be
 notification_grows = record {
   back = λ n _. refl;
   grown = λ n slice. message_more 3 (n.code ∷ n.subcode ∷ n.«data») slice;
@@ -117,7 +118,7 @@ notification_grows = record {
 -- ---- ROUTE-REFRESH
 
 pub route_refresh_grows : Grows route_refresh_octets FitsRouteRefresh route_refresh_in with_orf
-unfolding message_octets octets_be
+unfolding header_octets octets_be
 route_refresh_grows = record {
   back = λ r fits.
       ap (λ afi. record { afi = afi; subtype = r.subtype; safi = r.safi; orf = r.orf }) (value_be 2 r.afi fits);

@@ -10,10 +10,11 @@ use Rattle.octseq.specs.Integer.{octets_be}
 use Rattle.octseq.specs.Limit.{IsWithin}
 use Rattle.octseq.specs.declared.error.WriteError.{WriteError}
 use Rattle.octseq_format.specs.Row.{row_octets}
+use Rattle.octseq_bgp.specs.Composed.{header_octets, message_octets}
 use Rattle.octseq_bgp.specs.OneOpen.{same_open}
 use Rattle.octseq_bgp.specs.Open.{length_octets}
 use Rattle.octseq_bgp.specs.WrittenCapability.{WrittenCapability, capability_octets, written_code, written_value}
-use Rattle.octseq_bgp.specs.WrittenMessage.{limit_of, message_octets, with_length}
+use Rattle.octseq_bgp.specs.WrittenMessage.{limit_of, with_length}
 use Rattle.octseq_bgp.specs.WrittenOpen.{AppendsParameter, CanFollow, FitsOpen, FitsParameter, HasRoom, HoldsOpen, IsOpenWritten}
 use Rattle.octseq_bgp.specs.WrittenOpen.{PushesParameter, WrittenOpen}
 use Rattle.octseq_bgp.specs.WrittenOpen.{Room, WrittenParameter, apart_at, bare_open, front_len, is_apart, lengths, most_parameters}
@@ -29,7 +30,7 @@ body_of long o ps = numbers_octets o ++ (lengths long (length ps) ++ ps)
 -- an OPEN has so many octets more than its parameters
 long_body : (long : Bool) (o : WrittenOpen) (ps : List ℕ)
     → length (message_octets 1 (body_of long o ps)) ≡ front_len long + length ps
-unfolding message_octets octets_be
+unfolding header_octets octets_be
 long_body true o ps = omega arith
 long_body false o ps = omega arith
 
@@ -38,7 +39,7 @@ length_open o ps = long_body o.long o ps
 
 body_more : (long : Bool) (o : WrittenOpen) (ps more : List ℕ)
     → with_lengths long (message_octets 1 (body_of long o ps) ++ more) ≡ message_octets 1 (body_of long o (ps ++ more))
-unfolding with_lengths message_octets octets_be
+unfolding with_lengths header_octets octets_be
 body_more true o ps more =
     let old = message_octets 1 (body_of true o ps) in
     let long = long_body true o ps in

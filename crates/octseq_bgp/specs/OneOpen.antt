@@ -15,10 +15,10 @@ use Rattle.octseq_format.specs.Laws.{IsDelimited, IsMoving, moving_of}
 use Rattle.octseq_format.specs.Pair.{◌also◌, ◌and◌, ◌before◌, ◌delimited_then◌, ◌onward_then◌, both_octets, both_say}
 use Rattle.octseq_format.specs.Rest.{IsRest, rest_read_back}
 use Rattle.octseq_format.specs.Row.{each_once, one_to, row_octets, to_read_back}
+use Rattle.octseq_bgp.specs.Composed.{header_octets, message_octets}
 use Rattle.octseq_bgp.specs.OneParts.{one_tlv}
 use Rattle.octseq_bgp.specs.Parts.{IsTlv}
-use Rattle.octseq_bgp.specs.Open.{length_octets}
-use Rattle.octseq_bgp.specs.WrittenMessage.{message_octets}
+use Rattle.octseq_bgp.specs.Open.{Open, length_octets}
 use Rattle.octseq_bgp.specs.WrittenOpen.{FitsOpen, FitsParameter, HoldsOpen, IsOpenWritten, WrittenOpen, WrittenParameter}
 use Rattle.octseq_bgp.specs.WrittenOpen.{front_len, is_apart, lengths, most_parameters, numbers_octets, open_octets}
 use Rattle.octseq_bgp.specs.WrittenOpen.{parameter_octets, parameters_octets}
@@ -50,20 +50,20 @@ written_once long octets o a b i = record {
 -- ---- its parts are found in its octets
 
 asn_in : (o : WrittenOpen) → o.my_asn < 65536 → be (take 2 (drop 20 (open_octets o))) ≡ o.my_asn
-unfolding message_octets octets_be
+unfolding header_octets octets_be
 asn_in o fits = value_be 2 o.my_asn fits
 
 hold_in : (o : WrittenOpen) → o.holdtime < 65536 → be (take 2 (drop 22 (open_octets o))) ≡ o.holdtime
-unfolding message_octets octets_be
+unfolding header_octets octets_be
 hold_in o fits = value_be 2 o.holdtime fits
 
 id_in : (o : WrittenOpen) → o.identifier < 4294967296 → be (take 4 (drop 24 (open_octets o))) ≡ o.identifier
-unfolding message_octets octets_be
+unfolding header_octets octets_be
 id_in o fits = value_be 4 o.identifier fits
 
 dropped : (long : Bool) (o : WrittenOpen) (ps : List ℕ)
     → drop (front_len long) (message_octets 1 (numbers_octets o ++ (lengths long (length ps) ++ ps))) ≡ ps
-unfolding message_octets octets_be
+unfolding header_octets octets_be
 dropped true o ps = refl
 dropped false o ps = refl
 
@@ -75,6 +75,16 @@ parameters_in o = dropped o.long o (parameters_octets o.long o.parameters)
 -- what a parameter that was read says
 abbrev pub says_parameter : ℕ × Window → WrittenParameter
 says_parameter it = (it.0, rest it.1)
+
+-- what an OPEN that was read in the long form or the short one says
+abbrev pub open_says : Bool → Open → WrittenOpen
+open_says long o = record {
+  long = long;
+  my_asn = o.my_asn;
+  holdtime = o.holdtime;
+  identifier = o.identifier;
+  parameters = map says_parameter o.parameters;
+}
 
 raw_parameter : (k : ℕ) → IsDelimited (IsTlv k) ((λ n. n) and rest) (octets_be 1 before counted_octets k 0 (λ o. o))
     ((λ n. n < 256) also CountFits k 0 (λ o. o) (λ _. Unit {0}))

@@ -1,11 +1,8 @@
 -- A message to be written: its header, and what follows it: RFC 4271, 4.1, and RFC 8654 for the maximum length.
-use Rattle.std.specs.Prelude.{◌≡◌, ℕ, ◌+◌, ◌≤◌, Bool, if◌then◌else◌, Option, Some, None, List, [], ◌∷◌, ◌++◌, length, take}
-use Rattle.std.specs.Prelude.{drop, min, replicate}
+use Rattle.std.specs.Prelude.{◌≡◌, ℕ, ◌+◌, ◌≤◌, Bool, if◌then◌else◌, Option, Some, None, List, [], ◌++◌, length, take}
+use Rattle.std.specs.Prelude.{drop, min}
 use Rattle.octseq.specs.Integer.{octets_be}
-
--- 16 octets of 255, the length of the message, its type, and what follows
-unfoldable pub message_octets : ℕ → List ℕ → List ℕ
-message_octets kind body = replicate 16 255 ++ (octets_be 2 (19 + length body) ++ kind ∷ body)
+use Rattle.octseq_bgp.specs.Composed.{message_octets}
 
 -- the maximum length of a message: 4,096 octets, or 65,535 if it may be extended
 abbrev pub longest : Bool → ℕ

@@ -1,6 +1,8 @@
 -- A NOTIFICATION to be written: RFC 4271, 4.5, and RFC 9003 for shutdown communications.
 use Rattle.std.specs.Prelude.{ℕ, List, ◌∷◌, ◌++◌, length, drop, slice_index}
-use Rattle.octseq_bgp.specs.WrittenMessage.{IsWritten, message_octets}
+use Rattle.octseq_bgp.specs.Composed.{message_octets}
+use Rattle.octseq.specs.Window.{Window, rest}
+use Rattle.octseq_bgp.specs.WrittenMessage.{IsWritten}
 
 -- A code, a subcode and data.
 pub record WrittenNotification : Type 0 where
@@ -29,3 +31,7 @@ notification_in octets = record {
 
 abbrev pub IsNotificationWritten : ℕ → List ℕ → Type 0
 IsNotificationWritten = IsWritten notification_octets (λ _. Unit {0}) notification_in
+
+-- what a NOTIFICATION that was read says
+abbrev pub notification_says : ℕ × (ℕ × Window) → WrittenNotification
+notification_says it = record { code = it.0; subcode = it.1.0; «data» = rest it.1.1 }

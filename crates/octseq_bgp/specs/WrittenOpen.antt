@@ -7,8 +7,9 @@ use Rattle.octseq.specs.Limit.{IsWithin}
 use Rattle.octseq.specs.Refusal.{IsMalformed, IsMemory, IsShort, write_error}
 use Rattle.octseq.specs.declared.error.WriteError.{WriteError}
 use Rattle.octseq_format.specs.Row.{row_octets}
+use Rattle.octseq_bgp.specs.Composed.{message_octets}
 use Rattle.octseq_bgp.specs.Open.{length_octets}
-use Rattle.octseq_bgp.specs.WrittenMessage.{limit_of, message_octets, with_length}
+use Rattle.octseq_bgp.specs.WrittenMessage.{limit_of, with_length}
 
 -- A parameter: its type, and its octets.
 abbrev pub WrittenParameter : Type 0

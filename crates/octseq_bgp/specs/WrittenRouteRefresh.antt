@@ -1,7 +1,9 @@
 -- A ROUTE-REFRESH to be written: RFC 2918, 3, RFC 7313, 3.2, and RFC 5291, 4.
 use Rattle.std.specs.Prelude.{ℕ, ◌<◌, List, ◌∷◌, ◌++◌, take, drop, slice_index}
 use Rattle.octseq.specs.Integer.{be, octets_be}
-use Rattle.octseq_bgp.specs.WrittenMessage.{IsWritten, message_octets}
+use Rattle.octseq.specs.Window.{Window, rest}
+use Rattle.octseq_bgp.specs.Composed.{message_octets}
+use Rattle.octseq_bgp.specs.WrittenMessage.{IsWritten}
 
 -- AFI, subtype, SAFI, and the octets that follow.
 pub record WrittenRouteRefresh : Type 0 where
@@ -32,3 +34,7 @@ FitsRouteRefresh r = r.afi < 65536
 
 abbrev pub IsRouteRefreshWritten : ℕ → List ℕ → Type 0
 IsRouteRefreshWritten = IsWritten route_refresh_octets FitsRouteRefresh route_refresh_in
+
+-- what a ROUTE-REFRESH that was read says
+abbrev pub route_refresh_says : ℕ × (ℕ × (ℕ × Window)) → WrittenRouteRefresh
+route_refresh_says it = record { afi = it.0; subtype = it.1.0; safi = it.1.1.0; orf = rest it.1.1.1 }

@@ -1,6 +1,6 @@
 //! Laws for callers. Each is the contract of a function that does nothing: calling it brings the law into the caller's
 //! proof.
-ghost use Rattle.std.specs.Prelude.{◌≡◌, ◌+◌, ◌++◌, Bool, ℕ, List, Some, length};
+ghost use Rattle.std.specs.Prelude.{◌≡◌, ◌+◌, ◌<◌, ◌≤◌, ◌++◌, Bool, ℕ, List, Some, length};
 ghost use Rattle.octseq.specs.Code.{HasFront};
 ghost use Rattle.octseq.specs.Window.{Window, rest};
 ghost use Rattle.octseq_format.specs.Canonical.{AreOctets};
@@ -10,6 +10,8 @@ ghost use Rattle.octseq_bgp.specs.Handling.{IsHandling};
 ghost use Rattle.octseq_bgp.specs.Message as said;
 ghost use Rattle.octseq_bgp.specs.Message.{IsMessage};
 ghost use Rattle.octseq_bgp.specs.MessageText.{IsMessageText};
+ghost use Rattle.octseq_bgp.specs.OneOpen.{open_says};
+ghost use Rattle.octseq_bgp.specs.Open.{Open};
 ghost use Rattle.octseq_bgp.specs.Parts.{octets_of_bits};
 ghost use Rattle.octseq_bgp.specs.PrefixValue.{address_from, address_of};
 ghost use Rattle.octseq_bgp.specs.ReadWritten.{update_says};
@@ -18,6 +20,10 @@ ghost use Rattle.octseq_bgp.specs.Stream.{IsFramed, IsMisframed};
 ghost use Rattle.octseq_bgp.specs.Update.{Update};
 ghost use Rattle.octseq_bgp.specs.Value.{Value, HasForm, IsValue};
 ghost use Rattle.octseq_bgp.specs.Written.{WrittenUpdate, UpdateFits, update_octets};
+ghost use Rattle.octseq_bgp.specs.WrittenMessage.{keepalive_octets, longest};
+ghost use Rattle.octseq_bgp.specs.WrittenNotification.{WrittenNotification, notification_octets, notification_says};
+ghost use Rattle.octseq_bgp.specs.WrittenOpen.{FitsOpen, WrittenOpen, open_octets};
+ghost use Rattle.octseq_bgp.specs.WrittenRouteRefresh.{WrittenRouteRefresh, route_refresh_octets, route_refresh_says};
 ghost use Rattle.octseq_bgp.specs.WrittenValue.{WrittenValue, FitsForm, says_value, value_octets, value_type};
 ghost use Rattle.octseq_bgp.specs.declared.session.SessionConfig.{SessionConfig as Session};
 
@@ -104,6 +110,34 @@ pub fn written_values_are_read()
 pub fn updates_are_read_back()
     ensures { (session : Session) (u : WrittenUpdate) → UpdateFits session u
         → (read : Update) × IsMessage session (update_octets u) (said.Message.update read) × (update_says read ≡ u) }
+{}
+
+/// The octets of an OPEN that was written are read as it, of version 4, under any session.
+pub fn opens_are_read_back()
+    ensures { (session : Session) (o : WrittenOpen) → FitsOpen o
+        → (read : Open) × IsMessage session (open_octets o) (said.Message.opens read)
+        × (read.version ≡ 4) × (open_says o.long read ≡ o) }
+{}
+
+/// The octets of a NOTIFICATION that was written are read as it, under the same session.
+pub fn notifications_are_read_back()
+    ensures { (session : Session) (n : WrittenNotification) → n.code < 256 → n.subcode < 256
+        → length (notification_octets n) ≤ longest session.extended_message
+        → (read : ℕ × (ℕ × Window)) × IsMessage session (notification_octets n) (said.Message.notification read)
+        × (notification_says read ≡ n) }
+{}
+
+/// The octets of a KEEPALIVE are read as one, under any session.
+pub fn keepalives_are_read_back()
+    ensures { (session : Session) → IsMessage session keepalive_octets said.Message.keepalive }
+{}
+
+/// The octets of a ROUTE-REFRESH that was written are read as it, under the same session.
+pub fn route_refreshes_are_read_back()
+    ensures { (session : Session) (r : WrittenRouteRefresh) → r.afi < 65536 → r.subtype < 256 → r.safi < 256
+        → length (route_refresh_octets r) ≤ longest session.extended_message
+        → (read : ℕ × (ℕ × (ℕ × Window))) × IsMessage session (route_refresh_octets r) (said.Message.route_refresh read)
+        × (route_refresh_says read ≡ r) }
 {}
 
 /// The octets of a prefix that was written have the address that was given, with the bits after its length cleared.

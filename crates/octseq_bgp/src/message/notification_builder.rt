@@ -34,7 +34,7 @@ impl<B: AsOctets> Model for NotificationBuilder<B> {
 }
 
 /// Returns the octets of a NOTIFICATION without data.
-#[tactic(auto, using(octseq::proofs::Written::written_2), unfolding(crate::specs::WrittenMessage::message_octets))]
+#[tactic(auto, using(octseq::proofs::Written::written_2), unfolding(crate::specs::Composed::header_octets))]
 fn front(code: u8, subcode: u8) -> [u8; 21]
     ensures { result ≡ notification_octets (record { code = code; subcode = subcode; «data» = [] }) }
 {

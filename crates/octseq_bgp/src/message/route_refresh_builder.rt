@@ -32,7 +32,7 @@ impl<B: AsOctets> Model for RouteRefreshBuilder<B> {
 }
 
 /// Returns the octets of a ROUTE-REFRESH with nothing after its SAFI.
-#[tactic(auto, using(octseq::proofs::Written::written_2), unfolding(crate::specs::WrittenMessage::message_octets))]
+#[tactic(auto, using(octseq::proofs::Written::written_2), unfolding(crate::specs::Composed::header_octets))]
 fn front(afi: u16, subtype: u8, safi: u8) -> [u8; 23]
     ensures { result ≡ route_refresh_octets (record { afi = afi; subtype = subtype; safi = safi; orf = [] }) }
 {
