@@ -21,7 +21,6 @@ pub mod OneCapability
 pub mod OneMessage
 pub mod PathsBack
 pub mod Prefixes
-pub mod PrefixesBack
 pub mod Pushes
 pub mod ReachBack
 pub mod ReadBack

@@ -15,15 +15,15 @@ use Rattle.octseq_bgp.specs.Fills.{Whole}
 use Rattle.octseq_bgp.specs.NextHop.{AreOctets, IsNextHop}
 use Rattle.octseq_bgp.specs.Session.{adds_path}
 use Rattle.octseq_bgp.specs.Value.{IsReach, IsReachFront, IsUnreach, IsUnreachFront, Reach, Unreach}
-use Rattle.octseq_bgp.specs.WrittenPrefix.{prefix_octets}
-use Rattle.octseq_bgp.specs.WrittenValue.{FitPrefixes, FitsHop, FitsIn, WrittenReach, WrittenUnreach, hop_octets}
+use Rattle.octseq_bgp.specs.Written.{hop_octets, prefix_octets}
+use Rattle.octseq_bgp.specs.WrittenValue.{FitPrefixes, FitsHop, FitsIn, WrittenReach, WrittenUnreach}
 use Rattle.octseq_bgp.specs.WrittenValue.{reach_octets, says_reach, unreach_octets, says_unreach}
 use Rattle.octseq_bgp.specs.declared.attribute.next_hop.NextHop.{NextHop}
 use Rattle.octseq_bgp.specs.declared.attribute.next_hop.NextHop.TheVariants as hop
 use Rattle.octseq_bgp.specs.declared.family.AfiSafiType.{AfiSafiType}
 use Rattle.octseq_bgp.specs.declared.family.AfiSafiType.TheVariants as family
 use Rattle.octseq_bgp.specs.declared.session.SessionConfig.{SessionConfig}
-use Rattle.octseq_bgp.proofs.PrefixesBack.{prefixes_back}
+use Rattle.octseq_bgp.proofs.ReadBack.{nlri_back}
 use Rattle.octseq_bgp.proofs.WholesBack.{HasAll, IsExtent, extent, extent_back, extent_of, extent_octets, has_extent}
 use Rattle.octseq_bgp.proofs.WholesBack.{counted_is, whole_back}
 
@@ -131,17 +131,17 @@ reach_back s w r hop prefixes all =
     let tells = front.1 in
     let hops = has_extent it.1.1.0 (hop_octets r.next_hop) (ap (λ (e : Front). e.1.1.0) tells) in
     let rest = has_extent it.1.1.1.1 (row_octets prefix_octets r.prefixes) (ap (λ (e : Front). e.1.1.1.1) tells) in
-    let found = prefixes_back (adds_path s.add_path f) (afi_of f) it.1.1.1.1 r.prefixes prefixes rest in
+    let found = nlri_back (adds_path s.add_path f) (afi_of f) it.1.1.1.1 r.prefixes prefixes rest in
     let named = same_pair (ap (λ (e : Front). e.0) tells) (same_pair (ap (λ (e : Front). e.1.0) tells) refl) in (
       record { family = f; next_hop = r.next_hop; prefixes = found.0 },
-      ap (λ row. record { family = f; next_hop = r.next_hop; prefixes = row }) found.1,
+      ap (λ row. record { family = f; next_hop = r.next_hop; prefixes = row }) found.2,
       record {
         next_hops = it.1.1.0;
         reserved = it.1.1.1.0;
         rest = it.1.1.1.1;
         front = subst (Whole IsReachFront w) named front.2;
         next_hop = hop_back f it.1.1.0 r.next_hop hop hops;
-        prefixes = found.2;
+        prefixes = found.1;
       },
     )
 
@@ -165,9 +165,9 @@ unreach_back s w r prefixes all =
     let it = front.0 in
     let tells = front.1 in
     let rest = has_extent it.1.1 octets (ap (λ (e : Short). e.1.1) tells) in
-    let found = prefixes_back (adds_path s.add_path f) (afi_of f) it.1.1 r.prefixes prefixes rest in
+    let found = nlri_back (adds_path s.add_path f) (afi_of f) it.1.1 r.prefixes prefixes rest in
     let named = same_pair (ap (λ (e : Short). e.0) tells) (same_pair (ap (λ (e : Short). e.1.0) tells) refl) in (
       record { family = f; prefixes = found.0 },
-      ap (λ row. record { family = f; prefixes = row }) found.1,
-      record { rest = it.1.1; front = subst (Whole IsUnreachFront w) named front.2; prefixes = found.2 },
+      ap (λ row. record { family = f; prefixes = row }) found.2,
+      record { rest = it.1.1; front = subst (Whole IsUnreachFront w) named front.2; prefixes = found.1 },
     )

@@ -61,6 +61,5 @@ pub mod WrittenMessage
 pub mod WrittenNotification
 pub mod WrittenOpen
 pub mod WrittenPath
-pub mod WrittenPrefix
 pub mod WrittenRouteRefresh
 pub mod WrittenValue

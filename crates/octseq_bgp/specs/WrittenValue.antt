@@ -10,7 +10,9 @@ use Rattle.octseq_bgp.specs.Path.{asn_size}
 use Rattle.octseq_bgp.specs.Session.{adds_path}
 use Rattle.octseq_bgp.specs.Value.{Reach, Unreach, Value}
 use Rattle.octseq_bgp.specs.WrittenPath.{WrittenSegment, path_octets, FitsPath, says_path}
-use Rattle.octseq_bgp.specs.WrittenPrefix.{WrittenPrefix, prefix_octets, FitsPrefix, says_nlri}
+use Rattle.octseq_bgp.specs.Prefix.{most_bits}
+use Rattle.octseq_bgp.specs.ReadWritten.{nlri_says}
+use Rattle.octseq_bgp.specs.Written.{PrefixFits, WrittenPrefix, hop_octets, prefix_octets}
 use Rattle.octseq_bgp.specs.declared.attribute.attribute_type.AttributeType.{AttributeType}
 use Rattle.octseq_bgp.specs.declared.attribute.attribute_type.AttributeType.TheVariants as kind
 use Rattle.octseq_bgp.specs.declared.attribute.next_hop.NextHop.{NextHop}
@@ -69,12 +71,6 @@ value_type (WrittenValue.large_communities row) = kind.LargeCommunities
 
 -- ---- its octets
 
--- the octets of next hops
-abbrev pub hop_octets : NextHop → List ℕ
-hop_octets (hop.Ipv4 a) = a
-hop_octets (hop.Ipv6 a) = a
-hop_octets (hop.Ipv6LinkLocal a b) = a ++ b
-
 -- AFI, SAFI, next hops after their length, a reserved octet, and the prefixes: RFC 4760, 3
 abbrev pub reach_octets : WrittenReach → List ℕ
 reach_octets r = octets_be 2 (afi_number r.family) ++ (octets_be 1 (safi_number r.family)
@@ -119,7 +115,7 @@ FitsHop f (hop.Ipv6LinkLocal a b) = (length a ≡ 16) × (length b ≡ 16)
 
 -- prefixes of a family
 abbrev pub FitPrefixes : SessionConfig → AfiSafiType → List WrittenPrefix → Type 0
-FitPrefixes s family row = AllByRecursion (FitsPrefix (adds_path s.add_path family) (afi_of family)) row
+FitPrefixes s family row = AllByRecursion (PrefixFits (most_bits (afi_of family)) (adds_path s.add_path family)) row
 
 -- an AS number that fits k octets, and an address
 abbrev pub FitsAggregator : ℕ → ℕ × ℕ → Type 0
@@ -160,10 +156,10 @@ pub record FitsValue (s : SessionConfig) (v : WrittenValue) : Type 0 where
 -- ---- what a value that was read says, unless it is opaque
 
 abbrev pub says_reach : Reach → WrittenReach
-says_reach r = record { family = r.family; next_hop = r.next_hop; prefixes = map says_nlri r.prefixes }
+says_reach r = record { family = r.family; next_hop = r.next_hop; prefixes = map nlri_says r.prefixes }
 
 abbrev pub says_unreach : Unreach → WrittenUnreach
-says_unreach r = record { family = r.family; prefixes = map says_nlri r.prefixes }
+says_unreach r = record { family = r.family; prefixes = map nlri_says r.prefixes }
 
 abbrev pub says_value : Value → Option WrittenValue
 says_value (Value.origin n) = Some (WrittenValue.origin n)
