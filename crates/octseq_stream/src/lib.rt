@@ -9,4 +9,4 @@ pub mod writer;
 
 pub use framing::{Framing, frames_are_apart, misframed_begins_none, one_stream};
 pub use reader::{FrameError, FrameReader, read_frame};
-pub use writer::{WriteFrameError, write_frame};
+pub use writer::{WriteFrameError, write_frame, write_octets};

@@ -65,8 +65,12 @@ pub fn write_frame<W: Write>(writer: &mut W, octets: &[u8]) -> Result<(), WriteF
     Ok(())
 }
 
-/// Writes all the octets. What was written before a failure stays.
-fn write_octets<W: Write>(writer: &mut W, octets: &[u8]) -> io::Result<()>
+/// Writes all the octets.
+///
+/// # Errors
+///
+/// Those of a write, but for one that was interrupted, which is tried again. A front of the octets may then be written.
+pub fn write_octets<W: Write>(writer: &mut W, octets: &[u8]) -> io::Result<()>
     ensures ok { OnOk result (Appends (W.contents writer.old) (W.contents writer.new) octets.now) }
     ensures front { (front : List ℕ) × IsFront front octets.now
         × Appends (W.contents writer.old) (W.contents writer.new) front }
