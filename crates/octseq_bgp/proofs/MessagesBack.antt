@@ -1,6 +1,7 @@
 -- OPENs, NOTIFICATIONs, KEEPALIVEs and ROUTE-REFRESHs that were written are read back.
 use Rattle.std.proofs.Common.{◌≡◌, ℕ, ◌+◌, ◌<◌, ◌≤◌, ◌^◌, inl, inr, Bool, true, false, not, nat_eq, List, [], ◌∷◌, ◌++◌}
-use Rattle.std.proofs.Common.{refl, sym, ap, ◌∙◌, subst, arith, append_assoc, if◌then◌else◌, length, map}
+use Rattle.std.proofs.Common.{refl, sym, ap, ◌∙◌, subst, arith, append_assoc, length, map}
+use Rattle.std.proofs.lemmas.Bool.{false≢true}
 use Rattle.std.proofs.lemmas.List.Concat.{flat_map-cons}
 use Rattle.std.specs.List.{AllByRecursion}
 use Rattle.octseq.specs.Integer.{be, octets_be}
@@ -159,7 +160,7 @@ not_long : (said : List WrittenParameter) (w : Window) → AllByRecursion (FitsP
     → is_apart false said ≡ true → length (parameters_octets false said) ≤ 255
     → HasAll w (part_of 1 (parameters_octets false said)) → ¬ IsLong w
 unfolding both_say both_octets octets_be
-not_long [] w fits apart few has (two, _) =
+not_long [] w fits apart few has (two, _, _) =
     let many = none_left w (part_of 1 (parameters_octets false [])) has in
     omega (arith, two, many)
 not_long (p ∷ row) w fits apart few has (_, _, mark) =
@@ -175,8 +176,7 @@ not_long (p ∷ row) w fits apart few has (_, _, mark) =
     let is = read.2.1 in
     let kind : p.0 ≡ 255 =
     sym (ap (λ r. r.1.0) read.1) ∙ is.2.1.1 ∙ ap (λ u. be (next 1 u)) is.1.2 ∙ mark in
-    let told : if not (nat_eq p.0 255) then Unit {0} else ⊥ = subst (λ b. if b then Unit {0} else ⊥) (sym apart) tt in
-    subst (λ k. if not (nat_eq k 255) then Unit {0} else ⊥) kind told
+    false≢true (ap (λ k. not (nat_eq k 255)) (sym kind) ∙ apart)
 
 short_read : (said : List WrittenParameter) (w : Window) → AllByRecursion (FitsParameter false) said
     → is_apart false said ≡ true → length (parameters_octets false said) ≤ 255
@@ -196,7 +196,7 @@ parameters_read true said w fits apart few has = long_read said w fits few has
 parameters_read false said w fits apart few has = short_read said w fits apart few has
 
 pub open_read : (s : SessionConfig) (o : WrittenOpen) → FitsOpen o
-    → (it : Open) × IsMessage s (open_octets o) (Message.opens it) × (it.version ≡ 4) × (open_says o.long it ≡ o)
+    → (it : Open) × IsMessage s (open_octets o) (Message.opens it) × ((it.version ≡ 4) × (open_says o.long it ≡ o))
 unfolding both_say both_octets
 open_read s o fits =
     let ps = parameters_octets o.long o.parameters in
@@ -205,7 +205,8 @@ open_read s o fits =
     let short = fits.short in
     let count = long_after (19 + length body) 1 body in
     let few : 19 + length body ≤ 4096 = omega (arith, short, count) in
-    message_read Message.opens 1 body (omega arith) (omega (arith, few)) (inl few) (λ b has.
+    message_read {s = s} {Says = λ x. (x.version ≡ 4) × (open_says o.long x ≡ o)} Message.opens 1 body (omega arith)
+    (omega (arith, few)) (inl few) (λ b has.
     let read = read_as front_back b (4, (o.my_asn, (o.holdtime, (o.identifier, extent_of tail)))) body (record {
       first = omega arith;
       second = record {

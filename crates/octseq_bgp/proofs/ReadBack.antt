@@ -35,6 +35,8 @@ use Rattle.octseq_bgp.specs.declared.family.Afi.TheVariants as addresses
 use Rattle.octseq_bgp.specs.declared.family.AfiSafiType.TheVariants as family
 use Rattle.octseq_bgp.specs.declared.session.SessionConfig.{SessionConfig}
 use Rattle.octseq_bgp.proofs.Composing.{header_parts}
+use Rattle.octseq_bgp.proofs.WholesBack.{HasAll, IsExtent, counted_is, extent, extent_back, extent_of, extent_octets, fills_back}
+use Rattle.octseq_bgp.proofs.WholesBack.{has_extent, whole_back}
 
 -- ---- prefixes
 
@@ -101,7 +103,7 @@ header_read kind body small few =
       };
     } in
     let all : HasAll (whole octets) (header_written said) =
-    subst (HasAll (whole octets)) (sym same) (record { are = rest_after [] octets; end = refl }) in
+    subst (HasAll (whole octets)) (sym same) (record { are = rest_after [] octets; end = sym (zero-add (length octets)) }) in
     let taken = whole_back header_back (whole octets) said fits all in
     let b = taken.0.1.1.1 in
     let tells = taken.1 in

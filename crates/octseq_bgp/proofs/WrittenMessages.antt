@@ -44,7 +44,7 @@ pub message_more : (kind : ℕ) (body more : List ℕ)
 unfolding header_octets with_length octets_be
 message_more kind body more =
     let all : length (message_octets kind body ++ more) ≡ 19 + length (body ++ more) = omega arith in
-    ap (λ n. replicate 16 255 ++ (octets_be 2 n ++ kind ∷ (body ++ more))) all
+    ap (λ n. replicate 16 255 ++ (octets_be 2 n ++ (octets_be 1 kind ++ (body ++ more)))) all
 
 -- the same limit of another number
 pub same_past : {Says : Type 0} (limit : Option ℕ) {m n : ℕ} → m ≡ n → (Says ↔ IsPast limit m)

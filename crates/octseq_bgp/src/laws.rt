@@ -116,7 +116,7 @@ pub fn updates_are_read_back()
 pub fn opens_are_read_back()
     ensures { (session : Session) (o : WrittenOpen) → FitsOpen o
         → (read : Open) × IsMessage session (open_octets o) (said.Message.opens read)
-        × (read.version ≡ 4) × (open_says o.long read ≡ o) }
+        × ((read.version ≡ 4) × (open_says o.long read ≡ o)) }
 {}
 
 /// The octets of a NOTIFICATION that was written are read as it, under the same session.

@@ -7,7 +7,7 @@ ghost use Rattle.octseq_bgp.specs.Fills.{Counts, TakesFirst};
 ghost use Rattle.octseq_bgp.specs.Parts.{IsPathPrefix, IsPrefix, octets_of_bits};
 ghost use Rattle.octseq_bgp.specs.Prefix as said;
 ghost use Rattle.octseq_bgp.specs.Prefix.{AreAhead, ArePrefixes, ahead_once, most_bits};
-ghost use Rattle.octseq_bgp.specs.PrefixValue.{bits_after, cleared, address_of};
+ghost use Rattle.octseq_bgp.specs.PrefixValue.{cleared, address_of};
 
 use crate::family::{Afi, AfiSafiType};
 use crate::key_octet::KeyOctet;
@@ -303,39 +303,18 @@ pub(crate) fn clear(octet: u8, bits: usize) -> u8
     }
 }
 
-/// Returns how many bits of the octet at `index` come after the first `bits` bits.
-fn bits_after(bits: u8, index: usize) -> usize
-    requires { index < 16 }
-    ensures { result ≡ bits_after bits index }
-{
-    let end = 8 * (index + 1);
-    let begin = usize::from(bits);
-    if end <= begin {
-        return 0;
-    }
-    if end - begin < 8 { end - begin } else { 8 }
-}
-
-/// Returns the octet at `index` of the address whose first `bits` bits are in `octets`.
-fn octet_of(octets: &[u8], bits: u8, index: usize) -> u8
-    requires { index < 16 }
-    ensures { result ≡ cleared (bits_after bits index) (slice_index octets.now index) }
-{
-    if index < octets.len() {
-        clear(octets[index], bits_after(bits, index))
-    } else {
-        0
-    }
-}
-
 /// Returns the address whose first `bits` bits are in `octets`.
 fn address_of(octets: &[u8], bits: u8) -> [u8; 16]
     ensures { result ≡ address_of bits octets.now }
 {
     let mut address = [0; 16];
     let len = octets.len().min(16);
-    for i in 0..len {
-        address[i] = octet_of(octets, bits, i);
+    let full = usize::from(bits / 8).min(len);
+    for i in 0..full {
+        address[i] = octets[i];
+    }
+    if full < len {
+        address[full] = clear(octets[full], 8 - usize::from(bits % 8));
     }
     address
 }
