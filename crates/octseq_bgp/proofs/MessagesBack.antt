@@ -6,7 +6,7 @@ use Rattle.std.proofs.lemmas.List.Concat.{flat_map-cons}
 use Rattle.std.specs.List.{AllByRecursion}
 use Rattle.octseq.specs.Integer.{be, octets_be}
 use Rattle.octseq.specs.Part.{part_of}
-use Rattle.octseq.specs.Window.{Window, left, next, past}
+use Rattle.octseq.specs.Window.{Window, next, past}
 use Rattle.octseq_format.specs.Counted.{CountFits, counted_octets}
 use Rattle.octseq_format.specs.Fixed.{delimited_fixed}
 use Rattle.octseq_format.specs.Integers.{are_be}

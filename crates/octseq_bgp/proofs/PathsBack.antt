@@ -1,10 +1,10 @@
 -- Segments of AS paths are read back.
-use Rattle.std.proofs.Common.{◌≡◌, ℕ, ◌+◌, ◌*◌, ◌^◌, ◌<◌, ◌≤◌, Bool, true, false, List, [], ◌∷◌, ◌++◌, length, map, take}
+use Rattle.std.proofs.Common.{◌≡◌, ℕ, ◌*◌, ◌^◌, ◌<◌, ◌≤◌, Bool, true, false, List, [], ◌∷◌, ◌++◌, length, take}
 use Rattle.std.proofs.Common.{drop, refl, ap, sym, ◌∙◌, subst, arith, length-append}
 use Rattle.std.proofs.lemmas.List.Concat.{flat_map-cons}
 use Rattle.std.specs.List.{AllByRecursion}
 use Rattle.octseq.specs.Integer.{be, octets_be}
-use Rattle.octseq.specs.Window.{Window, rest, past}
+use Rattle.octseq.specs.Window.{rest, past}
 use Rattle.octseq.proofs.Written.{length_be, value_be}
 use Rattle.octseq_format.specs.Family.{SizedFit, WhenFits, delimited_sized, delimited_when}
 use Rattle.octseq_format.specs.Fixed.{delimited_fixed}
@@ -14,7 +14,7 @@ use Rattle.octseq_format.specs.Laws.{IsDelimited}
 use Rattle.octseq_format.specs.Pair.{◌also◌, both_octets, both_say, ◌and◌, ◌before◌, ◌delimited_then◌, same_pair}
 use Rattle.octseq_format.specs.Rest.{rest_read_back}
 use Rattle.octseq_format.specs.Row.{row_octets}
-use Rattle.octseq_format.specs.Scaled.{Scales, ScaledFit, delimited_scaled}
+use Rattle.octseq_format.specs.Scaled.{ScaledFit, delimited_scaled}
 use Rattle.octseq_format.specs.Where.{WhereFits, delimited_where}
 use Rattle.octseq_bgp.specs.ItemOctets.{take_front, drop_front}
 use Rattle.octseq_bgp.specs.Parts.{IsNumber, IsSegment, IsSegmentType, Segment}

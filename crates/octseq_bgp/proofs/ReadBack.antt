@@ -1,33 +1,30 @@
 -- What was written is read back.
-use Rattle.std.proofs.Common.{◌≡◌, ℕ, ◌+◌, ◌-◌, ◌*◌, ◌^◌, ◌<◌, ◌≤◌, ◌⊎◌, inl, inr, Bool, true, false, List, [], ◌∷◌, ◌++◌, length, map}
-use Rattle.std.proofs.Common.{refl, sym, ap, ◌∙◌, subst, arith, append-nil, replicate, zero-add}
-use Rattle.std.specs.List.{AllByRecursion, flat_map}
-use Rattle.octseq.specs.Integer.{be, octets_be}
+use Rattle.std.proofs.Common.{◌≡◌, ℕ, ◌+◌, ◌^◌, ◌<◌, ◌≤◌, inl, inr, Bool, true, false, List, [], ◌∷◌, ◌++◌, length, map}
+use Rattle.std.proofs.Common.{refl, sym, ap, ◌∙◌, subst, arith, zero-add}
+use Rattle.std.specs.List.{AllByRecursion}
+use Rattle.octseq.specs.Integer.{octets_be}
 use Rattle.octseq.specs.Part.{part_of}
-use Rattle.octseq.specs.Window.{Window, left, past, rest, whole}
+use Rattle.octseq.specs.Window.{Window, whole}
 use Rattle.octseq.proofs.WindowsAfter.{rest_after}
 use Rattle.octseq_format.specs.Counted.{counted_octets, CountFits, delimited_counted}
 use Rattle.octseq_format.specs.Fixed.{delimited_fixed}
 use Rattle.octseq_format.specs.Integers.{are_be}
-use Rattle.octseq_format.specs.Laws.{Relation, Takes, IsReadBack, IsDelimited}
+use Rattle.octseq_format.specs.Laws.{Relation, IsReadBack, IsDelimited}
 use Rattle.octseq_format.specs.Pair.{both_say, both_octets, same_pair, ◌back_then◌, ◌then◌, ◌also◌, ◌and◌, ◌before◌}
 use Rattle.octseq_format.specs.Rest.{IsRest}
-use Rattle.octseq_format.specs.Row.{RowTo, row_next}
 use Rattle.octseq_bgp.specs.Composed.{header_octets, long_after, message_octets}
-use Rattle.octseq_bgp.specs.Family.{afi_of}
-use Rattle.octseq_bgp.specs.Fills.{Fills, Whole}
+use Rattle.octseq_bgp.specs.Fills.{Whole}
 use Rattle.octseq_bgp.specs.Message.{IsBody, IsHeader, IsMessage, IsShortEnough, Message}
 use Rattle.octseq_bgp.specs.MessageType as message_type
-use Rattle.octseq_bgp.specs.Parts.{Attribute, IsAttribute, IsCounted, IsNumber, IsPathPrefix, IsPrefix}
-use Rattle.octseq_bgp.specs.Prefix.{AreNlri, ArePrefixes, Nlri, most_bits, path_nlri, plain_nlri}
-use Rattle.octseq_bgp.specs.ReadWritten.{attribute_says, counted, delimited_attribute, delimited_path, delimited_plain}
+use Rattle.octseq_bgp.specs.Parts.{IsCounted, IsNumber}
+use Rattle.octseq_bgp.specs.Prefix.{AreNlri, Nlri, most_bits, path_nlri, plain_nlri}
+use Rattle.octseq_bgp.specs.ReadWritten.{attribute_says, delimited_attribute, delimited_path, delimited_plain}
 use Rattle.octseq_bgp.specs.ReadWritten.{nlri_says, path_says, plain_says, update_says}
 use Rattle.octseq_bgp.specs.Session.{adds_path}
-use Rattle.octseq_bgp.specs.Update.{IsUpdate, IsUpdateParts, Update}
-use Rattle.octseq_bgp.specs.Written.{AttributeFits, PrefixFits, UpdateFits, WrittenAttribute, WrittenPrefix, WrittenUpdate}
-use Rattle.octseq_bgp.specs.Written.{attribute_octets, attributes_octets, body_octets, longest, prefix_octets}
+use Rattle.octseq_bgp.specs.Update.{IsUpdateParts, Update}
+use Rattle.octseq_bgp.specs.Written.{PrefixFits, UpdateFits, WrittenPrefix, WrittenUpdate}
+use Rattle.octseq_bgp.specs.Written.{attributes_octets, body_octets, longest}
 use Rattle.octseq_bgp.specs.Written.{prefixes_octets, update_body, update_octets}
-use Rattle.octseq_bgp.proofs.UpdateParts.{body_long}
 use Rattle.octseq_bgp.proofs.Updates.{longest_most, update_long}
 use Rattle.std.specs.Prelude.{if◌then◌else◌}
 use Rattle.octseq_bgp.specs.declared.family.Afi.{Afi}

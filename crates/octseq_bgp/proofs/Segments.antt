@@ -1,5 +1,5 @@
 -- The octets of segments are few.
-use Rattle.std.proofs.Common.{◌≡◌, ℕ, ◌+◌, ◌*◌, ◌^◌, ◌<◌, ◌≤◌, Bool, true, false, List, ◌++◌, length, length-append, arith}
+use Rattle.std.proofs.Common.{◌≡◌, ◌+◌, ◌^◌, ◌<◌, Bool, true, false, ◌++◌, length, length-append, arith}
 use Rattle.octseq.specs.Integer.{octets_be}
 use Rattle.octseq.proofs.Written.{length_be}
 use Rattle.octseq_bgp.specs.PartRow.{FitRow}

@@ -1,15 +1,15 @@
 -- Messages that grow.
-use Rattle.std.proofs.Common.{◌≡◌, ℕ, ◌+◌, ◌<◌, ◌≤◌, Option, Some, None, List, [], ◌∷◌, ◌++◌, length, take, drop, replicate}
+use Rattle.std.proofs.Common.{◌≡◌, ℕ, ◌+◌, ◌≤◌, Option, List, ◌∷◌, ◌++◌, length, take, drop, replicate}
 use Rattle.std.proofs.Common.{refl, ap, sym, ◌∙◌, subst, arith, length-append}
 use Rattle.std.proofs.Common.{length-drop, length-take}
-use Rattle.std.specs.Prelude.{◌↔◌, slice_index}
-use Rattle.octseq.specs.Integer.{be, octets_be}
+use Rattle.std.specs.Prelude.{◌↔◌}
+use Rattle.octseq.specs.Integer.{octets_be}
 use Rattle.octseq.specs.Limit.{IsPast}
 use Rattle.octseq.proofs.Written.{length_be, value_be}
 use Rattle.octseq_bgp.specs.Composed.{header_octets, message_octets}
-use Rattle.octseq_bgp.specs.WrittenMessage.{IsWritten, limit_of, with_length}
-use Rattle.octseq_bgp.specs.WrittenNotification.{WrittenNotification, notification_octets, notification_in, with_data}
-use Rattle.octseq_bgp.specs.WrittenRouteRefresh.{WrittenRouteRefresh, FitsRouteRefresh, route_refresh_octets}
+use Rattle.octseq_bgp.specs.WrittenMessage.{IsWritten, with_length}
+use Rattle.octseq_bgp.specs.WrittenNotification.{notification_octets, notification_in, with_data}
+use Rattle.octseq_bgp.specs.WrittenRouteRefresh.{FitsRouteRefresh, route_refresh_octets}
 use Rattle.octseq_bgp.specs.WrittenRouteRefresh.{route_refresh_in, with_orf}
 
 -- a header has 19 octets

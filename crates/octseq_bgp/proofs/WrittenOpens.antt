@@ -1,15 +1,14 @@
 -- OPENs that get another parameter.
-use Rattle.std.proofs.Common.{◌≡◌, ℕ, ◌+◌, ◌-◌, ◌<◌, ◌≤◌, ◌^◌, Bool, true, false, Option, Some, None, List, [], ◌∷◌, ◌++◌}
+use Rattle.std.proofs.Common.{◌≡◌, ℕ, ◌+◌, ◌-◌, ◌<◌, ◌≤◌, Bool, true, false, Option, Some, None, List, [], ◌∷◌, ◌++◌}
 use Rattle.std.proofs.Common.{Fits, w8, length, take, drop, refl, ap, sym, ◌∙◌, subst, arith, length-append, append-nil}
 use Rattle.std.proofs.lemmas.Grind.{flat_map-append}
 use Rattle.std.proofs.lemmas.List.Concat.{flat_map-cons}
-use Rattle.std.specs.List.{AllByRecursion, flat_map}
-use Rattle.std.specs.Prelude.{◌↔◌, min, Result, Ok, Err}
+use Rattle.std.specs.List.{AllByRecursion}
+use Rattle.std.specs.Prelude.{◌↔◌, Result, Ok, Err}
 use Rattle.octseq.proofs.Written.{length_be, made_be_1}
 use Rattle.octseq.specs.Integer.{octets_be}
 use Rattle.octseq.specs.Limit.{IsWithin}
 use Rattle.octseq.specs.declared.error.WriteError.{WriteError}
-use Rattle.octseq_format.specs.Row.{row_octets}
 use Rattle.octseq_bgp.specs.Composed.{header_octets, message_octets}
 use Rattle.octseq_bgp.specs.OneOpen.{same_open}
 use Rattle.octseq_bgp.specs.Open.{length_octets}
@@ -17,10 +16,10 @@ use Rattle.octseq_bgp.specs.WrittenCapability.{WrittenCapability, capability_oct
 use Rattle.octseq_bgp.specs.WrittenMessage.{limit_of, with_length}
 use Rattle.octseq_bgp.specs.WrittenOpen.{AppendsParameter, CanFollow, FitsOpen, FitsParameter, HasRoom, HoldsOpen, IsOpenWritten}
 use Rattle.octseq_bgp.specs.WrittenOpen.{PushesParameter, WrittenOpen}
-use Rattle.octseq_bgp.specs.WrittenOpen.{Room, WrittenParameter, apart_at, bare_open, front_len, is_apart, lengths, most_parameters}
+use Rattle.octseq_bgp.specs.WrittenOpen.{Room, WrittenParameter, apart_at, bare_open, front_len, is_apart, lengths}
 use Rattle.octseq_bgp.specs.WrittenOpen.{numbers_octets, open_octets, open_with, parameter_octets, parameters_octets}
 use Rattle.octseq_bgp.specs.WrittenOpen.{with_lengths, with_parameter}
-use Rattle.octseq_bgp.proofs.WrittenMessages.{length_message, message_more}
+use Rattle.octseq_bgp.proofs.WrittenMessages.{message_more}
 
 -- ---- octets
 

@@ -1,7 +1,7 @@
 -- The octets of items of three numbers: large communities (RFC 8092, 3), and address families with flags (RFC 4724, 3,
 -- and RFC 7911, 4).
 use Rattle.std.specs.Prelude.{◌≡◌, ℕ, suc, ◌+◌, ◌<◌, ◌^◌, List, ◌++◌, length, take, drop}
-use Rattle.std.proofs.Common.{ap, sym, ◌∙◌, subst, arith, length-append, length-take, length-drop}
+use Rattle.std.proofs.Common.{ap, sym, ◌∙◌, subst, arith, length-append, length-drop}
 use Rattle.std.proofs.Math.Seq.{take-length, take-append_seam, drop-append_seam}
 use Rattle.std.proofs.lemmas.List.{drop-drop, length-take-le, take-append-drop}
 use Rattle.std.specs.Coded.{×_prop, le_prop}

@@ -1,5 +1,5 @@
 -- What a capability to write says.
-use Rattle.std.specs.Prelude.{ℕ, List, map}
+use Rattle.std.specs.Prelude.{map}
 use Rattle.octseq_bgp.specs.TupleOf.{tuple_of}
 use Rattle.octseq_bgp.specs.WrittenCapability.{WrittenCapability}
 use Rattle.octseq_bgp.specs.declared.capability.compose.NewCapability.{NewCapability}

@@ -1,7 +1,7 @@
 -- Octets are at most one OPEN that was written.
-use Rattle.std.specs.Prelude.{◌≡◌, ℕ, ◌+◌, ◌<◌, ◌≤◌, ◌^◌, Bool, true, false, List, [], ◌∷◌, ◌++◌, length, take, drop, map, refl}
+use Rattle.std.specs.Prelude.{◌≡◌, ℕ, ◌+◌, ◌<◌, ◌^◌, Bool, true, false, List, ◌++◌, length, take, drop, map, refl}
 use Rattle.std.proofs.Common.{suc, ap, sym, subst, ◌∙◌, arith}
-use Rattle.std.specs.Coded.{Coded, Coded-set, code_by, coded_bool, coded_list, coded×, coded_ℕ, le_prop}
+use Rattle.std.specs.Coded.{Coded-set, coded_bool, coded_list, coded_ℕ, le_prop}
 use Rattle.std.specs.List.{AllByRecursion}
 use mathlib.Core.HLevel.{Σ_prop_path}
 use Rattle.octseq.proofs.Written.{value_be}
@@ -14,7 +14,7 @@ use Rattle.octseq_format.specs.Integers.{are_be}
 use Rattle.octseq_format.specs.Laws.{IsDelimited, IsMoving, moving_of}
 use Rattle.octseq_format.specs.Pair.{◌also◌, ◌and◌, ◌before◌, ◌delimited_then◌, ◌onward_then◌, both_octets, both_say}
 use Rattle.octseq_format.specs.Rest.{IsRest, rest_read_back}
-use Rattle.octseq_format.specs.Row.{each_once, one_to, row_octets, to_read_back}
+use Rattle.octseq_format.specs.Row.{each_once, one_to, to_read_back}
 use Rattle.octseq_bgp.specs.Composed.{header_octets, message_octets}
 use Rattle.octseq_bgp.specs.OneParts.{one_tlv}
 use Rattle.octseq_bgp.specs.Parts.{IsTlv}

@@ -1,12 +1,11 @@
 -- Capabilities to be written, and their octets: RFC 5492, 4, and the RFC of each code.
-use Rattle.std.specs.Prelude.{ℕ, ◌<◌, ◌≤◌, ◌^◌, List, [], ◌∷◌, ◌++◌, length, Option, Some, None}
+use Rattle.std.specs.Prelude.{ℕ, ◌<◌, ◌≤◌, ◌^◌, List, [], ◌++◌, length, Option, Some, None}
 use Rattle.std.specs.List.{AllByRecursion}
 use Rattle.octseq.specs.Integer.{octets_be}
 use Rattle.octseq_format.specs.Row.{row_octets}
 use Rattle.octseq_bgp.specs.Capability.{ArePaths, CapabilityValue, Restart}
 use Rattle.octseq_bgp.specs.CapabilityType.{code_number}
 use Rattle.octseq_bgp.specs.ItemOctets.{FitsTuple, tuple_octets}
-use Rattle.octseq_bgp.specs.declared.capability.capability_type.CapabilityType.{CapabilityType}
 use Rattle.octseq_bgp.specs.declared.capability.capability_type.CapabilityType.TheVariants as code
 
 -- A capability: AFI, a reserved octet, and SAFI; nothing more; sixteen bits, and families with flags; an AS number;

@@ -1,5 +1,5 @@
 -- A message to be written: its header, and what follows it: RFC 4271, 4.1, and RFC 8654 for the maximum length.
-use Rattle.std.specs.Prelude.{◌≡◌, ℕ, ◌+◌, ◌≤◌, Bool, if◌then◌else◌, Option, Some, None, List, [], ◌++◌, length, take}
+use Rattle.std.specs.Prelude.{◌≡◌, ℕ, ◌≤◌, Bool, if◌then◌else◌, Option, Some, None, List, [], ◌++◌, length, take}
 use Rattle.std.specs.Prelude.{drop, min}
 use Rattle.octseq.specs.Integer.{octets_be}
 use Rattle.octseq_bgp.specs.Composed.{message_octets}

@@ -13,7 +13,7 @@ pub trait Part {
 
 /// The withdrawn routes.
 #[derive(Clone, Copy, Debug)]
-pub enum Withdrawn {}
+pub struct Withdrawn;
 
 impl Part for Withdrawn {
     ghost use Rattle.octseq_bgp.specs.Writing.{UpToWithdrawn};
@@ -23,7 +23,7 @@ impl Part for Withdrawn {
 
 /// The path attributes.
 #[derive(Clone, Copy, Debug)]
-pub enum Attributes {}
+pub struct Attributes;
 
 impl Part for Attributes {
     ghost use Rattle.octseq_bgp.specs.Writing.{UpToAttributes};
@@ -33,7 +33,7 @@ impl Part for Attributes {
 
 /// The announced prefixes.
 #[derive(Clone, Copy, Debug)]
-pub enum Announced {}
+pub struct Announced;
 
 impl Part for Announced {
     ghost use Rattle.octseq_bgp.specs.Writing.{UpToAnnounced};

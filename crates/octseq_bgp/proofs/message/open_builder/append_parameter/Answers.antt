@@ -1,4 +1,4 @@
-use Rattle.std.proofs.Common.{◌≡◌, ℕ, ◌+◌, ◌++◌, true, false, length, length-append, refl, ap, subst, ◌∙◌, arith}
+use Rattle.std.proofs.Common.{◌≡◌, true, false, length, length-append, refl, ap, subst, ◌∙◌, arith}
 use Rattle.std.specs.Prelude.{◌↔◌, IsTrue}
 use Rattle.octseq_bgp.specs.WrittenOpen.{front_len, parameter_octets, parameters_octets, with_lengths}
 use Rattle.octseq_bgp.proofs.WrittenOpens.{appended, can_follow, has_more, length_open, refused_malformed, refused_memory}

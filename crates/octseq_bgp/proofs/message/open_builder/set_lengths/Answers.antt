@@ -1,4 +1,4 @@
-use Rattle.std.proofs.Common.{ℕ, ◌-◌, ap, sym, ◌∙◌, Fits, w8, length, arith}
+use Rattle.std.proofs.Common.{◌-◌, ap, sym, ◌∙◌, Fits, w8, arith}
 use Rattle.octseq.proofs.Written.{made_be_2}
 use Rattle.octseq_bgp.specs.WrittenOpen.{front_len, most_parameters, with_lengths}
 use Rattle.octseq_bgp.proofs.WrittenOpens.{over_long, over_short}

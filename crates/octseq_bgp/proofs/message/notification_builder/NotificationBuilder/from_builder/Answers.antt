@@ -1,5 +1,4 @@
-use Rattle.std.proofs.Common.{◌≡◌, ℕ, [], ◌∷◌, ◌++◌, ap, length, ◌∙◌, arith}
-use Rattle.octseq.specs.Integer.{octets_be}
+use Rattle.std.proofs.Common.{◌≡◌, [], ◌∷◌, ap, length, ◌∙◌, arith}
 use Rattle.octseq_bgp.specs.WrittenNotification.{WrittenNotification}
 use Rattle.octseq_bgp.proofs.WrittenMessages.{notification_grows, found_is, is_written, length_message}
 use Rattle.octseq_bgp.proofs.message.notification_builder.NotificationBuilder.from_builder.Goals as goal

@@ -1,4 +1,4 @@
-use Rattle.std.proofs.Common.{◌≡◌, ℕ, [], ◌∷◌, ◌++◌, ap, length, ◌∙◌, arith}
+use Rattle.std.proofs.Common.{◌≡◌, [], ◌∷◌, ◌++◌, ap, length, ◌∙◌, arith}
 use Rattle.octseq.specs.Integer.{octets_be}
 use Rattle.octseq_bgp.specs.WrittenRouteRefresh.{WrittenRouteRefresh}
 use Rattle.octseq_bgp.proofs.WrittenMessages.{route_refresh_grows, found_is, is_written, length_message}
