@@ -17,6 +17,7 @@ use octseq::{AppendError, AsOctets, OctetsBuilder, Truncate};
 use std::marker::{Model, PhantomData};
 
 mod attributes;
+mod fill;
 mod front;
 mod head;
 mod octets;
