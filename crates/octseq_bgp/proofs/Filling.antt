@@ -1,11 +1,12 @@
 -- Messages that are filled with prefixes.
 use Rattle.std.proofs.Common.{◌≡◌, ℕ, zero, suc, ◌+◌, ◌<◌, ◌≤◌, Bool, Option, Ok, Err, List, [], ◌∷◌, ◌++◌, length}
-use Rattle.std.proofs.Common.{take, drop, map, refl, sym, ap, ◌∙◌, subst, arith, append_assoc, length-append, take-take, take_all}
+use Rattle.std.proofs.Common.{take, drop, map, refl, sym, ap, ◌∙◌, subst, arith, append_assoc, append-nil, length-append}
+use Rattle.std.proofs.Common.{Result, take_all}
 use Rattle.std.specs.List.{AllByRecursion, sum_by}
 use Rattle.std.proofs.Math.Decide.{dec_le}
 use Rattle.std.proofs.Math.Nat.{lt_of_not-le}
 use Rattle.std.proofs.lemmas.Grind.{flat_map-append}
-use Rattle.std.proofs.lemmas.List.{map-append}
+use Rattle.std.proofs.lemmas.List.{map-append, take-take}
 use Rattle.std.proofs.lemmas.List.Concat.{length-flat_map}
 use Rattle.std.proofs.lemmas.List.Folds.{flat_map-map}
 use Rattle.std.proofs.lemmas.List.Sums.{sum_by-take-le, sum_by-take-drop}
@@ -13,12 +14,13 @@ use Rattle.octseq.specs.Refusal.{Refusal, Is, write_error}
 use Rattle.octseq.specs.declared.error.WriteError.{WriteError}
 use Rattle.octseq.specs.declared.error.WriteError.TheVariants.{Short}
 use Rattle.octseq_bgp.specs.Composed.{least}
-use Rattle.octseq_bgp.specs.Filling.{AreFilled, ArePushed, AreRuns, FillsMessage, FitWith, Given, IsMost, given, given_long}
+use Rattle.octseq_bgp.specs.Filling.{ArePushed, FillsMessage, FitWith, Given, given, given_long}
 use Rattle.octseq_bgp.specs.Filling.{with_announced, with_withdrawn}
 use Rattle.octseq_bgp.specs.Writing.{Pushes, Writing, more_announced, more_withdrawn}
-use Rattle.octseq_bgp.specs.Written.{WrittenPrefix, WrittenUpdate, longest, prefix_octets, prefixes_octets, update_octets}
+use Rattle.octseq_bgp.specs.Written.{IsPrefixOf, WrittenPrefix, WrittenUpdate, longest, prefix_octets, prefixes_octets}
+use Rattle.octseq_bgp.specs.Written.{update_octets}
+use Rattle.octseq_bgp.specs.declared.family.AfiSafiType.TheVariants as family
 use Rattle.octseq_bgp.proofs.Pushes.{all_more}
-use Rattle.octseq_bgp.proofs.Runs.{fewest, none_empty}
 use Rattle.octseq_bgp.proofs.Updates.{update_long}
 
 -- ---- what a call that fills a message does
@@ -239,3 +241,28 @@ pub next_announced : (u : WrittenUpdate) (row : List Given) (p : Given)
     → more_announced (with_announced u row) (given p) ≡ with_announced u (row ++ p ∷ [])
 next_announced u row p = ap (λ n. record u { announced = n })
     (append_assoc u.announced (map given row) (given p ∷ []) ∙ ap (λ n. u.announced ++ n) (sym (map-append given row (p ∷ []))))
+
+-- nothing more
+pub no_withdrawn : (u : WrittenUpdate) → u ≡ with_withdrawn u []
+no_withdrawn u = ap (λ w. record u { withdrawn = w }) (sym (append-nil u.withdrawn))
+
+pub no_announced : (u : WrittenUpdate) → u ≡ with_announced u []
+no_announced u = ap (λ n. record u { announced = n }) (sym (append-nil u.announced))
+
+-- a push of the next prefix
+pub step : {B : Type 0} {limit : Option ℕ} {asks : Bool} {most : ℕ} {row : List Given} {old now next : Writing B} {n : ℕ}
+    (result : Result (Unit {0}) WriteError) (x : Given) (one : WrittenUpdate → WrittenPrefix → WrittenUpdate)
+    (more : List Given → WrittenUpdate) → ((done : List Given) (p : Given) → one (more done) (given p) ≡ more (done ++ p ∷ []))
+    → ArePut (λ p. IsPrefixOf old.session family.Ipv4Unicast p.0 p.1) more row most old now n
+    → take (n + 1) row ≡ take n row ++ x ∷ []
+    → Pushes limit asks (IsPrefixOf now.session family.Ipv4Unicast x.0 x.1) result (one now.update (given x)) now.open_list
+    now next
+    → Pushes limit asks (IsPrefixOf old.session family.Ipv4Unicast x.0 x.1) result (more (take (n + 1) row)) now.open_list
+    now next
+step {limit = limit} {asks = asks} {row = row} {now = now} {next = next} {n = n} result x one more another are is pushed =
+    let wanted : one now.update (given x) ≡ more (take (n + 1) row) =
+    ap (λ u. one u (given x)) are.update ∙ another (take n row) x ∙ ap more (sym is) in
+    subst (λ s. Pushes limit asks (IsPrefixOf s family.Ipv4Unicast x.0 x.1) result (more (take (n + 1) row)) now.open_list
+    now next) are.session
+    (subst (λ w. Pushes limit asks (IsPrefixOf now.session family.Ipv4Unicast x.0 x.1) result w now.open_list now next)
+    wanted pushed)

@@ -38,9 +38,9 @@ module _ {A : Type 0} (Fits : List A → Type 0) where
       let others = flat_map (λ run. run) runs in
       let far = reaches after row run others n k filled.1 fit.0 left (dec_le (length run) k) in
       let next : drop (k + n - length run) others ≡ drop n row =
-          sym (drop-append-add run others (k + n - length run))
-          ∙ ap (λ i. drop i (run ++ others)) (omega (arith, far))
-          ∙ sym (drop-drop n k (run ++ others)) ∙ ap (drop n) left in
+      sym (drop-append-add run others (k + n - length run))
+      ∙ ap (λ i. drop i (run ++ others)) (omega (arith, far))
+      ∙ sym (drop-drop n k (run ++ others)) ∙ ap (drop n) left in
       let rest = fewest_from after (drop n row) counts runs (k + n - length run) filled.2 fit.1 next in
       omega (arith, rest)
 

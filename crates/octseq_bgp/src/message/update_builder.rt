@@ -25,6 +25,7 @@ pub mod part;
 mod prefix_octets;
 mod prefixes;
 mod reach;
+mod values;
 
 /// An UPDATE that is written up to a part. Contracts see the builder of its octets, the session, what it says, and which
 /// list of prefixes can be continued.

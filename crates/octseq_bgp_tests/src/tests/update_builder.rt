@@ -428,10 +428,7 @@ fn many_prefixes(rt: &(impl AllocGlobal + Abort)) -> Vec<(Prefix, Option<PathId>
 }
 
 /// Announces prefixes in as few messages as they need, all with the same attributes, and returns their lengths.
-fn announce(
-    rt: &(impl AllocGlobal + Abort),
-    prefixes: &[(Prefix, Option<PathId>)],
-) -> Vec<usize> {
+fn announce(rt: &(impl AllocGlobal + Abort), prefixes: &[(Prefix, Option<PathId>)]) -> Vec<usize> {
     let mut lens = Vec::new(rt.alloc());
     let mut left = prefixes;
     for _ in 0..prefixes.len() {

@@ -48,7 +48,8 @@ impl<B: OctetsBuilder + Truncate + AsOctetsMut> UpdateBuilder<B, Withdrawn> {
             match self.push_withdrawn(prefix, *path_id) {
                 Ok(()) => withdrawn += 1,
                 Err(WriteError::Short) => return Ok(withdrawn),
-                Err(error) => return Err(error),
+                Err(WriteError::Malformed) => return Err(WriteError::Malformed),
+                Err(WriteError::Memory) => return Err(WriteError::Memory),
             }
         }
         Ok(withdrawn)
@@ -78,7 +79,8 @@ impl<B: OctetsBuilder + Truncate + AsOctetsMut> UpdateBuilder<B, Announced> {
             match self.push_announced(prefix, *path_id) {
                 Ok(()) => announced += 1,
                 Err(WriteError::Short) => return Ok(announced),
-                Err(error) => return Err(error),
+                Err(WriteError::Malformed) => return Err(WriteError::Malformed),
+                Err(WriteError::Memory) => return Err(WriteError::Memory),
             }
         }
         Ok(announced)

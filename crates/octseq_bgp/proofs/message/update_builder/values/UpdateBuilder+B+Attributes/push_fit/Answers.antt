@@ -7,7 +7,7 @@ use Rattle.octseq_bgp.proofs.Attributes.{none_announced, typed_many, value_wante
 use Rattle.octseq_bgp.proofs.Composing.{least_most}
 use Rattle.octseq_bgp.proofs.Pushes.{none_held, pushes_err, pushes_ok, put_held}
 use Rattle.octseq_bgp.proofs.Updates.{held_long}
-use Rattle.octseq_bgp.proofs.message.update_builder.attributes.UpdateBuilder+B+Attributes.push_fit.Goals as goal
+use Rattle.octseq_bgp.proofs.message.update_builder.values.UpdateBuilder+B+Attributes.push_fit.Goals as goal
 
 pub append_value-requires-clause-announced : goal.append_value-requires-clause-announced
 append_value-requires-clause-announced g c = none_announced c.self.inside.held
@@ -35,8 +35,8 @@ invariant_of-self-inside g c =
       tt,
     )
 
-pub invariant_of-self-inside-in-Err : goal.invariant_of-self-inside-in-Err
-invariant_of-self-inside-in-Err g c = (none_held c.in-Err.ensures.puts c.self.inside.held, tt)
+pub invariant_of-self-inside-in-Err-1 : goal.invariant_of-self-inside-in-Err-1
+invariant_of-self-inside-in-Err-1 g c = (none_held c.in-Err.ensures.puts c.self.inside.held, tt)
 
 pub returns-in_default-clause-pushed : goal.returns-in_default-clause-pushed
 returns-in_default-clause-pushed g c =
@@ -72,4 +72,4 @@ returns-in-Err-clause-pushed g c =
     made.type_code in
     let puts = rw c.longest-most.ensures.value at c.in-Err.ensures.puts in
     rw (← c.self.view_is)
-    (pushes_err puts wanted tt refl refl in'.held refl c.in-Err.self-in-Err-own.given.0 refl refl)
+    (pushes_err puts wanted tt refl refl in'.held refl c.in-Err.self-in-Err-1-own.given.0 refl refl)
