@@ -6,6 +6,7 @@ pub mod Composing
 pub mod Counting
 pub mod Families
 pub mod FaultsAre
+pub mod Filling
 pub mod Fronts
 pub mod Kept
 pub mod Lasts
@@ -24,6 +25,7 @@ pub mod Prefixes
 pub mod Pushes
 pub mod ReachBack
 pub mod ReadBack
+pub mod Runs
 pub mod Segments
 pub mod Shown
 pub mod Spoken

@@ -11,6 +11,7 @@ pub mod Family
 pub mod FamilyTuple
 pub mod Fault
 pub mod FaultsOf
+pub mod Filling
 pub mod Fills
 pub mod Handling
 pub mod Held

@@ -4,6 +4,8 @@ ghost use Rattle.octseq.specs.Limit.{IsWithin};
 ghost use Rattle.octseq.specs.Refusal.{IsShort, IsMemory, append_error};
 ghost use Rattle.octseq_bgp.specs.Composed.{Composes, least, header_octets, message_octets};
 
+mod value;
+
 use octseq::builder::AsOctetsMut;
 use octseq::{AppendError, AsOctets, OctetsBuilder, ShortBuf, Truncate, WriteError};
 use std::alloc::AllocError;

@@ -1,11 +1,13 @@
 //! Laws for callers. Each is the contract of a function that does nothing: calling it brings the law into the caller's
 //! proof.
-ghost use Rattle.std.specs.Prelude.{◌≡◌, ◌+◌, ◌<◌, ◌≤◌, ◌++◌, Bool, ℕ, List, Some, length};
+ghost use Rattle.std.specs.Prelude.{◌≡◌, ◌+◌, ◌<◌, ◌≤◌, ◌++◌, [], ◌∷◌, Bool, ℕ, List, Some, length};
+ghost use Rattle.std.specs.List.{AllByRecursion, sum_by};
 ghost use Rattle.octseq.specs.Code.{HasFront};
 ghost use Rattle.octseq.specs.Window.{Window, rest};
 ghost use Rattle.octseq_format.specs.Canonical.{AreOctets};
 ghost use Rattle.octseq_bgp.specs.Capability.{CapabilityValue, IsCapabilityValue};
 ghost use Rattle.octseq_bgp.specs.Fault.{Fault, AreFaultsOf, worst_of};
+ghost use Rattle.octseq_bgp.specs.Filling.{AreFilled, AreRuns, FitWith, Given, given_long, with_announced, with_withdrawn};
 ghost use Rattle.octseq_bgp.specs.Handling.{IsHandling};
 ghost use Rattle.octseq_bgp.specs.Message as said;
 ghost use Rattle.octseq_bgp.specs.Message.{IsMessage};
@@ -144,4 +146,33 @@ pub fn route_refreshes_are_read_back()
 pub fn written_addresses_are_read_back()
     ensures { (bits : ℕ) (address : List ℕ) → AreOctets address
         → address_of bits (address_from (octets_of_bits bits) 0 bits address) ≡ address_of bits address }
+{}
+
+/// Prefixes add their own octets to those of an UPDATE, and no others.
+pub fn prefixes_add_their_octets()
+    ensures withdrawn { (u : WrittenUpdate) (row : List Given) → length (update_octets (with_withdrawn u row))
+        ≡ length (update_octets u) + sum_by given_long row }
+    ensures announced { (u : WrittenUpdate) (row : List Given) → length (update_octets (with_announced u row))
+        ≡ length (update_octets u) + sum_by given_long row }
+{}
+
+/// Messages that are filled one after another, each begun as the same UPDATE, are no more than those of any other way to
+/// divide the prefixes, in their order, into messages of at most `most` octets.
+pub fn filled_messages_are_fewest()
+    ensures withdrawn { (most : ℕ) (u : WrittenUpdate) (row : List Given) (counts : List ℕ) (runs : List (List Given))
+        → AreFilled (FitWith most (with_withdrawn u)) row counts → AreRuns (FitWith most (with_withdrawn u)) row runs
+        → length counts ≤ length runs }
+    ensures announced { (most : ℕ) (u : WrittenUpdate) (row : List Given) (counts : List ℕ) (runs : List (List Given))
+        → AreFilled (FitWith most (with_announced u)) row counts → AreRuns (FitWith most (with_announced u)) row runs
+        → length counts ≤ length runs }
+{}
+
+/// None of them is without prefixes, if each prefix alone fits such a message.
+pub fn filled_messages_have_prefixes()
+    ensures withdrawn { (most : ℕ) (u : WrittenUpdate) (row : List Given) (counts : List ℕ)
+        → AllByRecursion (λ p. FitWith most (with_withdrawn u) (p ∷ [])) row
+        → AreFilled (FitWith most (with_withdrawn u)) row counts → AllByRecursion (λ count. 1 ≤ count) counts }
+    ensures announced { (most : ℕ) (u : WrittenUpdate) (row : List Given) (counts : List ℕ)
+        → AllByRecursion (λ p. FitWith most (with_announced u) (p ∷ [])) row
+        → AreFilled (FitWith most (with_announced u)) row counts → AllByRecursion (λ count. 1 ≤ count) counts }
 {}

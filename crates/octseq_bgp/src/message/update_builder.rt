@@ -17,6 +17,7 @@ use octseq::{AppendError, AsOctets, OctetsBuilder, Truncate};
 use std::marker::{Model, PhantomData};
 
 mod attributes;
+mod fill;
 mod front;
 mod head;
 mod octets;
@@ -24,6 +25,7 @@ pub mod part;
 mod prefix_octets;
 mod prefixes;
 mod reach;
+mod values;
 
 /// An UPDATE that is written up to a part. Contracts see the builder of its octets, the session, what it says, and which
 /// list of prefixes can be continued.

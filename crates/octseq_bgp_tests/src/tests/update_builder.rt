@@ -4,7 +4,11 @@ use crate::tests::{equal, unwrap};
 use octseq::builder::AsOctetsMut;
 use octseq::{AppendError, Array, AsOctets, OctetsBuilder, ShortBuf, Truncate, WriteError};
 use octseq_asserts::{assert_equal, assert_true};
-use octseq_bgp::attribute::{Flags, NextHop};
+use octseq_bgp::attribute::{
+    Asn, AtomicAggregate, ConventionalNextHop, Flags, MultiExitDisc, NextHop, Origin, OriginType,
+    PathSegment, SegmentType,
+};
+use octseq_bgp::community::StandardCommunity;
 use octseq_bgp::family::{Afi, AfiSafiType};
 use octseq_bgp::message::{Announced, Attributes, MpList, UpdateBuilder, Withdrawn};
 use octseq_bgp::prefix::{PathId, Prefix};
@@ -312,4 +316,181 @@ fn builders_have_limits(rt: HostRuntime) {
         octets.as_ref(),
         "001d 02 0003 100a01 0003 c06300",
     );
+}
+
+/// Pushes ORIGIN, AS_PATH and NEXT_HOP: 20 octets where AS numbers have four.
+fn push_three_values<B: OctetsBuilder + Truncate + AsOctetsMut>(
+    rt: &(impl AllocGlobal + Abort),
+    update: &mut UpdateBuilder<B, Attributes>,
+) {
+    let asns = [Asn(65020)];
+    let path = [PathSegment {
+        kind: SegmentType::Sequence,
+        asns: &asns,
+    }];
+    unwrap(rt, update.push_value(&Origin(OriginType::Igp)));
+    unwrap(rt, update.push_value(&path.as_slice()));
+    unwrap(rt, update.push_value(&ConventionalNextHop(0x0A000001)));
+}
+
+#[test]
+fn values_are_written_with_the_flags_of_their_type(rt: HostRuntime) {
+    let mut update = begin(&rt, SessionConfig::modern()).attributes();
+    push_three_values(&rt, &mut update);
+    unwrap(&rt, update.push_value(&MultiExitDisc(5)));
+    unwrap(&rt, update.push_value(&AtomicAggregate));
+    let communities = [StandardCommunity(0x00010002)];
+    unwrap(&rt, update.push_value(&communities.as_slice()));
+    let wanted = "003c 02 0000 0025 40010100 40020602010000fdfc 4003040a000001 80040400000005 400600
+        c0080400010002";
+    assert_message(&rt, "six", &update.finish(), wanted);
+}
+
+#[test]
+fn a_value_has_the_as_numbers_of_the_session(rt: HostRuntime) {
+    let session = SessionConfig {
+        four_octet_asn: false,
+        ..SessionConfig::modern()
+    };
+    let asns = [Asn(65020)];
+    let path = [PathSegment {
+        kind: SegmentType::Sequence,
+        asns: &asns,
+    }];
+    let mut update = begin(&rt, session).attributes();
+    unwrap(&rt, update.push_value(&path.as_slice()));
+    let wide = [Asn(70000)];
+    let path = [PathSegment {
+        kind: SegmentType::Sequence,
+        asns: &wide,
+    }];
+    let refused = update.push_value(&path.as_slice());
+    assert_equal!(&rt, refused, Err(WriteError::Malformed));
+    let none: [StandardCommunity; 0] = [];
+    let refused = update.push_value(&none.as_slice());
+    assert_equal!(&rt, refused, Err(WriteError::Malformed));
+    let wanted = "001e 02 0000 0007 4002040201fdfc";
+    assert_message(&rt, "narrow", &update.finish(), wanted);
+}
+
+#[test]
+fn a_value_of_more_than_255_octets_has_a_length_of_two(rt: HostRuntime) {
+    let session = SessionConfig::modern();
+    let mut update = begin(&rt, session).attributes();
+    let few = [StandardCommunity(1); 63];
+    unwrap(&rt, update.push_value(&few.as_slice()));
+    let wanted = octets(&rt, "0116 02 0000 00ff c008fc 00000001");
+    assert_equal!(&rt, update.as_slice().get(16..30), Some(wanted.as_slice()));
+    let mut update = begin(&rt, session).attributes();
+    let many = [StandardCommunity(1); 64];
+    unwrap(&rt, update.push_value(&many.as_slice()));
+    let wanted = octets(&rt, "011b 02 0000 0104 d0080100 00000001");
+    assert_equal!(&rt, update.as_slice().get(16..31), Some(wanted.as_slice()));
+}
+
+#[test]
+fn a_value_that_is_refused_leaves_nothing(rt: HostRuntime) {
+    let update = UpdateBuilder::from_builder(Array::<29>::new(), SessionConfig::modern());
+    let mut update = unwrap(&rt, update).attributes();
+    let refused = update.push_value(&MultiExitDisc(5));
+    assert_equal!(&rt, refused, Err(WriteError::Short));
+    assert_message(&rt, "none", update.as_slice(), "0017 02 0000 0000");
+    unwrap(&rt, update.push_value(&AtomicAggregate));
+    unwrap(&rt, update.push_value(&AtomicAggregate));
+    let refused = update.push_value(&AtomicAggregate);
+    assert_equal!(&rt, refused, Err(WriteError::Short));
+    let octets = update.finish();
+    let wanted = "001d 02 0000 0006 400600 400600";
+    assert_message(&rt, "two", octets.as_ref(), wanted);
+}
+
+#[test]
+fn a_value_closes_a_list_of_prefixes(rt: HostRuntime) {
+    let mut update = begin(&rt, SessionConfig::modern()).attributes();
+    unwrap(&rt, update.push_mp_unreach(AfiSafiType::Ipv6Unicast));
+    unwrap(&rt, update.push_value(&AtomicAggregate));
+    assert_equal!(&rt, update.open_list(), None);
+    let refused = update.push_unreached(&ipv6(0, 1, 0, 48), None);
+    assert_equal!(&rt, refused, Err(WriteError::Malformed));
+    let wanted = "0020 02 0000 0009 800f03000201 400600";
+    assert_message(&rt, "closed", &update.finish(), wanted);
+}
+
+/// Returns 3,000 prefixes of 24 bits: four octets each.
+fn many_prefixes(rt: &(impl AllocGlobal + Abort)) -> Vec<(Prefix, Option<PathId>)> {
+    let mut prefixes = Vec::new(rt.alloc());
+    for n in 0..3000_u16 {
+        let octets = n.to_be_bytes();
+        let prefix = ipv4([10, octets[0], octets[1], 0], 24);
+        unwrap(rt, prefixes.push((prefix, None)));
+    }
+    prefixes
+}
+
+/// Announces prefixes in as few messages as they need, all with the same attributes, and returns their lengths.
+fn announce(rt: &(impl AllocGlobal + Abort), prefixes: &[(Prefix, Option<PathId>)]) -> Vec<usize> {
+    let mut lens = Vec::new(rt.alloc());
+    let mut left = prefixes;
+    for _ in 0..prefixes.len() {
+        if left.is_empty() {
+            break;
+        }
+        let mut update = begin(rt, SessionConfig::modern()).attributes();
+        push_three_values(rt, &mut update);
+        let mut update = update.announced();
+        let count = unwrap(rt, update.fill_announced(left));
+        let Some(others) = left.get(count..) else {
+            panic!(rt; "more were pushed than were left");
+        };
+        left = others;
+        unwrap(rt, lens.push(update.finish().len()));
+    }
+    lens
+}
+
+#[test]
+fn prefixes_fill_as_few_messages_as_they_need(rt: HostRuntime) {
+    // A message has 23 octets and 20 of attributes, which leaves 4,053 for prefixes: 1,013 of four octets. The third
+    // has the 974 that are left.
+    let lens = announce(&rt, &many_prefixes(&rt));
+    assert_equal!(&rt, lens.as_slice(), &[4095, 4095, 3939]);
+}
+
+#[test]
+fn a_builder_is_filled_up_to_its_limit(rt: HostRuntime) {
+    let update = UpdateBuilder::from_builder(Array::<31>::new(), SessionConfig::modern());
+    let mut update = unwrap(&rt, update);
+    let prefixes = [
+        (ipv4([10, 1, 1, 0], 24), None),
+        (ipv4([10, 1, 2, 0], 24), None),
+        (ipv4([10, 0, 0, 0], 0), None),
+    ];
+    assert_equal!(&rt, unwrap(&rt, update.fill_withdrawn(&prefixes)), 2);
+    assert_equal!(&rt, unwrap(&rt, update.fill_withdrawn(&prefixes)), 0);
+    assert_equal!(&rt, unwrap(&rt, update.fill_withdrawn(&[])), 0);
+    let octets = update.finish();
+    let wanted = "001f 02 0008 180a0101 180a0102 0000";
+    assert_message(&rt, "two", octets.as_ref(), wanted);
+}
+
+#[test]
+fn a_prefix_that_cant_be_written_ends_a_run(rt: HostRuntime) {
+    let mut update = begin(&rt, SessionConfig::modern()).attributes().announced();
+    let prefixes = [
+        (ipv4([10, 1, 1, 0], 24), None),
+        (ipv4([10, 1, 2, 0], 33), None),
+        (ipv4([10, 1, 3, 0], 24), None),
+    ];
+    let refused = update.fill_announced(&prefixes);
+    assert_equal!(&rt, refused, Err(WriteError::Malformed));
+    let wanted = "001b 02 0000 0000 180a0101";
+    assert_message(&rt, "one", update.as_slice(), wanted);
+    let update = UpdateBuilder::from_builder(Array::<27>::new(), SessionConfig::modern());
+    let mut update = unwrap(&rt, update).attributes().announced();
+    let full = [
+        (ipv4([10, 1, 1, 0], 24), None),
+        (ipv4([10, 1, 2, 0], 24), None),
+        (ipv4([10, 1, 3, 0], 33), None),
+    ];
+    assert_equal!(&rt, unwrap(&rt, update.fill_announced(&full)), 1);
 }

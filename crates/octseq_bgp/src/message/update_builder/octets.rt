@@ -5,8 +5,11 @@ ghost use Rattle.octseq.specs.Refusal.{IsShort, IsMemory, append_error};
 ghost use Rattle.octseq_bgp.specs.Composed.{least, message_octets};
 ghost use Rattle.octseq_bgp.specs.PartOctets.{Puts};
 ghost use Rattle.octseq_bgp.specs.Written.{body_octets};
+ghost use Rattle.octseq_bgp.specs.WrittenValue.{FitsValue, value_octets};
 
+use crate::attribute::ComposeAttribute;
 use crate::compose::Composer;
+use crate::session::SessionConfig;
 use octseq::builder::AsOctetsMut;
 use octseq::{AppendError, AsOctets, OctetsBuilder, Truncate, WriteError};
 use std::marker::Model;
@@ -126,6 +129,34 @@ impl<B: OctetsBuilder + Truncate + AsOctetsMut> UpdateOctets<B> {
         match self.message.append(most, head, octets) {
             Ok(()) => {
                 let len = self.attributes + head.len() + octets.len();
+                self.divide(len);
+                Ok(())
+            }
+            Err(error) => Err(error),
+        }
+    }
+
+    /// Appends a slice, and the `len` octets of a value, to the attributes.
+    pub(super) fn append_value<A: ComposeAttribute>(
+        &mut self,
+        most: usize,
+        head: &[u8],
+        len: usize,
+        session: &SessionConfig,
+        value: &A,
+    ) -> Result<(), WriteError>
+        requires fit { FitsValue session.now (A.says value.now) }
+        requires len { len ≡ length (value_octets session.now (A.says value.now)) }
+        requires announced { self.old.announced ≡ [] }
+        requires now { 23 + length self.old.withdrawn + length self.old.attributes ≤ most }
+        requires most { most ≤ 65535 }
+        ensures puts { Puts (least most B.limit) B.asks result self.old.withdrawn
+            (self.old.attributes ++ (head.now ++ value_octets session.now (A.says value.now))) [] self.old self.new }
+        ensures borrows { B.borrows self.new.octets ≡ B.borrows self.old.octets }
+    {
+        match self.message.append_value(most, head, len, session, value) {
+            Ok(()) => {
+                let len = self.attributes + head.len() + len;
                 self.divide(len);
                 Ok(())
             }

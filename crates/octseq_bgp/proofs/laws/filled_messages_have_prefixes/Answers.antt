@@ -1,0 +1,11 @@
+use Rattle.octseq_bgp.specs.Filling.{FitWith, with_announced, with_withdrawn}
+use Rattle.octseq_bgp.proofs.Runs.{none_empty}
+use Rattle.octseq_bgp.proofs.laws.filled_messages_have_prefixes.Goals as goal
+
+pub returns-clause-withdrawn : goal.returns-clause-withdrawn
+returns-clause-withdrawn c = λ most u row counts alone filled.
+    none_empty (FitWith most (with_withdrawn u)) row counts alone filled
+
+pub returns-clause-announced : goal.returns-clause-announced
+returns-clause-announced c = λ most u row counts alone filled.
+    none_empty (FitWith most (with_announced u)) row counts alone filled
