@@ -24,6 +24,8 @@ pub mod PrefixesBack
 pub mod Pushes
 pub mod ReachBack
 pub mod ReadBack
+pub mod RewrittenLengths
+pub mod RewrittenOpens
 pub mod Segments
 pub mod Shown
 pub mod Spoken
