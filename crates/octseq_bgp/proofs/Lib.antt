@@ -25,6 +25,8 @@ pub mod Prefixes
 pub mod Pushes
 pub mod ReachBack
 pub mod ReadBack
+pub mod RewrittenLengths
+pub mod RewrittenOpens
 pub mod Runs
 pub mod Segments
 pub mod Shown

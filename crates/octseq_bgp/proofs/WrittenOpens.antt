@@ -58,7 +58,7 @@ body_more false o ps more =
     ap (λ s. take 28 s ++ (octets_be 1 n ++ drop 29 s)) (message_more 1 (body_of false o ps) more)
     ∙ ap (λ m. let s = message_octets 1 (body_of false o ps ++ more) in take 28 s ++ (octets_be 1 m ++ drop 29 s)) many
 
-row_more : (long : Bool) (row : List WrittenParameter) (p : WrittenParameter)
+pub row_more : (long : Bool) (row : List WrittenParameter) (p : WrittenParameter)
     → parameters_octets long (row ++ p ∷ []) ≡ parameters_octets long row ++ parameter_octets long p
 row_more long row p =
     flat_map-append (parameter_octets long) row (p ∷ [])

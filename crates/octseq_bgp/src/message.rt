@@ -19,6 +19,7 @@ mod open_builder;
 mod parameter;
 mod place;
 mod reader;
+mod rewrite;
 mod route_refresh_builder;
 mod update;
 mod update_builder;

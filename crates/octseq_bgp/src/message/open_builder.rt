@@ -150,7 +150,11 @@ fn has_room<B: OctetsBuilder>(octets: &B, long: bool, more: usize) -> bool
 }
 
 /// Appends a length in two octets, or in one.
-fn put_length<B: OctetsBuilder>(octets: &mut B, long: bool, len: usize) -> Result<(), AllocError>
+pub(super) fn put_length<B: OctetsBuilder>(
+    octets: &mut B,
+    long: bool,
+    len: usize,
+) -> Result<(), AllocError>
     requires fit { len < 256 ^ length_octets long }
     requires within { IsWithin B.limit (length (B.content octets.old) + length (octets_be (length_octets long) len)) }
     ensures puts { PutsSome B.asks result (octets_be (length_octets long) len)

@@ -1,0 +1,2 @@
+//! Messages written anew.
+mod open;
