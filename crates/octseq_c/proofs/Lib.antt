@@ -1,6 +1,8 @@
 pub mod Anew
 pub mod AnswerBegun
 pub mod Appended
+pub mod BgpRoom
+pub mod BgpRows
 pub mod OneAnswer
 pub mod OneRewriting
 pub mod OneTexts

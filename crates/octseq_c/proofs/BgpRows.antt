@@ -1,0 +1,57 @@
+-- Octets are one BGP message of a session, which has one text and one list of rows.
+use Rattle.std.proofs.Common.{◌≡◌, ◌++◌, ℕ, List, [], ◌∷◌, map, ap, sym, ◌∙◌, subst}
+use Rattle.octseq_bgp.proofs.OneMessage.{one_message}
+use Rattle.octseq_bgp.proofs.Texts.{one_message_text}
+use Rattle.octseq_bgp.proofs.Values.{one_value}
+use Rattle.octseq_bgp.specs.Message.{Message, IsMessage}
+use Rattle.octseq_bgp.specs.MessageText.{IsMessageText}
+use Rattle.octseq_bgp.specs.Parts.{Attribute, type_of, inside_of}
+use Rattle.octseq_bgp.specs.Update.{Update}
+use Rattle.octseq_bgp.specs.declared.session.SessionConfig.{SessionConfig}
+use Rattle.octseq_c.specs.BgpRows.{AreAttributeRows, AreBgpRowsOf, AreMessageRows, AreUpdateRows, IsBgpTextOf}
+use Rattle.octseq_c.specs.BgpRows.{row_of_prefix, rows_of_attribute}
+use Rattle.octseq_c.specs.declared.bgp.rows.BgpRow.{BgpRow}
+
+-- ---- the text
+
+pub one_bgp_text : (s : SessionConfig) (octets text other : List ℕ) → IsBgpTextOf s octets text
+    → IsBgpTextOf s octets other → text ≡ other
+one_bgp_text s octets text other a b =
+    let same = one_message s octets a.message b.message a.is b.is in
+    one_message_text b.message text other (subst (λ m. IsMessageText m text) same a.text_is) b.text_is
+
+-- a text of octets is one of the message that they are
+pub text_of_it : {s : SessionConfig} {octets text : List ℕ} (m : Message) → IsMessage s octets m
+    → IsBgpTextOf s octets text → IsMessageText m text
+text_of_it {s} {octets} {text} m is a =
+    subst (λ m. IsMessageText m text) (one_message s octets a.message m a.is is) a.text_is
+
+-- ---- rows
+
+pub one_attribute_rows : (s : SessionConfig) (row : List Attribute) (rows others : List BgpRow)
+    → AreAttributeRows s row rows → AreAttributeRows s row others → rows ≡ others
+one_attribute_rows s [] rows others a b = a ∙ sym b
+one_attribute_rows s (e ∷ more) rows others a b =
+    let values = one_value s (type_of e) (inside_of e) a.0 b.0 a.2 b.2 in
+    let rests = one_attribute_rows s more a.1 b.1 a.3 b.3 in
+    a.4 ∙ ap (λ v. rows_of_attribute e v ++ a.1) values ∙ ap (λ rest. rows_of_attribute e b.0 ++ rest) rests ∙ sym b.4
+
+one_update_rows : (u : Update) (rows others : List BgpRow) → AreUpdateRows u rows → AreUpdateRows u others
+    → rows ≡ others
+one_update_rows u rows others a b =
+    a.2 ∙ ap (λ attributes. map (row_of_prefix 0 1) u.withdrawn ++ (attributes
+    ++ map (row_of_prefix 2 1) u.announced)) (one_attribute_rows u.session u.attributes a.0 b.0 a.1 b.1) ∙ sym b.2
+
+one_message_rows : (m : Message) (rows others : List BgpRow) → AreMessageRows m rows → AreMessageRows m others
+    → rows ≡ others
+one_message_rows (Message.opens o) rows others a b = a ∙ sym b
+one_message_rows (Message.update u) rows others a b = one_update_rows u rows others a b
+one_message_rows (Message.notification n) rows others a b = a ∙ sym b
+one_message_rows Message.keepalive rows others a b = a ∙ sym b
+one_message_rows (Message.route_refresh r) rows others a b = a ∙ sym b
+
+pub one_bgp_rows : (s : SessionConfig) (octets : List ℕ) (rows others : List BgpRow) → AreBgpRowsOf s octets rows
+    → AreBgpRowsOf s octets others → rows ≡ others
+one_bgp_rows s octets rows others a b =
+    let same = one_message s octets a.message b.message a.is b.is in
+    one_message_rows b.message rows others (subst (λ m. AreMessageRows m rows) same a.rows_are) b.rows_are
