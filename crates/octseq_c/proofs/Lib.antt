@@ -1,6 +1,7 @@
 pub mod Anew
 pub mod AnswerBegun
 pub mod Appended
+pub mod BgpFilled
 pub mod BgpRoom
 pub mod BgpRows
 pub mod OneAnswer
