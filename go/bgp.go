@@ -98,8 +98,8 @@ func (message BGPMessage) Session() BGPSession {
 }
 
 // Parts are the prefixes and attributes of an UPDATE, in their order. The prefixes of an MP_REACH_NLRI or an
-// MP_UNREACH_NLRI follow it, if its value has the form of its type. Other messages have none. No error is known but of a
-// BGPMessage that is zero.
+// MP_UNREACH_NLRI follow it, if its value has the form of its type. Other messages have none. No error is known but of
+// a BGPMessage that is zero.
 func (message BGPMessage) Parts() ([]BGPPart, error) {
 	rows, err := bgpRows(message.octets, message.session.flags(), message.count)
 	parts := make([]BGPPart, len(rows))

@@ -11,8 +11,8 @@ import (
 // path id 7.
 const (
 	marker       = "\xFF\xFF\xFF\xFF\xFF\xFF\xFF\xFF\xFF\xFF\xFF\xFF\xFF\xFF\xFF\xFF"
-	updateOctets = marker + "\x00\x29\x02\x00\x03\x10\x0A\x01\x00\x0D\x40\x01\x01\x00\x80\x0F\x06\x00\x02\x01\x10\x20\x01" +
-		"\x08\x0A"
+	updateOctets = marker + "\x00\x29\x02\x00\x03\x10\x0A\x01\x00\x0D\x40\x01\x01\x00" +
+		"\x80\x0F\x06\x00\x02\x01\x10\x20\x01\x08\x0A"
 	pathOctets = marker + "\x00\x1D\x02\x00\x00\x00\x00\x00\x00\x00\x07\x08\x0A"
 )
 
@@ -22,7 +22,8 @@ func TestPartsOfABGPMessage(t *testing.T) {
 		t.Fatal(err)
 	}
 	parts, err := message.Parts()
-	wanted := []string{"withdrawn 10.1.0.0/16", "attribute 1", "attribute 15", "unreached 2001::/16", "announced 10.0.0.0/8"}
+	wanted := []string{"withdrawn 10.1.0.0/16", "attribute 1", "attribute 15", "unreached 2001::/16",
+		"announced 10.0.0.0/8"}
 	if len(parts) != len(wanted) || err != nil {
 		t.Fatalf("%v, %v", parts, err)
 	}

@@ -1,8 +1,16 @@
 -- A buffer of rows after a copy of more to the place where those that were written end.
 use Rattle.std.proofs.Common.{◌≡◌, ℕ, ◌+◌, ◌<◌, ◌≤◌, List, [], ◌∷◌, ◌++◌, length, take, drop, set, arith, ap, sym, ◌∙◌}
 use Rattle.std.proofs.Common.{append_assoc, length-append}
-use Rattle.std.proofs.lemmas.List.{drop-set-lt, length-take-le, take_more_set}
+use Rattle.std.proofs.lemmas.List.{drop-set-lt, length-drop, length-take-le, take_more_set}
 use Rattle.octseq_c.proofs.Placed.{placed_after}
+
+-- a buffer has its length after more items
+pub placed_long : {A : Type 0} (old new done : List A) (from at : ℕ) → from ≤ length old → at ≡ from + length done
+    → at ≤ length old → new ≡ (take from old ++ done) ++ drop at old → length new ≡ length old
+placed_long old new done from at few a within n =
+    let whole = length-append (take from old ++ done) (drop at old) in
+    let front = length-append (take from old) done in
+    omega (arith, ap length n, whole, front, a, within, length-take-le from old few, length-drop at old)
 
 module _ {A : Type 0} (old mid new : List A) where
   -- more items after those that were written from a place on
