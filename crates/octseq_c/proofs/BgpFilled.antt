@@ -12,6 +12,23 @@ placed_long old new done from at few a within n =
     let front = length-append (take from old) done in
     omega (arith, ap length n, whole, front, a, within, length-take-le from old few, length-drop at old)
 
+-- a buffer has its length after a copy to a place
+pub copy_long : {A : Type 0} (mid new more : List A) (at after : ℕ) → after ≡ at + length more → after ≤ length mid
+    → new ≡ take at mid ++ (more ++ drop after mid) → length new ≡ length mid
+copy_long mid new more at after e within n =
+    let whole = length-append (take at mid) (more ++ drop after mid) in
+    let last = length-append more (drop after mid) in
+    omega (
+      arith,
+      ap length n,
+      whole,
+      last,
+      e,
+      within,
+      length-take-le at mid (omega (arith, e, within)),
+      length-drop after mid,
+    )
+
 module _ {A : Type 0} (old mid new : List A) where
   -- more items after those that were written from a place on
   pub more_placed : (done more : List A) (from at after : ℕ) → from ≤ length old → at ≡ from + length done

@@ -1,52 +1,28 @@
--- A BGP message has at most as many rows as octets.
-use Rattle.std.proofs.Common.{◌≡◌, ℕ, ◌+◌, ◌≤◌, Bool, true, false, cond, List, [], ◌∷◌, length, ap, arith}
-use Rattle.std.proofs.lemmas.List.{length-map}
+-- How many rows a BGP message has at most: twice as many as octets.
+use Rattle.std.proofs.Common.{◌≡◌, ℕ, ◌+◌, ◌*◌, ◌≤◌, Bool, true, false, cond, List, [], ◌∷◌, length, ap, arith}
 use Rattle.std.proofs.lemmas.List.Sums.{sum_by-cons}
 use Rattle.octseq.specs.Window.{Window, left, whole}
-use Rattle.octseq_format.specs.Laws.{Relation, IsMoving}
+use Rattle.octseq.specs.Integer.{be}
+use Rattle.octseq_format.specs.Fixed.{onward_fixed}
 use Rattle.octseq_format.specs.Rest.{IsRest}
 use Rattle.octseq_format.specs.Row.{Row}
-use Rattle.octseq_bgp.proofs.Moves.{onward_number, path_prefix_moves, prefix_moves}
 use Rattle.octseq_bgp.proofs.Wholes.{counted_left}
 use Rattle.octseq_bgp.specs.Message.{Message, IsHeader, IsMessage}
 use Rattle.octseq_bgp.specs.Parts.{Attribute, IsAttribute, IsCounted, IsNumber, inside_of, is_extended}
-use Rattle.octseq_bgp.specs.Prefix.{Nlri, AreNlri, most_bits, path_nlri, plain_nlri}
-use Rattle.octseq_bgp.specs.Session.{adds_path}
+use Rattle.octseq_bgp.specs.ReadTurns.{message_turns}
 use Rattle.octseq_bgp.specs.Update.{Update, IsUpdate}
-use Rattle.octseq_bgp.specs.declared.family.Afi.{Afi}
-use Rattle.octseq_bgp.specs.declared.family.Afi.TheVariants as addresses
-use Rattle.octseq_bgp.specs.declared.family.AfiSafiType.TheVariants as family
 use Rattle.octseq_bgp.specs.declared.session.SessionConfig.{SessionConfig}
-use Rattle.octseq_c.specs.BgpRoom.{attributes_room, message_room, update_room}
+use Rattle.octseq_c.specs.BgpRoom.{attributes_room, message_room}
 
 -- what a number and a rest leave
 
 number_left : (k : ℕ) (w v : Window) (n : ℕ) → IsNumber k w n v → left v + k ≤ left w
-number_left k w v n is = (onward_number k).less w n v is
+number_left k w v n is = (onward_fixed k be).less w n v is
 
 rest_left : (w inside v : Window) → IsRest w inside v → left inside ≤ left w
 rest_left w inside v is = let here = ap left is.0 in omega (arith, here)
 
--- ---- lists
-
--- a list of values has at most one for each octet
-row_few : {A : Type 0} {Is : Relation A} → IsMoving Is → (w v : Window) (row : List A) → Row Is w row v
-    → length row + left v ≤ left w
-row_few moves w v [] is = let same = ap left is in omega (arith, same)
-row_few moves w v (one ∷ more) (u, here, rest) =
-    let less = moves.on w one u here in
-    let few = row_few moves u v more rest in
-    omega (arith, less, few)
-
-prefixes_few : (paths : Bool) (afi : Afi) (w : Window) (row : List Nlri) → AreNlri paths afi w row → length row ≤ left w
-prefixes_few true afi w row (parts, (v, are), is) =
-    let few = row_few (path_prefix_moves (most_bits afi)) w v parts are.0 in
-    let same = ap length is in
-    omega (arith, few, same, length-map parts (path_nlri afi))
-prefixes_few false afi w row (parts, (v, are), is) =
-    let few = row_few (prefix_moves (most_bits afi)) w v parts are.0 in
-    let same = ap length is in
-    omega (arith, few, same, length-map parts (plain_nlri afi))
+-- ---- attributes
 
 -- an attribute has two octets more than its value at least
 
@@ -77,18 +53,14 @@ attributes_few w v (e ∷ more) (u, here, rest) =
 
 -- ---- the message
 
-update_few : (s : SessionConfig) (w : Window) (u : Update) → IsUpdate s w u → update_room u ≤ left w
+update_few : (s : SessionConfig) (w : Window) (u : Update) → IsUpdate s w u → attributes_room u.attributes ≤ left w
 update_few s w u is =
     let (end, parts, none) = is.are in
     let (after, first, (after_both, second, last)) = parts in
-    let paths = adds_path s.add_path family.Ipv4Unicast in
-    let withdrawn = prefixes_few paths addresses.Ipv4 is.parts.0 u.withdrawn is.withdrawn in
     let attributes = attributes_few is.parts.1.0 is.attributes.0 u.attributes is.attributes.1.0 in
-    let announced = prefixes_few paths addresses.Ipv4 is.parts.1.1 u.announced is.announced in
     let one = counted_left 2 w is.parts.0 after first in
     let two = counted_left 2 after is.parts.1.0 after_both second in
-    let three = rest_left after_both is.parts.1.1 end last in
-    omega (arith, withdrawn, attributes, announced, one, two, three)
+    omega (arith, attributes, one, two)
 
 header_left : (w : Window) (h : ℕ × (ℕ × Window)) → IsHeader w h → left h.1.1 ≤ left w
 header_left w h (v, (a, marker, (b, size, (c, kind, rest))), none) =
@@ -99,12 +71,12 @@ header_left w h (v, (a, marker, (b, size, (c, kind, rest))), none) =
     omega (arith, one, two, three, four)
 
 pub message_few : (s : SessionConfig) (octets : List ℕ) (m : Message) → IsMessage s octets m
-    → message_room m ≤ length octets
-message_few s octets (Message.opens o) is = omega arith
-message_few s octets (Message.update u) is =
+    → message_turns m ≤ length octets → message_room m ≤ 2 * length octets
+message_few s octets (Message.opens o) is turns = omega arith
+message_few s octets (Message.update u) is turns =
     let few = update_few s is.body u is.is.1 in
     let head = header_left (whole octets) (length octets, (is.kind, is.body)) is.header in
-    omega (arith, few, head)
-message_few s octets (Message.notification n) is = omega arith
-message_few s octets Message.keepalive is = omega arith
-message_few s octets (Message.route_refresh r) is = omega arith
+    omega (arith, few, head, turns)
+message_few s octets (Message.notification n) is turns = omega arith
+message_few s octets Message.keepalive is turns = omega arith
+message_few s octets (Message.route_refresh r) is turns = omega arith

@@ -43,7 +43,7 @@ one_update_rows u rows others a b =
     a.2 ∙ ap (λ attributes. map (row_of_prefix 0 1) u.withdrawn ++ (attributes
     ++ map (row_of_prefix 2 1) u.announced)) (one_attribute_rows u.session u.attributes a.0 b.0 a.1 b.1) ∙ sym b.2
 
-one_message_rows : (m : Message) (rows others : List BgpRow) → AreMessageRows m rows → AreMessageRows m others
+pub one_message_rows : (m : Message) (rows others : List BgpRow) → AreMessageRows m rows → AreMessageRows m others
     → rows ≡ others
 one_message_rows (Message.opens o) rows others a b = a ∙ sym b
 one_message_rows (Message.update u) rows others a b = one_update_rows u rows others a b
@@ -86,3 +86,8 @@ pub last_rows : (s : SessionConfig) {row : List Attribute} (all : List Attribute
 last_rows s all done is_nil whole =
     subst (AreAttributeRows s all) (append-nil done)
     (whole [] (subst (λ row. AreAttributeRows s row []) (sym is_nil) refl))
+
+-- a message has its rows
+pub are_rows : {s : SessionConfig} {octets : List ℕ} {rows : List BgpRow} {m : Message} → IsMessage s octets m
+    → AreMessageRows m rows → AreBgpRowsOf s octets rows
+are_rows {m = m} is are = record { message = m; is = is; rows_are = are }

@@ -1,5 +1,5 @@
 //! The parts of an UPDATE as rows of numbers.
-ghost use Rattle.std.specs.Prelude.{◌≡◌, ◌≢◌, ◌↔◌, ◌⊎◌, ◌+◌, ◌<◌, ◌≤◌, ◌^◌, ◌++◌, ℕ, List, map, take, drop, length};
+ghost use Rattle.std.specs.Prelude.{◌≡◌, ◌≢◌, ◌↔◌, ◌⊎◌, ◌+◌, ◌*◌, ◌<◌, ◌≤◌, ◌^◌, ◌++◌, ℕ, List, map, take, drop, length};
 ghost use Rattle.octseq.specs.Parser.{window};
 ghost use Rattle.octseq.specs.Window.{left};
 ghost use Rattle.octseq_bgp.specs.Lists.{attribute_of, attributes_left, attributes_session, nlri_of, prefixes_left};
@@ -16,7 +16,7 @@ ghost use Rattle.octseq_c.specs.Status.{status_ok, status_no_room, status_malfor
 
 use crate::bgp::message::message_of;
 use crate::status::{MALFORMED, NO_ROOM, OK};
-use octseq::{Malformed, Turns};
+use octseq::{AsOctets, Malformed, Turns};
 use octseq_bgp::attribute::{AttributeValue, PathAttribute, PathAttributes};
 use octseq_bgp::family::Afi;
 use octseq_bgp::message::{Message, UpdateMessage};
@@ -80,6 +80,22 @@ pub extern "C" fn octseq_bgp_rows(
     ensures only { (result ≡ status_ok) ⊎ (result ≡ status_no_room) ⊎ (result ≡ status_malformed) }
     ensures kept { result ≢ status_ok → out.new ≡ out.old }
 {
+    put_rows(octets, session, out, count)
+}
+
+/// Writes the rows of the message that the octets are to the front of `out`.
+fn put_rows<R: AsOctets + Copy>(
+    octets: R,
+    session: u32,
+    out: &mut [BgpRow],
+    count: &mut usize,
+) -> u32
+    requires few { 2 * length (R.content octets) < 2 ^ 64 }
+    ensures puts { Puts (AreBgpRowsOf (session_of session) (R.content octets)) result out.old out.new count.new }
+    ensures malformed { (result ≡ status_malformed) ↔ ¬ IsBgpMessage (session_of session) (R.content octets) }
+    ensures only { (result ≡ status_ok) ⊎ (result ≡ status_no_room) ⊎ (result ≡ status_malformed) }
+    ensures kept { result ≢ status_ok → out.new ≡ out.old }
+{
     match message_of(octets, session) {
         Ok(message) => {
             *count = row_count(&message);
@@ -97,7 +113,7 @@ pub extern "C" fn octseq_bgp_rows(
 }
 
 /// Returns the number of rows of a message.
-fn row_count(message: &Message<&[u8]>) -> usize
+fn row_count<R: AsOctets + Copy>(message: &Message<R>) -> usize
     requires { message_room (message_of message.now) < 2 ^ 64 }
     ensures { (rows : List BgpRow) × AreMessageRows (message_of message.now) rows × (result ≡ length rows) }
 {
@@ -108,7 +124,7 @@ fn row_count(message: &Message<&[u8]>) -> usize
 }
 
 /// Returns the number of rows of an UPDATE.
-fn update_count(update: &UpdateMessage<&[u8]>) -> usize
+fn update_count<R: AsOctets + Copy>(update: &UpdateMessage<R>) -> usize
     requires { update_room (update_of update.now) < 2 ^ 64 }
     ensures { (rows : List BgpRow) × AreUpdateRows (update_of update.now) rows × (result ≡ length rows) }
 {
@@ -117,11 +133,11 @@ fn update_count(update: &UpdateMessage<&[u8]>) -> usize
 }
 
 /// Returns the number of rows of attributes.
-fn attributes_count(attributes: PathAttributes<&[u8]>) -> usize
+fn attributes_count<R: AsOctets + Copy>(attributes: PathAttributes<R>) -> usize
     requires { attributes_room (attributes_left attributes) < 2 ^ 64 }
-    ensures rows { (rows : List BgpRow) × AreAttributeRows (attributes_session attributes.entry)
-        (attributes_left attributes.entry) rows × (result ≡ length rows) }
-    ensures most { result ≤ attributes_room (attributes_left attributes.entry) }
+    ensures rows { (rows : List BgpRow) × AreAttributeRows (attributes_session attributes)
+        (attributes_left attributes) rows × (result ≡ length rows) }
+    ensures most { result ≤ attributes_room (attributes_left attributes) }
 {
     let mut ahead = attributes;
     let mut count = 0;
@@ -132,7 +148,7 @@ fn attributes_count(attributes: PathAttributes<&[u8]>) -> usize
 }
 
 /// Returns the number of rows of the value of an attribute.
-fn value_count(attribute: &PathAttribute<&[u8]>) -> usize
+fn value_count<R: AsOctets + Copy>(attribute: &PathAttribute<R>) -> usize
     ensures rows { (value : Value) × IsValue attribute.now.session attribute.now.type_code
         (window attribute.now.value) value × (result ≡ length (rows_of_value value)) }
     ensures most { result ≤ left (window attribute.now.value) }
@@ -147,7 +163,7 @@ fn value_count(attribute: &PathAttribute<&[u8]>) -> usize
 }
 
 /// Writes the rows of a message to the front of a buffer that has room for them.
-fn fill_message(out: &mut [BgpRow], message: &Message<&[u8]>)
+fn fill_message<R: AsOctets + Copy>(out: &mut [BgpRow], message: &Message<R>)
     requires { (rows : List BgpRow) × AreMessageRows (message_of message.now) rows × (length rows ≤ length out.old) }
     ensures { (rows : List BgpRow) × AreMessageRows (message_of message.now) rows × Fills rows out.old out.new }
 {
@@ -158,7 +174,7 @@ fn fill_message(out: &mut [BgpRow], message: &Message<&[u8]>)
 }
 
 /// Writes the rows of an UPDATE to the front of a buffer that has room for them.
-fn fill_update(out: &mut [BgpRow], update: &UpdateMessage<&[u8]>)
+fn fill_update<R: AsOctets + Copy>(out: &mut [BgpRow], update: &UpdateMessage<R>)
     requires { (rows : List BgpRow) × AreUpdateRows (update_of update.now) rows × (length rows ≤ length out.old) }
     ensures { (rows : List BgpRow) × AreUpdateRows (update_of update.now) rows × Fills rows out.old out.new }
 {
@@ -168,10 +184,16 @@ fn fill_update(out: &mut [BgpRow], update: &UpdateMessage<&[u8]>)
 }
 
 /// Writes the rows of prefixes of a kind and a SAFI from an index on. Returns the index after them.
-fn fill_prefixes(out: &mut [BgpRow], from: usize, kind: u32, safi: u8, prefixes: Prefixes<&[u8]>) -> usize
+fn fill_prefixes<R: AsOctets + Copy>(
+    out: &mut [BgpRow],
+    from: usize,
+    kind: u32,
+    safi: u8,
+    prefixes: Prefixes<R>,
+) -> usize
     requires { from + length (prefixes_left prefixes) ≤ length out.old }
-    ensures end { result ≡ from + length (prefixes_left prefixes.entry) }
-    ensures out { out.new ≡ take from out.old ++ (map (row_of_prefix kind safi) (prefixes_left prefixes.entry)
+    ensures end { result ≡ from + length (prefixes_left prefixes) }
+    ensures out { out.new ≡ take from out.old ++ (map (row_of_prefix kind safi) (prefixes_left prefixes)
         ++ drop result out.old) }
 {
     let mut at = from;
@@ -183,11 +205,15 @@ fn fill_prefixes(out: &mut [BgpRow], from: usize, kind: u32, safi: u8, prefixes:
 }
 
 /// Writes the rows of attributes from an index on. Returns the index after them.
-fn fill_attributes(out: &mut [BgpRow], from: usize, attributes: PathAttributes<&[u8]>) -> usize
+fn fill_attributes<R: AsOctets + Copy>(
+    out: &mut [BgpRow],
+    from: usize,
+    attributes: PathAttributes<R>,
+) -> usize
     requires { (rows : List BgpRow) × AreAttributeRows (attributes_session attributes) (attributes_left attributes) rows
         × (from + length rows ≤ length out.old) }
-    ensures { (rows : List BgpRow) × AreAttributeRows (attributes_session attributes.entry)
-        (attributes_left attributes.entry) rows × (result ≡ from + length rows)
+    ensures { (rows : List BgpRow) × AreAttributeRows (attributes_session attributes)
+        (attributes_left attributes) rows × (result ≡ from + length rows)
         × (out.new ≡ take from out.old ++ (rows ++ drop result out.old)) }
 {
     let mut ahead = attributes;
@@ -200,11 +226,11 @@ fn fill_attributes(out: &mut [BgpRow], from: usize, attributes: PathAttributes<&
 }
 
 /// Writes the rows of an attribute from an index on, by its value. Returns the index after them.
-fn fill_attribute(
+fn fill_attribute<R: AsOctets + Copy>(
     out: &mut [BgpRow],
     from: usize,
-    attribute: &PathAttribute<&[u8]>,
-    value: &AttributeValue<&[u8]>,
+    attribute: &PathAttribute<R>,
+    value: &AttributeValue<R>,
 ) -> usize
     requires { from + length (rows_of_attribute (attribute_of attribute.now) (value_of value.now)) ≤ length out.old }
     ensures end { result ≡ from + length (rows_of_attribute (attribute_of attribute.now) (value_of value.now)) }
@@ -216,7 +242,11 @@ fn fill_attribute(
 }
 
 /// Writes the rows of the prefixes of a value from an index on. Returns the index after them.
-fn fill_value(out: &mut [BgpRow], from: usize, value: &AttributeValue<&[u8]>) -> usize
+fn fill_value<R: AsOctets + Copy>(
+    out: &mut [BgpRow],
+    from: usize,
+    value: &AttributeValue<R>,
+) -> usize
     requires { from + length (rows_of_value (value_of value.now)) ≤ length out.old }
     ensures end { result ≡ from + length (rows_of_value (value_of value.now)) }
     ensures out { out.new ≡ take from out.old ++ (rows_of_value (value_of value.now) ++ drop result out.old) }
@@ -233,7 +263,7 @@ fn fill_value(out: &mut [BgpRow], from: usize, value: &AttributeValue<&[u8]>) ->
 }
 
 /// Returns the row of a prefix of a kind and a SAFI.
-fn prefix_row(kind: u32, safi: u8, nlri: &Nlri<&[u8]>) -> BgpRow
+fn prefix_row<R: AsOctets + Copy>(kind: u32, safi: u8, nlri: &Nlri<R>) -> BgpRow
     ensures { result ≡ row_of_prefix kind safi (nlri_of nlri.now) }
 {
     BgpRow {
@@ -251,7 +281,7 @@ fn prefix_row(kind: u32, safi: u8, nlri: &Nlri<&[u8]>) -> BgpRow
 }
 
 /// Returns the row of an attribute.
-fn attribute_row(attribute: &PathAttribute<&[u8]>) -> BgpRow
+fn attribute_row<R: AsOctets + Copy>(attribute: &PathAttribute<R>) -> BgpRow
     ensures { result ≡ row_of_attribute (attribute_of attribute.now) }
 {
     BgpRow {

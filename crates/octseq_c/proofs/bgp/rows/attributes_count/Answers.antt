@@ -9,10 +9,10 @@ use Rattle.octseq_c.proofs.BgpRows.{more_rows, last_rows}
 use Rattle.octseq_c.proofs.bgp.rows.attributes_count.Goals as goal
 
 pub attributes-init : goal.attributes-init
-attributes-init c = record { done = []; session = refl; whole = λ more are. are; count = refl; room = omega arith }
+attributes-init g c = record { done = []; session = refl; whole = λ more are. are; count = refl; room = omega arith }
 
 pub attributes-preserved : goal.attributes-preserved
-attributes-preserved c =
+attributes-preserved g c =
     let so_far = c.attributes.invariant in
     let attribute = c.in-Some.attribute in
     let e = attribute_of attribute in
@@ -33,7 +33,7 @@ attributes-preserved c =
     }
 
 pub returns-clause-rows : goal.returns-clause-rows
-returns-clause-rows c =
+returns-clause-rows g c =
     let so_far = c.attributes.invariant in (
       so_far.done,
       last_rows (attributes_session c.args.attributes) (attributes_left c.args.attributes) so_far.done

@@ -7,7 +7,7 @@ use Rattle.octseq_c.specs.declared.bgp.rows.BgpRow.{BgpRow}
 use Rattle.octseq_c.proofs.bgp.rows.attributes_count.Given as goal
 
 abbrev pub invariant-attributes : goal.invariant-attributes
-invariant-attributes l = record {
+invariant-attributes g l = record {
   done : List BgpRow;
   session : attributes_session l.ahead ≡ attributes_session l.fn.attributes;
   whole : (more : List BgpRow) → AreAttributeRows (attributes_session l.fn.attributes) (attributes_left l.ahead) more
@@ -17,4 +17,4 @@ invariant-attributes l = record {
 }
 
 abbrev pub decreases-attributes : goal.decreases-attributes
-decreases-attributes l = length (attributes_left l.ahead)
+decreases-attributes g l = length (attributes_left l.ahead)

@@ -11,7 +11,7 @@ use Rattle.octseq_c.proofs.BgpRows.{first_rows, more_rows, last_rows}
 use Rattle.octseq_c.proofs.bgp.rows.fill_attributes.Goals as goal
 
 pub attributes-init : goal.attributes-init
-attributes-init c =
+attributes-init g c =
     let out = c.args.out.now in
     record {
       done = [];
@@ -25,8 +25,28 @@ attributes-init c =
           ∙ take-append-drop c.args.from out);
     }
 
+pub fill_attribute-at-requires : goal.fill_attribute-at-requires
+fill_attribute-at-requires g c =
+    let so_far = c.attributes.invariant in
+    let attribute = c.in-Some.attribute in
+    let e = attribute_of attribute in
+    let v = value_of c.value-value.result in
+    let rows = rows_of_attribute e v in
+    let s = attributes_session c.args.attributes in
+    let steps = c.in-Some.ensures.steps in
+    let said = subst (λ session. IsValue session attribute.type_code (window attribute.value) v)
+    (steps.2 ∙ so_far.session) c.value-value.ensures in
+    let (rest, are, more) = first_rows s e v steps.0 said so_far.more so_far.ahead in
+    let many = ap length more in
+    let both = length-append rows rest in
+    let room = so_far.room in
+    let place = so_far.place in
+    let long = placed_long c.args.out.now c.attributes.out so_far.done c.args.from c.attributes.at
+    (omega (arith, room, place)) place (omega (arith, room)) so_far.written in
+    omega (arith, room, many, both, long)
+
 pub attributes-preserved : goal.attributes-preserved
-attributes-preserved c =
+attributes-preserved g c =
     let so_far = c.attributes.invariant in
     let attribute = c.in-Some.attribute in
     let e = attribute_of attribute in
@@ -55,7 +75,7 @@ attributes-preserved c =
     }
 
 pub returns : goal.returns
-returns c =
+returns g c =
     let so_far = c.attributes.invariant in (
       so_far.done,
       last_rows (attributes_session c.args.attributes) (attributes_left c.args.attributes) so_far.done

@@ -6,7 +6,7 @@ use Rattle.octseq_c.specs.declared.bgp.rows.BgpRow.{BgpRow}
 use Rattle.octseq_c.proofs.bgp.rows.fill_attributes.Given as goal
 
 abbrev pub invariant-attributes : goal.invariant-attributes
-invariant-attributes l = record {
+invariant-attributes g l = record {
   done : List BgpRow;
   more : List BgpRow;
   session : attributes_session l.ahead ≡ attributes_session l.fn.attributes;
@@ -19,4 +19,4 @@ invariant-attributes l = record {
 }
 
 abbrev pub decreases-attributes : goal.decreases-attributes
-decreases-attributes l = length (attributes_left l.ahead)
+decreases-attributes g l = length (attributes_left l.ahead)

@@ -5,7 +5,7 @@ use Rattle.octseq_c.specs.BgpRows.{row_of_prefix}
 use Rattle.octseq_c.proofs.bgp.rows.fill_prefixes.Given as goal
 
 abbrev pub invariant-loop-nlri : goal.invariant-loop-nlri
-invariant-loop-nlri l = record {
+invariant-loop-nlri g l = record {
   end : l.at + length (prefixes_left l.nlri-iterator) ≡ l.fn.from + length (prefixes_left l.fn.prefixes);
   whole : take l.at l.out ++ map (row_of_prefix l.kind l.safi) (prefixes_left l.nlri-iterator)
       ≡ take l.fn.from l.fn.out ++ map (row_of_prefix l.kind l.safi) (prefixes_left l.fn.prefixes);
