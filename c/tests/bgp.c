@@ -324,7 +324,7 @@ static void check_families(void) {
 /* An AS_PATH of one AS number, in a message of each width. */
 static void check_asns(void) {
     static const uint8_t BODY[] = {0, 0, 0, 7, 0x40, 2, 4, 2, 1, 0xFD, 0xE8};
-    static const char NARROW[] = "update\nattribute T AS_PATH 65000\n";
+    static const char NARROW[] = "update\nattribute T AS_PATH sequence 65000\n";
     uint8_t octets[HEAD_LEN + sizeof BODY];
     size_t len = put_head(octets, 2, sizeof BODY);
     memcpy(octets + HEAD_LEN, BODY, sizeof BODY);
@@ -342,13 +342,14 @@ static void check_asns(void) {
 static void check_sizes(void) {
     static uint8_t octets[65535];
     static const size_t SIZES[] = {21, 4096, 4097, 65535};
+    static const uint32_t SESSIONS[] = {0, OCTSEQ_BGP_EXTENDED_MESSAGE, UINT32_MAX - OCTSEQ_BGP_EXTENDED_MESSAGE};
     for (size_t i = 0; i < sizeof SIZES / sizeof SIZES[0]; i++)
-        for (uint32_t session = 0; session < 64; session++) {
-            int fits = SIZES[i] <= 4096 || session & OCTSEQ_BGP_EXTENDED_MESSAGE;
+        for (size_t j = 0; j < sizeof SESSIONS / sizeof SESSIONS[0]; j++) {
+            int fits = SIZES[i] <= 4096 || SESSIONS[j] & OCTSEQ_BGP_EXTENDED_MESSAGE;
             size_t len = put_head(octets, 3, SIZES[i] - HEAD_LEN);
-            CHECK(status_of(octets, len, session) == (fits ? OCTSEQ_OK : OCTSEQ_MALFORMED));
+            CHECK(status_of(octets, len, SESSIONS[j]) == (fits ? OCTSEQ_OK : OCTSEQ_MALFORMED));
             put_head(octets, 4, SIZES[i] - HEAD_LEN);
-            CHECK(status_of(octets, len, session) == OCTSEQ_MALFORMED);
+            CHECK(status_of(octets, len, SESSIONS[j]) == OCTSEQ_MALFORMED);
         }
     CHECK(status_of(octets, put_head(octets, 4, 0), 0) == OCTSEQ_OK);
     CHECK(status_of(octets, 0, 0) == OCTSEQ_MALFORMED);

@@ -59,7 +59,7 @@ class OnSamples(unittest.TestCase):
                 prefixes = [(one.network, one.path_id) for one in getattr(message, word)]
                 self.assertEqual(prefixes, prefixes_of(word, lines))
                 count += len(prefixes)
-        self.assertGreater(count, 300)
+        self.assertGreater(count, 250)
 
     def test_their_attributes(self) -> None:
         count = 0
@@ -72,7 +72,7 @@ class OnSamples(unittest.TestCase):
                 self.assertEqual(bool(attribute.flags & 0x80), "O" in words[1])
                 self.assertEqual(bool(attribute.flags & 0x40), "T" in words[1])
                 count += 1
-        self.assertGreater(count, 300)
+        self.assertGreater(count, 250)
 
     def test_cut_off_they_are_none(self) -> None:
         for it in self.messages[:40]:
@@ -136,7 +136,7 @@ class OfSessions(unittest.TestCase):
     def test_as_numbers(self) -> None:
         octets = MARKER + bytes.fromhex("001e" "02" "0000" "0007" "400204" "0201fde8")
         narrow = Message.from_wire(octets, Session(four_octet_asn=False))
-        self.assertEqual(narrow.text, "update\nattribute T AS_PATH 65000\n")
+        self.assertEqual(narrow.text, "update\nattribute T AS_PATH sequence 65000\n")
         self.assertNotEqual(Message.from_wire(octets).text, narrow.text)
 
     def test_long_messages(self) -> None:
