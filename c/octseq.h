@@ -209,8 +209,8 @@ typedef struct octseq_bgp_row {
 
 /* The parts of the message that the octets are, in their order: withdrawn prefixes, attributes, announced prefixes. The
  * prefixes of an MP_REACH_NLRI and of an MP_UNREACH_NLRI follow it, if its value has the form of its type and its
- * family is IPv4 or IPv6, unicast or multicast. A message that is no UPDATE has no rows, and none has more rows than
- * octets. OK, NO_ROOM, MALFORMED: the octets are no message of the session. */
+ * family is IPv4 or IPv6, unicast or multicast. A message that is no UPDATE has no rows. OK, NO_ROOM, MALFORMED: the
+ * octets are no message of the session. */
 uint32_t octseq_bgp_rows(const uint8_t *octets, size_t len, uint32_t session, octseq_bgp_row *out, size_t room,
                          size_t *count);
 
