@@ -6,8 +6,8 @@
  * What a caller promises. A pointer and the length after it name that many octets (or rows), which the call may read,
  * or write where the pointer isn't const, until it returns. The pointer may be NULL where the length is 0. What is
  * written overlaps no other argument, and nobody else writes to an argument meanwhile. What is only written may be
- * uninitialised. No length after a pointer is above PTRDIFF_MAX; of rows their octets count, which are
- * `sizeof(octseq_dns_row)` times as many. Any other pointer (`written`, `count`, `state` and the like) is to one such
+ * uninitialised. No length after a pointer is above PTRDIFF_MAX; of rows their octets count, which are the row's
+ * `sizeof` times as many. Any other pointer (`written`, `count`, `state` and the like) is to one such
  * thing, and isn't NULL.
  * All other numbers, as places, types and the fields of a row, may be any.
  *
@@ -173,6 +173,51 @@ uint32_t octseq_dns_class_text(uint16_t rclass, uint8_t *out, size_t room, size_
  * 0. */
 uint32_t octseq_dns_rtype_from_text(const uint8_t *text, size_t len, uint16_t *rtype);
 uint32_t octseq_dns_class_from_text(const uint8_t *text, size_t len, uint16_t *rclass);
+
+/* ---- BGP messages (RFC 4271) ---- */
+
+/* How the messages of a session are read, as a sum of these. 0 is a session with AS numbers of four octets, without
+ * path ids, whose messages have at most 4,096 octets. All other bits are ignored. */
+#define OCTSEQ_BGP_TWO_OCTET_ASN 1u           /* AS numbers have two octets: RFC 4271, not RFC 6793 */
+#define OCTSEQ_BGP_EXTENDED_MESSAGE 2u        /* messages may have 65,535 octets: RFC 8654 */
+#define OCTSEQ_BGP_ADD_PATH_IPV4_UNICAST 4u   /* prefixes of this family have path ids: RFC 7911 */
+#define OCTSEQ_BGP_ADD_PATH_IPV4_MULTICAST 8u
+#define OCTSEQ_BGP_ADD_PATH_IPV6_UNICAST 16u
+#define OCTSEQ_BGP_ADD_PATH_IPV6_MULTICAST 32u
+#define OCTSEQ_BGP_ADD_PATH 60u               /* all four families */
+
+/* The kinds of rows. */
+#define OCTSEQ_BGP_WITHDRAWN 0u /* a prefix of the withdrawn routes */
+#define OCTSEQ_BGP_ATTRIBUTE 1u /* a path attribute */
+#define OCTSEQ_BGP_ANNOUNCED 2u /* a prefix after the attributes */
+#define OCTSEQ_BGP_REACHED 3u   /* a prefix of MP_REACH_NLRI (RFC 4760, 3) */
+#define OCTSEQ_BGP_UNREACHED 4u /* a prefix of MP_UNREACH_NLRI (RFC 4760, 4) */
+
+/* A prefix or a path attribute of an UPDATE. Places are counted from the first octet of the message. */
+typedef struct octseq_bgp_row {
+    size_t at;            /* where the value of the attribute begins, or the octets of the prefix, after its length */
+    size_t len;           /* how many octets there are; of a prefix (bits + 7) / 8 */
+    uint32_t kind;        /* OCTSEQ_BGP_WITHDRAWN and so on */
+    uint32_t path_id;     /* its path id, or 0 */
+    uint16_t has_path_id; /* 1 of a prefix with a path id, else 0 */
+    uint16_t afi;         /* 1 of an IPv4 prefix, 2 of an IPv6 one; 0 of an attribute */
+    uint8_t safi;         /* 1 of a unicast prefix, 2 of a multicast one; 0 of an attribute */
+    uint8_t bits;         /* the length of the prefix in bits; 0 of an attribute */
+    uint8_t flags;        /* the flags of the attribute; 0 of a prefix */
+    uint8_t type_code;    /* the type of the attribute; 0 of a prefix */
+} octseq_bgp_row;
+
+/* The parts of the message that the octets are, in their order: withdrawn prefixes, attributes, announced prefixes. The
+ * prefixes of an MP_REACH_NLRI and of an MP_UNREACH_NLRI follow it, if its value has the form of its type and its
+ * family is IPv4 or IPv6, unicast or multicast. A message that is no UPDATE has no rows. OK, NO_ROOM, MALFORMED: the
+ * octets are no message of the session. */
+uint32_t octseq_bgp_rows(const uint8_t *octets, size_t len, uint32_t session, octseq_bgp_row *out, size_t room,
+                         size_t *count);
+
+/* The text of the message that the octets are, a line for each of its parts. OK, NO_ROOM, MALFORMED: the octets are no
+ * message of the session; UNSHOWN. */
+uint32_t octseq_bgp_message_text(const uint8_t *octets, size_t len, uint32_t session, uint8_t *out, size_t room,
+                                 size_t *written);
 
 #ifdef __cplusplus
 }

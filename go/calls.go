@@ -266,3 +266,50 @@ func classFromText(text []byte) (Class, error) {
 	}
 	return Class(number), nil
 }
+
+// bgpRowCount is how many rows a message of a session has.
+func bgpRowCount(octets []byte, session uint32) (int, error) {
+	var count C.size_t
+	status := C.octseq_bgp_rows(start(octets), size(octets), C.uint32_t(session), nil, 0, &count)
+	if status != C.OCTSEQ_OK && status != C.OCTSEQ_NO_ROOM {
+		return 0, errorOf(status)
+	}
+	return int(count), nil
+}
+
+// bgpRows are the rows of a message of a session that has as many as count says.
+func bgpRows(octets []byte, session uint32, count int) ([]BGPRow, error) {
+	out := make([]C.octseq_bgp_row, count)
+	var first *C.octseq_bgp_row
+	if count > 0 {
+		first = &out[0]
+	}
+	var written C.size_t
+	status := C.octseq_bgp_rows(start(octets), size(octets), C.uint32_t(session), first, C.size_t(count), &written)
+	if status != C.OCTSEQ_OK {
+		return nil, errorOf(status)
+	}
+	rows := make([]BGPRow, written)
+	for at := range rows {
+		row := &out[at]
+		rows[at] = BGPRow{
+			At:        int(row.at),
+			Len:       int(row.len),
+			Kind:      BGPKind(row.kind),
+			PathID:    uint32(row.path_id),
+			HasPathID: row.has_path_id != 0,
+			AFI:       uint16(row.afi),
+			SAFI:      uint8(row.safi),
+			Bits:      uint8(row.bits),
+			Flags:     uint8(row.flags),
+			TypeCode:  uint8(row.type_code),
+		}
+	}
+	return rows, nil
+}
+
+func bgpMessageText(octets []byte, session uint32) (string, error) {
+	return textOf(filled(8*len(octets), func(to *room) C.uint32_t {
+		return C.octseq_bgp_message_text(start(octets), size(octets), C.uint32_t(session), to.out, to.len, &to.written)
+	}))
+}

@@ -1,4 +1,5 @@
-// Package octseq has safe calls of the octseq library: well-formed UTF-8, lossy texts and DNS messages.
+// Package octseq has safe calls of the octseq library: well-formed UTF-8, lossy texts, DNS and BGP
+// messages.
 //
 // What a call answers is computed by a C library whose calls are proved to return and to answer what octseq.h says, for
 // all octets. What is in this package isn't proved: it turns slices into pointers and lengths, and statuses into

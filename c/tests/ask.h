@@ -17,6 +17,7 @@ struct given {
     size_t source_len;
     const octseq_dns_row *rows;
     size_t count;
+    uint32_t session; /* of a BGP message */
 };
 
 typedef uint32_t call(const struct given *given, uint8_t *out, size_t room, size_t *written);
@@ -138,6 +139,14 @@ static inline uint32_t data_text(const struct given *given, uint8_t *out, size_t
 
 static inline uint32_t rtype_text(const struct given *given, uint8_t *out, size_t room, size_t *written) {
     return octseq_dns_rtype_text(given->rtype, out, room, written);
+}
+
+static inline uint32_t bgp_rows(const struct given *given, uint8_t *out, size_t room, size_t *written) {
+    return octseq_bgp_rows(given->octets, given->len, given->session, (octseq_bgp_row *)(void *)out, room, written);
+}
+
+static inline uint32_t bgp_message_text(const struct given *given, uint8_t *out, size_t room, size_t *written) {
+    return octseq_bgp_message_text(given->octets, given->len, given->session, out, room, written);
 }
 
 static inline uint32_t class_text(const struct given *given, uint8_t *out, size_t room, size_t *written) {

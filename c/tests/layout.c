@@ -30,6 +30,18 @@ AT(octseq_dns_row, rclass, 30, 2);
 AT(octseq_dns_row, section, 32, 4);
 ASSERT(octseq_dns_row_size, sizeof(octseq_dns_row) == 40);
 
+AT(octseq_bgp_row, at, 0, 8);
+AT(octseq_bgp_row, len, 8, 8);
+AT(octseq_bgp_row, kind, 16, 4);
+AT(octseq_bgp_row, path_id, 20, 4);
+AT(octseq_bgp_row, has_path_id, 24, 2);
+AT(octseq_bgp_row, afi, 26, 2);
+AT(octseq_bgp_row, safi, 28, 1);
+AT(octseq_bgp_row, bits, 29, 1);
+AT(octseq_bgp_row, flags, 30, 1);
+AT(octseq_bgp_row, type_code, 31, 1);
+ASSERT(octseq_bgp_row_size, sizeof(octseq_bgp_row) == 32);
+
 /* The number of some octets at an offset, the lowest octet first. */
 static uint64_t at(const void *things, size_t offset, size_t size) {
     const uint8_t *octets = (const uint8_t *)things + offset;
@@ -97,6 +109,28 @@ static void check_read(const uint8_t *octets) {
     check_row(&again[1], 17, 1);
 }
 
+/* An UPDATE with a withdrawn IPv6 multicast prefix of 12 bits, which has a path id. */
+static void check_bgp_rows(void) {
+    static const uint8_t BODY[] = {0, 0, 0, 14, 0x90, 15, 0, 10, 0, 2, 2, 0x01, 0x02, 0x03, 0x04, 12, 0x20, 0x10};
+    uint8_t octets[19 + sizeof BODY];
+    octseq_bgp_row rows[2];
+    size_t count = 0;
+    memset(octets, 0xFF, 16);
+    octets[16] = 0;
+    octets[17] = sizeof octets;
+    octets[18] = 2;
+    memcpy(octets + 19, BODY, sizeof BODY);
+    CHECK(octseq_bgp_rows(octets, sizeof octets, OCTSEQ_BGP_ADD_PATH_IPV6_MULTICAST, rows, 2, &count) == OCTSEQ_OK);
+    CHECK(count == 2);
+    CHECK(at(&rows[0], 0, 8) == 27 && at(&rows[0], 8, 8) == 10 && at(&rows[0], 16, 4) == OCTSEQ_BGP_ATTRIBUTE);
+    CHECK(at(&rows[0], 20, 8) == 0 && at(&rows[0], 28, 2) == 0);
+    CHECK(at(&rows[0], 30, 1) == 0x90 && at(&rows[0], 31, 1) == 15);
+    CHECK(at(&rows[1], 0, 8) == 35 && at(&rows[1], 8, 8) == 2 && at(&rows[1], 16, 4) == OCTSEQ_BGP_UNREACHED);
+    CHECK(at(&rows[1], 20, 4) == 0x01020304 && at(&rows[1], 24, 2) == 1 && at(&rows[1], 26, 2) == 2);
+    CHECK(at(&rows[1], 28, 1) == 2 && at(&rows[1], 29, 1) == 12 && at(&rows[1], 30, 2) == 0);
+    note(count, rows, sizeof rows);
+}
+
 static void check_state(void) {
     octseq_lossy_state state;
     size_t written = 99;
@@ -112,6 +146,7 @@ int main(void) {
     check_header(octets);
     check_rows(octets);
     check_read(octets);
+    check_bgp_rows();
     check_state();
     return finish("layout");
 }

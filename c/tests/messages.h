@@ -1,5 +1,5 @@
 /* The messages of real traffic: `stdin` has each after its length in two octets, `stdout` what another reader made of
- * them. First it has the text of each and an empty line, `malformed` where there is no message. Then come lines of
+ * them. Where BGP_MESSAGES is defined, there is an octet with the session of the message before that length. First it has the text of each and an empty line, `malformed` where there is no message. Then come lines of
  * numbers, one for each message of at most 512 octets. */
 #ifndef MESSAGES_H
 #define MESSAGES_H
@@ -12,7 +12,14 @@ struct message {
     const char *text; /* its text, or NULL where it is malformed */
     size_t text_len;
     const char *line; /* its line of numbers, which a line feed ends, or NULL */
+    uint8_t session;  /* the octet before its length, or 0 */
 };
+
+#ifdef BGP_MESSAGES
+#define SESSION_LEN 1
+#else
+#define SESSION_LEN 0
+#endif
 
 #define MOST_MESSAGES 4096
 
@@ -38,8 +45,10 @@ static inline char *read_file(const char *path, size_t *len) {
 
 static inline void read_messages(const uint8_t *stream, size_t len) {
     for (size_t at = 0; at < len;) {
-        CHECK(at + 2 <= len && message_count < MOST_MESSAGES);
+        CHECK(at + SESSION_LEN + 2 <= len && message_count < MOST_MESSAGES);
         struct message *message = &messages[message_count++];
+        message->session = SESSION_LEN ? stream[at] : 0;
+        at += SESSION_LEN;
         message->len = (size_t)stream[at] << 8 | stream[at + 1];
         message->octets = stream + at + 2;
         at += 2 + message->len;

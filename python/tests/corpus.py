@@ -1,10 +1,13 @@
-"""The messages of crates/octseq_dns_messages, with the texts that another reader, dnspython, makes of them."""
+"""The messages of crates/octseq_dns_messages and crates/octseq_bgp_messages, with the texts that other readers, dnspython
+and mrtparse, make of them."""
 from __future__ import annotations
 
 import pathlib
 from typing import NamedTuple
 
-FOLDER = pathlib.Path(__file__).resolve().parents[2] / "crates" / "octseq_dns_messages"
+CRATES = pathlib.Path(__file__).resolve().parents[2] / "crates"
+FOLDER = CRATES / "octseq_dns_messages"
+BGP_FOLDER = CRATES / "octseq_bgp_messages"
 
 
 class Sample(NamedTuple):
@@ -25,4 +28,26 @@ def samples() -> list[Sample]:
         at = end
     if at != len(stream):
         raise ValueError(f"{FOLDER} has a text too few or too many")
+    return found
+
+
+class BgpSample(NamedTuple):
+    """A number that says the session of a message, its octets, and its text, `malformed` where there is no message."""
+
+    session: int
+    octets: bytes
+    text: str
+
+
+def bgp_samples() -> list[BgpSample]:
+    """All messages of BGP: 187 of daemons and captures, and 131 that were made."""
+    stream = (BGP_FOLDER / "stdin").read_bytes()
+    blocks = (BGP_FOLDER / "stdout").read_text(encoding="utf-8").split("\n\n")
+    found, at = [], 0
+    for block in blocks[:-1]:
+        end = at + 3 + int.from_bytes(stream[at + 1 : at + 3], "big")
+        found.append(BgpSample(stream[at], stream[at + 3 : end], block + "\n"))
+        at = end
+    if at != len(stream):
+        raise ValueError(f"{BGP_FOLDER} has a text too few or too many")
     return found

@@ -1,6 +1,9 @@
 pub mod Anew
 pub mod AnswerBegun
 pub mod Appended
+pub mod BgpFilled
+pub mod BgpRoom
+pub mod BgpRows
 pub mod OneAnswer
 pub mod OneRewriting
 pub mod OneTexts

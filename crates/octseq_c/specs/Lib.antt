@@ -1,3 +1,6 @@
+pub mod BgpRoom
+pub mod BgpRows
+pub mod BgpSession
 pub mod LossyText
 pub mod Made
 pub mod Order

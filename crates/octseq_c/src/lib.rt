@@ -1,10 +1,12 @@
-//! The library for C. Each call does what a call of `octseq` or `octseq_dns` does, over octets that the caller lends.
-//! It requests no memory, keeps no pointer, and returns a status.
+//! The library for C. Each call does what a call of `octseq`, `octseq_dns` or `octseq_bgp` does, over octets that the
+//! caller lends. It requests no memory, keeps no pointer, and returns a status.
 #![tactic(auto)]
 
 mod answer;
+mod bgp;
 mod data;
 mod header;
+mod lines;
 mod lossy;
 mod message;
 mod names;

@@ -1,7 +1,8 @@
-"""UTF-8 texts and DNS messages, read and written by calls that are formally proved.
+"""UTF-8 texts, DNS and BGP messages, read and written by calls that are formally proved.
 
 The calls are those of the C library `octseq`, which is a part of this package: for all octets each of them returns,
-touches no memory but its own, and answers what its contract says. `octseq.dns` has the names and messages of DNS.
+touches no memory but its own, and answers what its contract says. `octseq.dns` has the names and messages of DNS,
+`octseq.bgp` the messages of BGP.
 """
 from .errors import BadRow, BadState, Immovable, Malformed, TooLong, Unshown
 from .utf8 import Fault, LossyDecoder, first_fault, is_utf8, lossy

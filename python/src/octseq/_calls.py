@@ -24,6 +24,7 @@ if TYPE_CHECKING:
 
 Call = Callable[..., int]
 _OCTETS, _ROWS, _SIZE = ffi.typeof("uint8_t[]"), ffi.typeof("octseq_dns_row[]"), ffi.typeof("size_t *")
+_BGP_ROWS = ffi.typeof("octseq_bgp_row[]")
 _HEADER, _STATE = ffi.typeof("octseq_dns_header *"), ffi.typeof("octseq_lossy_state *")
 _ORDER, _NUMBER = ffi.typeof("int32_t *"), ffi.typeof("uint16_t *")
 _array_of = ffi.new_allocator(should_clear_after_alloc=False)
@@ -58,6 +59,21 @@ class Row(NamedTuple):
     rtype: int
     rclass: int
     section: int
+
+
+class BgpRow(NamedTuple):
+    """A prefix or a path attribute, as `octseq_bgp_row` has it. Places are counted from the message's first octet."""
+
+    at: int
+    len: int
+    kind: int
+    path_id: int
+    has_path_id: int
+    afi: int
+    safi: int
+    bits: int
+    flags: int
+    type_code: int
 
 
 def frozen(data: Buffer) -> bytes | memoryview:
@@ -189,6 +205,13 @@ def dns_data_is_typed(data: bytes, row: Row) -> bool:
     """Whether the data of a row has the form of its type and class."""
     numbers = row.data_at, row.data_len, row.rtype, row.rclass
     return lib.octseq_dns_data_is_typed(data, len(data), *numbers) == 1
+
+
+def bgp_rows(data: bytes, session: int, room: int) -> list[BgpRow]:
+    """The parts of an UPDATE of a session. `room` is a guess of how many they are. Malformed."""
+    out, count = _filled(_BGP_ROWS, room, lib.octseq_bgp_rows, data, len(data), session)
+    fields = BgpRow._fields
+    return [BgpRow(*(getattr(out[index], field) for field in fields)) for index in range(count)]
 
 
 def mnemonic(call: Call, number: int) -> str:

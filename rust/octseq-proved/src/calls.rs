@@ -10,6 +10,7 @@
 //!
 //! `usize` is `size_t` on each target that the library is built for.
 
+use crate::bgp;
 use crate::dns::{Class, Header, Row, Rtype};
 use core::mem::{align_of, offset_of, size_of};
 
@@ -53,6 +54,12 @@ const _: () = {
     assert!(offset_of!(Row, name_at) == 0 && offset_of!(Row, data_at) == WORD && offset_of!(Row, data_len) == 2 * WORD);
     assert!(offset_of!(Row, ttl) == 3 * WORD && offset_of!(Row, rtype) == 3 * WORD + 4);
     assert!(offset_of!(Row, rclass) == 3 * WORD + 6 && offset_of!(Row, section) == 3 * WORD + 8);
+    assert!(size_of::<bgp::Row>() == 2 * WORD + 16 && align_of::<bgp::Row>() == align_of::<usize>());
+    assert!(offset_of!(bgp::Row, at) == 0 && offset_of!(bgp::Row, len) == WORD);
+    assert!(offset_of!(bgp::Row, kind) == 2 * WORD && offset_of!(bgp::Row, path_id) == 2 * WORD + 4);
+    assert!(offset_of!(bgp::Row, has_path_id) == 2 * WORD + 8 && offset_of!(bgp::Row, afi) == 2 * WORD + 10);
+    assert!(offset_of!(bgp::Row, safi) == 2 * WORD + 12 && offset_of!(bgp::Row, bits) == 2 * WORD + 13);
+    assert!(offset_of!(bgp::Row, flags) == 2 * WORD + 14 && offset_of!(bgp::Row, type_code) == 2 * WORD + 15);
     assert!(size_of::<Rtype>() == 2 && size_of::<Class>() == 2);
 };
 
@@ -145,6 +152,22 @@ unsafe extern "C" {
     fn octseq_dns_class_text(rclass: u16, out: *mut u8, room: usize, written: *mut usize) -> u32;
     fn octseq_dns_rtype_from_text(text: *const u8, len: usize, rtype: *mut u16) -> u32;
     fn octseq_dns_class_from_text(text: *const u8, len: usize, rclass: *mut u16) -> u32;
+    fn octseq_bgp_rows(
+        octets: *const u8,
+        len: usize,
+        session: u32,
+        out: *mut bgp::Row,
+        room: usize,
+        count: *mut usize,
+    ) -> u32;
+    fn octseq_bgp_message_text(
+        octets: *const u8,
+        len: usize,
+        session: u32,
+        out: *mut u8,
+        room: usize,
+        written: *mut usize,
+    ) -> u32;
 }
 
 /// What a call answers that writes: its status, and what it says was written, or is needed.
@@ -352,4 +375,23 @@ pub fn class_from_text(text: &str) -> (u32, Class) {
     // SAFETY: the text's octets are a slice that is borrowed for the call; `number` is a variable.
     let status = unsafe { octseq_dns_class_from_text(text.as_ptr(), text.len(), &mut number) };
     (status, Class(number))
+}
+
+pub fn bgp_rows(octets: &[u8], session: u32, out: &mut [bgp::Row]) -> Written {
+    let mut count = 0;
+    // SAFETY: `octets` and `out` are slices that are borrowed for the call, `out` alone; `count` is a variable. The
+    // layout of a row is checked above, and any numbers make a row. Any session may be asked.
+    let status =
+        unsafe { octseq_bgp_rows(octets.as_ptr(), octets.len(), session, out.as_mut_ptr(), out.len(), &mut count) };
+    (status, count)
+}
+
+pub fn bgp_message_text(octets: &[u8], session: u32, out: &mut [u8]) -> Written {
+    let mut written = 0;
+    // SAFETY: `octets` and `out` are slices that are borrowed for the call, `out` alone; `written` is a variable. Any
+    // session may be asked.
+    let status = unsafe {
+        octseq_bgp_message_text(octets.as_ptr(), octets.len(), session, out.as_mut_ptr(), out.len(), &mut written)
+    };
+    (status, written)
 }

@@ -1,4 +1,4 @@
-//! Safe calls of octseq: well-formed UTF-8, lossy texts and DNS messages.
+//! Safe calls of octseq: well-formed UTF-8, lossy texts, DNS and BGP messages.
 //!
 //! What a call answers is computed by `liboctseq.a`, whose calls are proved to return and to answer what `octseq.h`
 //! says, for all octets. What is in this crate isn't proved: it turns slices into pointers and lengths, and statuses
@@ -13,6 +13,7 @@
 #[cfg(feature = "alloc")]
 extern crate alloc;
 
+pub mod bgp;
 mod calls;
 pub mod dns;
 pub mod utf8;

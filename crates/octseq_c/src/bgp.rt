@@ -1,0 +1,6 @@
+//! BGP messages.
+
+mod message;
+mod rows;
+mod session;
+mod text;
