@@ -12,7 +12,7 @@ pub mod Kept
 pub mod Lasts
 pub mod Marks
 mod MessagesBack
-mod Moves
+pub mod Moves
 pub mod Names
 pub mod NextHops
 pub mod NlriLists
