@@ -5,6 +5,7 @@ use Rattle.std.proofs.Props.{props}
 use mathlib.Core.HLevel.{Σ_prop_path}
 use Rattle.octseq_bgp.specs.Family.{afi_of}
 use Rattle.octseq_bgp.specs.Prefix.{most_bits}
+use Rattle.octseq_bgp.specs.Written.{written_prefix}
 use Rattle.octseq_bgp.specs.declared.family.Afi.{Afi}
 use Rattle.octseq_bgp.specs.declared.family.Afi.TheVariants as addresses
 use Rattle.octseq_bgp.specs.declared.family.AfiSafiType.{AfiSafiType}
@@ -22,6 +23,15 @@ use Rattle.octseq_mrt.specs.WrittenBack.{one_table, one_routes}
 -- one more peer
 abbrev pub with_peer : PeerTable → Peer → PeerTable
 with_peer t p = record t { peers = t.peers ++ p ∷ [] }
+
+-- a RIB without entries: bits after the length of its prefix are 0
+abbrev pub begun_rib : ℕ → Prefix → Routes
+begun_rib sequence p = record {
+  sequence = sequence;
+  bits = p.len;
+  prefix = (written_prefix p None).octets;
+  entries = [];
+}
 
 -- one more entry
 abbrev pub with_route : Routes → Route → Routes
