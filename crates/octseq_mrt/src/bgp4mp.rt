@@ -49,10 +49,9 @@ impl<R: AsOctets> MessageOctets<R> {
         ensures session { result.session ≡ message_session subtype }
         ensures octets { window result.octets ≡ whole (R.content octets) }
     {
-        MessageOctets {
-            session: subtype.session(),
-            octets: Parser::from_ref(octets),
-        }
+        let session = subtype.session();
+        let octets = Parser::from_ref(octets);
+        MessageOctets { session, octets }
     }
 }
 

@@ -1,39 +1,51 @@
 //! Messages and state changes, written: RFC 6396, 4.4, and RFC 8050, 3.
 ghost use Rattle.std.specs.Prelude.{◌≡◌, ◌<◌, ◌≤◌, ◌+◌, ◌++◌, ◌↔◌, ◌⊎◌, length, true, IsTrue, OnOk, OnErr};
+ghost use Rattle.octseq.specs.Integer.{octets_be};
 ghost use Rattle.octseq.specs.Limit.{IsPast};
 ghost use Rattle.octseq.specs.Refusal.{IsShort, IsMemory, IsMalformed, write_error};
 ghost use Rattle.octseq_mrt.specs.Address.{address_of, family_number};
 ghost use Rattle.octseq_mrt.specs.Joined.{AppendsBody};
 ghost use Rattle.octseq_mrt.specs.Parsed.{bgp4mp_of, event_of};
 ghost use Rattle.octseq_mrt.specs.ReadBack.{bgp4mp_kind};
-ghost use Rattle.octseq_mrt.specs.Written.{FitsBgp4Mp, IsOfSubtype, bgp4mp_octets, event_octets, family_of, is_change};
+ghost use Rattle.octseq_mrt.specs.Written.{FitsBgp4Mp, FitsFamily, IsOfSubtype, bgp4mp_octets, event_octets};
+ghost use Rattle.octseq_mrt.specs.Written.{family_of, is_change};
 
-use crate::address::{address_octets, fits_asn, is_of_family};
+use crate::address::{address_octets, fits_asn};
 use crate::bgp4mp::{Bgp4Mp, Event};
 use crate::builder::parts::{BODY_MAX, append_parts, asn_octets, optional_octets};
 use crate::kind::{Bgp4MpSubtype, RecordKind};
 use octseq::{AppendError, AsOctets, OctetsBuilder, Truncate, WriteError};
-use octseq_bgp::family::Afi;
 use std::net::IpAddr;
 
-/// Returns the family of an address.
-fn family_of(addr: IpAddr) -> Afi
-    ensures { result ≡ family_of (address_of addr) }
+/// Returns the number of the family of an address.
+fn family_number(addr: IpAddr) -> u16
+    ensures { result ≡ family_number (family_of (address_of addr)) }
 {
     match addr {
-        IpAddr::V4(_) => Afi::Ipv4,
-        IpAddr::V6(_) => Afi::Ipv6,
+        IpAddr::V4(_) => 1,
+        IpAddr::V6(_) => 2,
     }
 }
 
-/// Returns the number of an address family.
-fn family_number(afi: Afi) -> u16
-    ensures { result ≡ family_number afi }
+/// Whether two addresses are of one family.
+fn are_of_one_family(first: IpAddr, second: IpAddr) -> bool
+    ensures of { IsTrue result ↔ FitsFamily (family_of (address_of first)) (address_of second) }
+    ensures fits { IsTrue result → FitsFamily (family_of (address_of first)) (address_of first) }
 {
-    match afi {
-        Afi::Ipv4 => 1,
-        Afi::Ipv6 => 2,
+    match (first, second) {
+        (IpAddr::V4(_), IpAddr::V4(_)) | (IpAddr::V6(_), IpAddr::V6(_)) => true,
+        _ => false,
     }
+}
+
+/// Returns the octets of two states.
+#[tactic(auto, using(octseq::proofs::Written::written_2))]
+fn state_octets(old: u16, new: u16) -> [u8; 4]
+    ensures { result ≡ octets_be 2 old ++ octets_be 2 new }
+{
+    let old = old.to_be_bytes();
+    let new = new.to_be_bytes();
+    [old[0], old[1], new[0], new[1]]
 }
 
 impl<R: AsOctets> Event<R> {
@@ -47,12 +59,13 @@ impl<R: AsOctets> Event<R> {
 
 impl<R: AsOctets + Copy> Bgp4Mp<R> {
     /// Whether it is one of a subtype.
-    fn is_of_subtype(&self, subtype: Bgp4MpSubtype) -> bool
-        ensures { IsTrue result ↔ IsOfSubtype subtype (bgp4mp_of self.now) }
+    fn is_of_subtype(self, subtype: Bgp4MpSubtype) -> bool
+        ensures of { IsTrue result ↔ IsOfSubtype subtype (bgp4mp_of self) }
+        ensures fits { IsTrue result → FitsBgp4Mp subtype (bgp4mp_of self) }
     {
         let wide = subtype.has_wide_asns();
         let fits = fits_asn(self.peer_asn, wide) && fits_asn(self.local_asn, wide);
-        let agree = is_of_family(self.local_addr, family_of(self.peer_addr));
+        let agree = are_of_one_family(self.peer_addr, self.local_addr);
         fits && agree && self.event.is_change() == subtype.is_state_change()
     }
 
@@ -71,10 +84,10 @@ impl<R: AsOctets + Copy> Bgp4Mp<R> {
     ///
     /// # Errors
     ///
-    /// `Malformed` if an AS number doesn't fit the two octets of the subtype, the addresses aren't of one family, or the
-    /// event isn't one of the subtype. Otherwise `Short` if there would be more than 4,294,967,295 octets, or the
-    /// content would exceed the limit of the builder's type. Otherwise `Memory` if a request for memory was refused. The
-    /// content is then unchanged.
+    /// `Malformed` if an AS number doesn't fit the two octets of the subtype, the addresses aren't of one family, or
+    /// the event isn't one of the subtype. Otherwise `Short` if there would be more than 4,294,967,295 octets, or the
+    /// content would exceed the limit of the builder's type. Otherwise `Memory` if a request for memory was refused.
+    /// The content is then unchanged.
     pub fn append_octets<B: OctetsBuilder + Truncate>(
         &self,
         subtype: Bgp4MpSubtype,
@@ -111,8 +124,7 @@ impl<R: AsOctets + Copy> Bgp4Mp<R> {
     {
         match &self.event {
             Event::StateChange(old, new) => {
-                let (old, new) = (old.to_be_bytes(), new.to_be_bytes());
-                self.append_with(subtype, &[old[0], old[1], new[0], new[1]], builder)
+                self.append_with(subtype, &state_octets(*old, *new), builder)
             }
             Event::Message(message) => {
                 self.append_with(subtype, message.octets.peek_all(), builder)
@@ -133,7 +145,6 @@ impl<R: AsOctets + Copy> Bgp4Mp<R> {
         ensures borrows { B.borrows builder.new ≡ B.borrows builder.old }
     {
         let wide = subtype.has_wide_asns();
-        let afi = family_of(self.peer_addr);
         let peer_asn = self.peer_asn.0.to_be_bytes();
         let local_asn = self.local_asn.0.to_be_bytes();
         let (time, time_len) = optional_octets(self.microseconds);
@@ -144,7 +155,7 @@ impl<R: AsOctets + Copy> Bgp4Mp<R> {
             asn_octets(&peer_asn, wide),
             asn_octets(&local_asn, wide),
             &self.interface.to_be_bytes(),
-            &family_number(afi).to_be_bytes(),
+            &family_number(self.peer_addr).to_be_bytes(),
             &peer[..peer_len],
             &local[..local_len],
             event,

@@ -121,7 +121,6 @@ pub(crate) fn push_item<B: OctetsBuilder + Truncate + AsOctetsMut>(
 pub(crate) fn optional_octets(number: Option<u32>) -> ([u8; 4], usize)
     ensures octets { take result.1 result.0 ≡ optional_octets (octets_be 4) number }
     ensures most { result.1 ≤ 4 }
-    ensures fits { FitsOptional (is_some number) number }
 {
     match number {
         Some(number) => (number.to_be_bytes(), 4),

@@ -1,28 +1,31 @@
 //! RIBs, written: RFC 6396, 4.3.2, and RFC 8050, 4.
-ghost use Rattle.std.specs.Prelude.{◌≡◌, ◌≤◌, ◌<◌, ◌+◌, ◌↔◌, ◌⊎◌, length, true, is_some, IsTrue, IfOk, OnOk, OnErr};
+ghost use Rattle.std.specs.Prelude.{◌≡◌, ◌≤◌, ◌<◌, ◌+◌, ◌↔◌, ◌⊎◌, length, take, true, None, is_some, IsTrue, IfOk};
+ghost use Rattle.std.specs.Prelude.{OnOk, OnErr};
 ghost use Rattle.octseq.specs.Limit.{IsPast};
-ghost use Rattle.octseq.specs.Refusal.{IsShort, IsMemory, IsMalformed, write_error};
+ghost use Rattle.octseq.specs.Refusal.{IsShort, IsMemory, IsMalformed, append_error, write_error};
 ghost use Rattle.octseq_bgp.specs.Family.{afi_of};
 ghost use Rattle.octseq_bgp.specs.Parts.{octets_of_bits};
 ghost use Rattle.octseq_bgp.specs.Prefix.{most_bits};
-ghost use Rattle.octseq_bgp.specs.PrefixValue.{address_of};
-ghost use Rattle.octseq_mrt.specs.Building.{FitsPrefix, RibWritten, begun_rib, pushed_route, rib_once, with_route};
-ghost use Rattle.octseq_mrt.specs.Joined.{body_limit};
+ghost use Rattle.octseq_bgp.specs.Written.{written_prefix};
+ghost use Rattle.octseq_mrt.specs.Building.{FitsPrefix, RibWritten, address_bits, begun_rib, pushed_route, rib_once};
+ghost use Rattle.octseq_mrt.specs.Building.{with_route};
+ghost use Rattle.octseq_mrt.specs.Joined.{body_limit, joined};
 ghost use Rattle.octseq_mrt.specs.Rib.{path_of};
-ghost use Rattle.octseq_mrt.specs.Written.{FitsRib, FitsRoute, rib_octets};
+ghost use Rattle.octseq_mrt.specs.Written.{FitsOptional, FitsRib, FitsRoute, rib_octets, route_octets};
 ghost use Rattle.octseq_mrt.specs.declared.kind.RecordKind.TheVariants as kind;
 
 use crate::builder::parts::{BODY_MAX, append_parts, optional_octets, push_item};
 use crate::kind::RecordKind;
 use octseq::builder::AsOctetsMut;
-use octseq::{AsOctets, OctetsBuilder, Parser, Truncate, WriteError};
+use octseq::{AppendError, AsOctets, OctetsBuilder, Parser, Truncate, WriteError};
 use octseq_bgp::family::{Afi, AfiSafiType};
 use octseq_bgp::prefix::{Nlri, OctetsOfBits, PathId, Prefix};
 use octseq_format::Reckoning;
 
 /// Whether a prefix is one of an address family.
 fn is_prefix_of(prefix: &Prefix, family: AfiSafiType) -> bool
-    ensures { IsTrue result ↔ FitsPrefix family prefix.now }
+    ensures fits { IsTrue result ↔ FitsPrefix family prefix.now }
+    ensures most { IsTrue result → prefix.now.len ≤ 128 }
 {
     let afi = family.afi();
     let most = match afi {
@@ -32,9 +35,12 @@ fn is_prefix_of(prefix: &Prefix, family: AfiSafiType) -> bool
     prefix.afi == afi && prefix.len <= most
 }
 
-/// Returns the address of a prefix, with the bits after its length cleared.
-fn cleared_address(prefix: &Prefix) -> [u8; 16]
-    ensures { result ≡ address_of prefix.now.len prefix.now.address }
+/// Returns the octets of a prefix, with the bits after its length cleared, and how many of the sixteen these are.
+fn prefix_octets(prefix: &Prefix) -> ([u8; 16], usize)
+    requires { prefix.now.len ≤ 128 }
+    ensures octets { take result.1 result.0 ≡ (written_prefix prefix.now None).octets }
+    ensures many { result.1 ≡ octets_of_bits prefix.now.len }
+    ensures most { result.1 ≤ 16 }
 {
     let octets: &[u8] = &prefix.address;
     let nlri = Nlri {
@@ -43,13 +49,15 @@ fn cleared_address(prefix: &Prefix) -> [u8; 16]
         len: prefix.len,
         octets: Parser::from_ref(octets),
     };
-    nlri.prefix().address
+    let cleared = nlri.prefix();
+    let address = cleared.address;
+    (address, OctetsOfBits::of(usize::from(prefix.len)))
 }
 
 /// Returns the number of a path id.
 fn path_number(path_id: Option<PathId>) -> Option<u32>
     ensures number { result ≡ path_of path_id }
-    ensures some { is_some result ≡ is_some path_id }
+    ensures fits { FitsOptional (is_some path_id) (path_of path_id) }
 {
     match path_id {
         Some(id) => Some(id.0),
@@ -66,8 +74,7 @@ pub struct RibBuilder<B: AsOctets> {
     paths: bool,
     count_at: usize,
     count: u16,
-    ghost rib: { RibWritten (most_bits (afi_of family)) paths (B.content octets) count_at count }
-        by { rib_once _ _ _ _ _ },
+    ghost rib: { RibWritten (address_bits family) paths (B.content octets) count_at count } by { rib_once _ _ _ _ _ },
 }
 
 impl<B: OctetsBuilder + Truncate + AsOctetsMut> RibBuilder<B> {
@@ -79,8 +86,8 @@ impl<B: OctetsBuilder + Truncate + AsOctetsMut> RibBuilder<B> {
     /// # Errors
     ///
     /// `Malformed` if the prefix isn't one of the family: of its addresses, and of at most 32 or 128 bits. Otherwise
-    /// `Short` if the RIB would exceed the limit of the builder's type, or `Memory` if a request for memory was refused.
-    /// The builder is then dropped.
+    /// `Short` if the RIB would exceed the limit of the builder's type, or `Memory` if a request for memory was
+    /// refused. The builder is then dropped.
     pub fn new(
         octets: B,
         family: AfiSafiType,
@@ -100,13 +107,13 @@ impl<B: OctetsBuilder + Truncate + AsOctetsMut> RibBuilder<B> {
         if !is_prefix_of(prefix, family) {
             return Err(WriteError::Malformed);
         }
-        let len = OctetsOfBits::of(usize::from(prefix.len));
+        let (address, len) = prefix_octets(prefix);
         let mut octets = octets;
         octets.truncate(0);
         let head: [&[u8]; 4] = [
             &sequence.to_be_bytes(),
             &prefix.len.to_be_bytes(),
-            &cleared_address(prefix)[..len],
+            &address[..len],
             &[0, 0],
         ];
         match append_parts(&mut octets, &head, BODY_MAX) {
@@ -128,8 +135,8 @@ impl<B: OctetsBuilder + Truncate + AsOctetsMut> RibBuilder<B> {
     /// # Errors
     ///
     /// `Malformed` if it has a path id where the RIB has none, or none where the RIB has them. Otherwise `Short` if
-    /// there are more than 65,535 octets of attributes, or the RIB already has 65,535 entries, or would exceed the limit
-    /// of the builder's type. Otherwise `Memory` if a request for memory was refused. The RIB is then unchanged.
+    /// there are more than 65,535 octets of attributes, or the RIB already has 65,535 entries, or would exceed the
+    /// limit of the builder's type. Otherwise `Memory` if a request for memory was refused. The RIB is then unchanged.
     pub fn push_entry(
         &mut self,
         peer_index: u16,
@@ -144,8 +151,8 @@ impl<B: OctetsBuilder + Truncate + AsOctetsMut> RibBuilder<B> {
         ensures paths { has_paths self.new ≡ has_paths self.old }
         ensures malformed { IsMalformed write_error result ↔ ¬ (is_some path_id ≡ has_paths self.old) }
         ensures short { IsShort write_error result ↔ (is_some path_id ≡ has_paths self.old)
-            × ((65535 < length attributes.now) ⊎ (65535 ≤ length (rib_in self.old).entries) ⊎ IsPast (body_limit B.limit)
-            (length (rib_octets (with_route (rib_in self.old)
+            × ((65535 < length attributes.now) ⊎ (65535 ≤ length (rib_in self.old).entries)
+            ⊎ IsPast (body_limit B.limit) (length (rib_octets (with_route (rib_in self.old)
             (pushed_route peer_index originated_time path_id attributes.now))))) }
         ensures memory { IsMemory write_error result → B.asks ≡ true }
         ensures borrows { B.borrows (rib_builder self.new) ≡ B.borrows (rib_builder self.old) }
@@ -164,12 +171,40 @@ impl<B: OctetsBuilder + Truncate + AsOctetsMut> RibBuilder<B> {
             &len.to_be_bytes(),
             attributes,
         ];
-        match push_item(&mut self.octets, self.count_at, self.count, &parts) {
+        self.push_parts(peer_index, originated_time, path_id, attributes, &parts)?;
+        Ok(())
+    }
+
+    /// Pushes an entry with these octets.
+    fn push_parts(
+        &mut self,
+        peer_index: u16,
+        originated_time: u32,
+        path_id: Option<PathId>,
+        attributes: &[u8],
+        parts: &[&[u8]],
+    ) -> Result<(), AppendError>
+        requires fits { FitsRoute (has_paths self.old)
+            (pushed_route peer_index originated_time path_id attributes.now) }
+        requires octets { joined parts.now
+            ≡ route_octets (pushed_route peer_index originated_time path_id attributes.now) }
+        ensures ok { OnOk result (rib_in self.new
+            ≡ with_route (rib_in self.old) (pushed_route peer_index originated_time path_id attributes.now)) }
+        ensures err { OnErr result (rib_in self.new ≡ rib_in self.old) }
+        ensures family { rib_family self.new ≡ rib_family self.old }
+        ensures paths { has_paths self.new ≡ has_paths self.old }
+        ensures short { IsShort append_error result ↔ (65535 ≤ length (rib_in self.old).entries)
+            ⊎ IsPast (body_limit B.limit) (length (rib_octets (with_route (rib_in self.old)
+            (pushed_route peer_index originated_time path_id attributes.now)))) }
+        ensures memory { IsMemory append_error result → B.asks ≡ true }
+        ensures borrows { B.borrows (rib_builder self.new) ≡ B.borrows (rib_builder self.old) }
+    {
+        match push_item(&mut self.octets, self.count_at, self.count, parts) {
             Ok(count) => {
                 self.count = count;
                 Ok(())
             }
-            Err(error) => Err(WriteError::from(error)),
+            Err(error) => Err(error),
         }
     }
 

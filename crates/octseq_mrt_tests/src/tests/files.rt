@@ -61,13 +61,19 @@ fn write_ribs<W: Write>(
     let octets = Array::<64>::new();
     let family = AfiSafiType::Ipv4Unicast;
     let mut rib = unwrap(rt, RibBuilder::new(octets, family, false, 0, &ipv4));
-    unwrap(rt, rib.push_entry(0, 1_700_000_000, None, b"\x40\x01\x01\0"));
+    unwrap(
+        rt,
+        rib.push_entry(0, 1_700_000_000, None, b"\x40\x01\x01\0"),
+    );
     records.write_record(1_700_000_001, rib.kind(), rib.as_slice())?;
     let ipv6 = prefix(Afi::Ipv6, 24, [0x20, 1, 0x0D, 0xB8]);
     let octets = Array::<64>::new();
     let family = AfiSafiType::Ipv6Unicast;
     let mut rib = unwrap(rt, RibBuilder::new(octets, family, true, 1, &ipv6));
-    unwrap(rt, rib.push_entry(0, 0, Some(PathId(7)), b"\x40\x01\x01\x02"));
+    unwrap(
+        rt,
+        rib.push_entry(0, 0, Some(PathId(7)), b"\x40\x01\x01\x02"),
+    );
     records.write_record(1_700_000_002, rib.kind(), rib.as_slice())
 }
 
@@ -116,23 +122,25 @@ fn a_file_is_written_and_read_back(rt: HostRuntime) {
     assert_equal!(&rt, text.as_str(), TEXT);
 }
 
-/// A sink that takes one octet, or all of them, at a time, and fails at one write.
+/// A sink that takes a few octets at a time, fails at one write, and goes on after it.
 #[derive(Drop)]
 struct Failing {
     taken: Vec<u8>,
-    writes: usize,
-    fails_at: usize,
     at_once: usize,
+    until_failure: usize,
     kind: ErrorKind,
+    has_failed: bool,
 }
 
 impl Write for Failing {
     fn write(&mut self, buf: &[u8]) -> io::Result<usize> {
-        self.writes += 1;
-        if self.writes == self.fails_at {
+        let fails = self.until_failure == 1;
+        self.until_failure = self.until_failure.saturating_sub(1);
+        if fails {
+            self.has_failed = true;
             return Err(Error::from(self.kind));
         }
-        let count = buf.len().min(self.at_once);
+        let count = self.at_once.min(buf.len());
         self.taken.write(&buf[..count])
     }
 
@@ -141,36 +149,41 @@ impl Write for Failing {
     }
 }
 
-/// Writes the file to a sink that fails at a write, and checks what it took.
-fn fails_at(rt: &(impl Abort + AllocGlobal), write: usize, at_once: usize, kind: ErrorKind) {
+/// Writes the file to a sink that fails at a write, and checks what it took. Returns whether it failed.
+fn fails_at(
+    rt: &(impl Abort + AllocGlobal),
+    write: usize,
+    at_once: usize,
+    kind: ErrorKind,
+) -> bool {
     let sink = Failing {
         taken: Vec::new(rt.alloc()),
-        writes: 0,
-        fails_at: write,
         at_once,
+        until_failure: write,
         kind,
+        has_failed: false,
     };
     let mut records = RecordWriter::new(sink);
     let written = write_file(rt, &mut records);
-    let taken = &records.get_ref().taken;
-    assert_true!(rt, FILE.starts_with(taken.as_slice()));
-    if kind == ErrorKind::Interrupted || records.get_ref().writes < write {
-        assert_true!(rt, written.is_ok());
-        assert_equal!(rt, taken.len(), FILE.len());
-    } else {
-        assert_true!(rt, matches!(written, Err(WriteRecordError::Write(_))));
-        assert_true!(rt, taken.len() < FILE.len());
-    }
+    let sink = records.get_ref();
+    assert_true!(rt, FILE.starts_with(sink.taken.as_slice()));
+    let ends = sink.has_failed && kind != ErrorKind::Interrupted;
+    assert_equal!(rt, sink.taken.len() < FILE.len(), ends);
+    assert_equal!(rt, matches!(written, Err(WriteRecordError::Write(_))), ends);
+    sink.has_failed
 }
 
 #[test]
 fn what_a_failing_sink_took_is_a_front(rt: HostRuntime) {
+    // (a header and what follows it are a write each)
     for write in 1..12 {
-        fails_at(&rt, write, 1000, ErrorKind::BrokenPipe);
+        let failed = fails_at(&rt, write, 1000, ErrorKind::BrokenPipe);
+        assert_equal!(&rt, failed, write <= 10);
         fails_at(&rt, write, 1000, ErrorKind::Interrupted);
     }
-    for write in 1..180 {
-        fails_at(&rt, write, 1, ErrorKind::BrokenPipe);
+    for write in 1..200 {
+        let failed = fails_at(&rt, write, 1, ErrorKind::BrokenPipe);
+        assert_equal!(&rt, failed, write <= FILE.len());
     }
     fails_at(&rt, 7, 1, ErrorKind::Interrupted);
 }

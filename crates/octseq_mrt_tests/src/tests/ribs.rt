@@ -48,7 +48,10 @@ fn entries_have_path_ids_or_not(rt: HostRuntime) {
     let mut rib = unwrap(&rt, RibBuilder::new(octets, family, true, 0, &ten()));
     assert_equal!(&rt, rib.push_entry(1, 2, None, b""), malformed);
     assert_equal!(&rt, rib.as_slice(), b"\0\0\0\0\x09\x0A\x80\0\0");
-    unwrap(&rt, rib.push_entry(1, 2, Some(PathId(7)), b"\x40\x01\x01\0"));
+    unwrap(
+        &rt,
+        rib.push_entry(1, 2, Some(PathId(7)), b"\x40\x01\x01\0"),
+    );
     assert_equal!(
         &rt,
         rib.as_slice(),
@@ -71,7 +74,10 @@ fn begin(
     let mut octets = Vec::new(rt.alloc());
     unwrap(rt, octets.push(1));
     match RibBuilder::new(octets, family, false, 0, prefix) {
-        Ok(rib) => Ok(unwrap(rt, rib.as_slice()[4..].to_vec(rt.alloc()))),
+        Ok(rib) => {
+            let after = unwrap(rt, rib.as_slice().get(4..).ok_or("short"));
+            Ok(unwrap(rt, after.to_vec(rt.alloc())))
+        }
         Err(error) => Err(error),
     }
 }
@@ -95,13 +101,29 @@ fn a_prefix_is_one_of_its_family(rt: HostRuntime) {
 #[test]
 fn a_prefix_has_the_octets_that_its_length_needs(rt: HostRuntime) {
     let first = [0x20, 1, 0x0D, 0xBF];
-    let none = unwrap(&rt, begin(&rt, AfiSafiType::Ipv4Unicast, &prefix(Afi::Ipv4, 0, first)));
+    let none = unwrap(
+        &rt,
+        begin(&rt, AfiSafiType::Ipv4Unicast, &prefix(Afi::Ipv4, 0, first)),
+    );
     assert_equal!(&rt, none.as_slice(), b"\0\0\0");
-    let all = unwrap(&rt, begin(&rt, AfiSafiType::Ipv4Unicast, &prefix(Afi::Ipv4, 32, first)));
+    let all = unwrap(
+        &rt,
+        begin(&rt, AfiSafiType::Ipv4Unicast, &prefix(Afi::Ipv4, 32, first)),
+    );
     assert_equal!(&rt, all.as_slice(), b"\x20\x20\x01\x0D\xBF\0\0");
-    let most = unwrap(&rt, begin(&rt, AfiSafiType::Ipv6Unicast, &prefix(Afi::Ipv6, 29, first)));
+    let most = unwrap(
+        &rt,
+        begin(&rt, AfiSafiType::Ipv6Unicast, &prefix(Afi::Ipv6, 29, first)),
+    );
     assert_equal!(&rt, most.as_slice(), b"\x1D\x20\x01\x0D\xB8\0\0");
-    let ipv6 = unwrap(&rt, begin(&rt, AfiSafiType::Ipv6Unicast, &prefix(Afi::Ipv6, 127, first)));
+    let ipv6 = unwrap(
+        &rt,
+        begin(
+            &rt,
+            AfiSafiType::Ipv6Unicast,
+            &prefix(Afi::Ipv6, 127, first),
+        ),
+    );
     assert_equal!(
         &rt,
         ipv6.as_slice(),
@@ -117,7 +139,11 @@ fn an_entry_without_room_is_refused(rt: HostRuntime) {
     assert_true!(&rt, matches!(found, Err(WriteError::Short)));
     let less = Array::<18>::new();
     let mut rib = unwrap(&rt, RibBuilder::new(less, family, false, 0, &ten()));
-    assert_equal!(&rt, rib.push_entry(1, 2, None, b"\x01\x02"), Err(WriteError::Short));
+    assert_equal!(
+        &rt,
+        rib.push_entry(1, 2, None, b"\x01\x02"),
+        Err(WriteError::Short)
+    );
     assert_equal!(&rt, rib.count(), 0);
     assert_equal!(&rt, rib.finish().len(), 9);
     let just = Array::<19>::new();
