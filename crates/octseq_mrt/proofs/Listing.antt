@@ -1,16 +1,24 @@
 -- A list that is written grows by an item.
-use Rattle.std.proofs.Common.{◌≡◌, ◌+◌, ◌<◌, ◌≤◌, ◌^◌, ◌⊎◌, ◌↔◌, ℕ, Bool, Option, List, [], ◌∷◌, ◌++◌, length, take, drop}
-use Rattle.std.proofs.Common.{refl, sym, ap, ◌∙◌, subst, arith, length-append, append_assoc}
+use Rattle.std.proofs.Common.{◌≡◌, ◌+◌, ◌<◌, ◌≤◌, ◌^◌, ◌⊎◌, ◌↔◌, ℕ, zero, suc, Bool, Option, None, List, [], ◌∷◌}
+use Rattle.std.proofs.Common.{◌++◌, length, take, drop, refl, sym, ap, ◌∙◌, subst, arith, length-append, append_assoc}
 use Rattle.std.proofs.Math.Seq.{take-append_seam, drop-append_seam}
 use Rattle.std.proofs.lemmas.List.{flat_map_more}
 use Rattle.std.specs.List.{flat_map}
+use Rattle.std.specs.Prelude.{slice_index}
 use Rattle.octseq.specs.Integer.{octets_be}
 use Rattle.octseq.specs.Limit.{IsPast}
 use Rattle.octseq.specs.Part.{part_of}
 use Rattle.octseq.proofs.Repeats.{each_snoc}
 use Rattle.octseq.proofs.Written.{length_be}
+use Rattle.octseq_bgp.specs.Family.{afi_of}
 use Rattle.octseq_bgp.specs.Parts.{octets_of_bits}
-use Rattle.octseq_mrt.specs.Building.{IsListed, TableWritten, RibWritten, with_peer, with_route}
+use Rattle.octseq_bgp.specs.Prefix.{most_bits}
+use Rattle.octseq_bgp.specs.PrefixValue.{address_from, bits_after, cleared}
+use Rattle.octseq_bgp.specs.Written.{written_prefix}
+use Rattle.octseq_bgp.specs.declared.family.AfiSafiType.{AfiSafiType}
+use Rattle.octseq_bgp.specs.declared.prefix.Prefix.{Prefix}
+use Rattle.octseq_bgp.proofs.Prefixes.{address_long}
+use Rattle.octseq_mrt.specs.Building.{FitsPrefix, IsListed, TableWritten, RibWritten, begun_rib, with_peer, with_route}
 use Rattle.octseq_mrt.specs.Joined.{with_count}
 use Rattle.octseq_mrt.specs.Peer.{Peer}
 use Rattle.octseq_mrt.specs.Written.{list_octets, peer_octets, table_head, FitsPeer, FitsPeerTable, Route, route_octets}
@@ -132,29 +140,31 @@ table_begun id view content fits few octets =
     )
 
 -- a RIB without entries
-abbrev pub rib_begun : {most : ℕ} {paths : Bool} (sequence bits : ℕ) (prefix content : List ℕ) → sequence < 256 ^ 4
-    → bits ≤ most → bits ≤ 128 → length prefix ≡ octets_of_bits bits
-    → content ≡ octets_be 4 sequence ++ (octets_be 1 bits ++ (prefix ++ (0 ∷ 0 ∷ [])))
-    → RibWritten most paths content (5 + length prefix) 0
-rib_begun {most = most} sequence bits prefix content fits within few size octets =
-    let head = octets_be 4 sequence ++ (octets_be 1 bits ++ prefix) in
-    let long = length-append (octets_be 4 sequence) (octets_be 1 bits ++ prefix) in
-    let part = length-append (octets_be 1 bits) prefix in
+abbrev pub rib_begun : {paths : Bool} (family : AfiSafiType) (sequence : ℕ) (p : Prefix) (content : List ℕ) {len : ℕ}
+    → sequence < 256 ^ 4 → FitsPrefix family p → p.len ≤ 128 → len ≡ octets_of_bits p.len
+    → content ≡ octets_be 4 sequence ++ (octets_be 1 p.len ++ ((written_prefix p None).octets ++ (0 ∷ 0 ∷ [])))
+    → RibWritten (most_bits (afi_of family)) paths content (5 + len) 0
+rib_begun family sequence p content fits within few many octets =
+    let r = begun_rib sequence p in
+    let size = address_long (octets_of_bits p.len) 0 p.len p.address in
+    let head = rib_head r in
+    let long = length-append (octets_be 4 sequence) (octets_be 1 p.len ++ r.prefix) in
+    let part = length-append (octets_be 1 p.len) r.prefix in
     let all : content ≡ head ++ (0 ∷ 0 ∷ []) = octets ∙ simp append_assoc in
     let at = length-append head (0 ∷ 0 ∷ []) in
     let numbers = length_be 4 sequence in
-    let name = length_be 1 bits in
+    let name = length_be 1 p.len in
     let whole = ap length all in (
-      record { sequence = sequence; bits = bits; prefix = prefix; entries = [] },
+      r,
       listed_none route_octets head content _ (record {
         sequence = fits;
         bits = omega (arith, few);
-        within = within;
+        within = subst (λ afi. p.len ≤ most_bits afi) within.0 within.1;
         prefix = size;
         entries = tt;
         count = omega arith;
-      }) all (omega (arith, long, part, numbers, name))
-          (omega (arith, long, part, at, size, within, few, numbers, name, whole)),
+      }) all (omega (arith, long, part, numbers, name, size, many))
+          (omega (arith, long, part, at, size, few, numbers, name, whole)),
     )
 
 -- a table with one more peer
@@ -192,3 +202,12 @@ rib_more {most = most} {paths = paths} {content = content} {new = new} {more = m
             count = one_more_fits r.0.entries e r.1.many next;
           }) few made),
     )
+
+-- the first octets of an address depend on no others
+pub address_front : (n m i bits : ℕ) (octets : List ℕ) → n ≤ m
+    → take n (address_from m i bits octets) ≡ address_from n i bits octets
+address_front zero m i bits octets few = refl
+address_front (suc n) zero i bits octets few = absurd (omega (arith, few))
+address_front (suc n) (suc m) i bits octets few =
+    ap (λ rest. cleared (bits_after bits i) (slice_index octets i) ∷ rest)
+    (address_front n m (i + 1) bits octets (omega (arith, few)))

@@ -2,13 +2,13 @@
 use Rattle.std.proofs.Common.{◌≡◌, ℕ, Bool, true, false, Option, List, if◌then◌else◌, nat_eq, refl, sym, ap, ◌∙◌, subst}
 use mathlib.Core.Logic.{inl, inr}
 use Rattle.octseq.specs.Window.{Window, whole}
-use Rattle.octseq_format.specs.Counted.{Times, one_times}
+use Rattle.octseq_format.specs.Counted.{Times}
 use Rattle.octseq_format.specs.Laws.{Relation, IsOne, one_by}
 use Rattle.octseq_format.specs.Pair.{◌then◌, ◌one_then◌}
 use Rattle.octseq_format.specs.Rest.{one_rest}
-use Rattle.octseq_bgp.specs.Parts.{IsNumber, IsCounted, IsPrefix}
+use Rattle.octseq_bgp.specs.Parts.{IsNumber, IsPrefix}
 use Rattle.octseq_bgp.specs.Family.{afi_of}
-use Rattle.octseq_bgp.specs.OneParts.{one_number, one_octets, one_deciding, one_prefix}
+use Rattle.octseq_bgp.specs.OneParts.{one_number, one_deciding}
 use Rattle.octseq_bgp.specs.Path.{asn_size}
 use Rattle.octseq_bgp.specs.declared.family.Afi.{Afi}
 use Rattle.octseq_bgp.specs.declared.family.Afi.TheVariants as addresses
@@ -20,10 +20,11 @@ use Rattle.octseq_mrt.specs.Address.{Address, IsFamily, family_number}
 use Rattle.octseq_mrt.specs.Bgp4Mp.{Bgp4Mp, Event, ArePeers, IsBgp4MpFront, IsEvent, IsBgp4Mp}
 use Rattle.octseq_mrt.specs.Header.{IsNext, IsHeader, IsRecord}
 use Rattle.octseq_mrt.specs.Kind.{kind_type, kind_subtype, has_wide_asns}
-use Rattle.octseq_mrt.specs.OneListed.{one_address, one_optional, one_peer, one_rib_entry}
-use Rattle.octseq_mrt.specs.Peer.{Peer, IsPeer, PeerIndexTable, IsPeerIndexTable}
+use Rattle.octseq_mrt.specs.OneListed.{one_address, one_optional, one_rib_entry}
+use Rattle.octseq_mrt.specs.Peer.{Peer, PeerIndexTable, IsPeerIndexTable, IsTable}
 use Rattle.octseq_mrt.specs.Record.{AreRecord, Value, Made, HasForm, IsTyped, IsValue}
 use Rattle.octseq_mrt.specs.Rib.{Rib, RibEntry, IsRibEntry, IsRib}
+use Rattle.octseq_mrt.specs.WrittenBack.{one_table, one_routes}
 use Rattle.octseq_mrt.specs.declared.header.CommonHeader.{CommonHeader}
 use Rattle.octseq_mrt.specs.declared.kind.Bgp4MpSubtype.{Bgp4MpSubtype}
 use Rattle.octseq_mrt.specs.declared.kind.RecordKind.{RecordKind}
@@ -57,18 +58,12 @@ one_record octets a b = one_whole IsRecord one_record_at (whole octets) a b
 
 -- ---- peer index tables
 
-abbrev pub IsTable : Relation (ℕ × (Window × List Peer))
-IsTable = IsNumber 4 then IsCounted 2 then Times 2 IsPeer
-
-pub one_table_at : IsOne IsTable
-one_table_at = one_number 4 one_then one_octets 2 one_then one_times 2 IsPeer one_peer
-
 table_from : ℕ × (Window × List Peer) → PeerIndexTable
 table_from t = record { collector_bgp_id = t.0; view_name = t.1.0; peers = t.1.1 }
 
-one_table : (w : Window) → OneSaid (IsPeerIndexTable w)
+one_index_table : (w : Window) → OneSaid (IsPeerIndexTable w)
 unfolding table_from
-one_table w t u a b = ap table_from (one_whole IsTable one_table_at w (t.collector_bgp_id, (t.view_name, t.peers))
+one_index_table w t u a b = ap table_from (one_whole IsTable one_table w (t.collector_bgp_id, (t.view_name, t.peers))
     (u.collector_bgp_id, (u.view_name, u.peers)) a b)
 
 -- ---- RIBs
@@ -76,9 +71,8 @@ one_table w t u a b = ap table_from (one_whole IsTable one_table_at w (t.collect
 abbrev pub IsRoutes : AfiSafiType → Bool → Relation (ℕ × ((ℕ × Window) × List RibEntry))
 IsRoutes f paths = IsNumber 4 then IsPrefix (most_bits (afi_of f)) then Times 2 (IsRibEntry paths)
 
-pub one_routes : (f : AfiSafiType) (paths : Bool) → IsOne (IsRoutes f paths)
-one_routes f paths = one_number 4 one_then one_prefix (most_bits (afi_of f))
-    one_then one_times 2 (IsRibEntry paths) (one_rib_entry paths)
+pub one_entries : (f : AfiSafiType) (paths : Bool) → IsOne (IsRoutes f paths)
+one_entries f paths = one_routes (one_rib_entry paths) (most_bits (afi_of f))
 
 rib_from : AfiSafiType → ℕ × ((ℕ × Window) × List RibEntry) → Rib
 rib_from f r = record { family = f; sequence = r.0; prefix = r.1.0; entries = r.1.1 }
@@ -86,7 +80,7 @@ rib_from f r = record { family = f; sequence = r.0; prefix = r.1.0; entries = r.
 one_rib : (f : AfiSafiType) (paths : Bool) (w : Window) → OneSaid (IsRib f paths w)
 unfolding rib_from
 one_rib f paths w r s a b =
-    let same = one_whole (IsRoutes f paths) (one_routes f paths) w (r.sequence, (r.prefix, r.entries))
+    let same = one_whole (IsRoutes f paths) (one_entries f paths) w (r.sequence, (r.prefix, r.entries))
     (s.sequence, (s.prefix, s.entries)) a.1 b.1 in
     ap (λ f. rib_from f (r.sequence, (r.prefix, r.entries))) (a.0 ∙ sym b.0) ∙ ap (rib_from s.family) same
 
@@ -140,7 +134,8 @@ one_event s w (Event.message t o) (Event.state_change n) a b = let x = a.0 in le
 one_event s w (Event.message t o) (Event.message u p) a b =
     ap (λ t. Event.message t o) (a.1 ∙ sym b.1) ∙ ap (λ o. Event.message u o) (a.2 ∙ sym b.2)
 
-bgp4mp_from : Option ℕ × (ℕ × (ℕ × (ℕ × ((Afi × (Address × Address)) × Window)))) → Event → Bgp4Mp
+-- its fields, from what comes before an event
+abbrev pub bgp4mp_from : {T : Type 0} → Option ℕ × (ℕ × (ℕ × (ℕ × ((Afi × (Address × Address)) × T)))) → Event → Bgp4Mp
 bgp4mp_from p event = record {
   microseconds = p.0;
   peer_asn = p.1.0;
@@ -152,7 +147,6 @@ bgp4mp_from p event = record {
 }
 
 one_bgp4mp : (extended : Bool) (s : Bgp4MpSubtype) (w : Window) → OneSaid (IsBgp4Mp extended s w)
-unfolding bgp4mp_from
 one_bgp4mp extended s w a b is other =
     let wide = has_wide_asns s in
     let front = one_whole (IsBgp4MpFront extended wide) (one_front extended wide) w (front_parts a is.afi is.rest)
@@ -167,7 +161,7 @@ one_made : {A : Type 0} (make : A → Value) {Is : A → Type 0} → OneSaid Is 
 one_made make one v u a b = a.1 ∙ ap make (one a.0 b.0 a.2 b.2) ∙ sym b.1
 
 one_form : (k : RecordKind) (w : Window) → OneSaid (HasForm k w)
-one_form kind.PeerIndexTable w = one_made Value.peer_index_table (one_table w)
+one_form kind.PeerIndexTable w = one_made Value.peer_index_table (one_index_table w)
 one_form (kind.Rib f paths) w = one_made Value.rib (one_rib f paths w)
 one_form (kind.Bgp4Mp s) w = one_made Value.bgp4mp (one_bgp4mp false s w)
 one_form (kind.Bgp4MpEt s) w = one_made Value.bgp4mp (one_bgp4mp true s w)

@@ -1,12 +1,11 @@
 -- Records that were written are read back.
 use Rattle.std.proofs.Common.{◌≡◌, ℕ, ◌+◌, ◌-◌, ◌<◌, ◌^◌, Bool, Option, List, [], ◌∷◌, ◌++◌, length, take, refl, sym, ap}
 use Rattle.std.proofs.Common.{◌∙◌, subst, arith, append_assoc, if◌then◌else◌}
-use Rattle.std.proofs.Math.Seq.{take-length}
 use Rattle.std.specs.List.{AllByRecursion, flat_map}
-use Rattle.std.specs.Prelude.{is_some, true, false, cond}
+use Rattle.std.specs.Prelude.{is_some, true, false}
 use mathlib.Core.Logic.{inl}
 use Rattle.octseq.specs.Integer.{octets_be}
-use Rattle.octseq.specs.Part.{part_of}
+use Rattle.octseq.proofs.Codes.{rest_whole}
 use Rattle.octseq.proofs.WindowsAfter.{front_comes_next}
 use Rattle.octseq.specs.Window.{Window, left, rest, past, whole, nested}
 use Rattle.octseq_format.specs.Laws.{Relation, Takes, IsReadBack, IsDelimited, back_of}
@@ -14,7 +13,9 @@ use Rattle.octseq_format.specs.Pair.{◌then◌, ◌delimited_then◌, ◌back_t
 use Rattle.octseq_format.specs.Rest.{IsRest}
 use Rattle.octseq_format.specs.Row.{RowTo, to_read_back}
 use Rattle.octseq_format.proofs.Wholes.{whole_taken}
-use Rattle.octseq_bgp.specs.Parts.{IsNumber, IsCounted, IsAttribute, is_extended, ◌deciding◌}
+use Rattle.octseq_bgp.specs.Parts.{IsNumber, IsAttribute, ◌deciding◌}
+use Rattle.octseq_bgp.specs.ReadWritten.{attribute_says, delimited_attribute}
+use Rattle.octseq_bgp.specs.Written.{AttributeFits, attribute_octets}
 use Rattle.octseq_bgp.specs.Family.{afi_of}
 use Rattle.octseq_bgp.specs.Prefix.{most_bits}
 use Rattle.octseq_bgp.specs.Path.{asn_size}
@@ -27,15 +28,14 @@ use Rattle.octseq_mrt.specs.Bgp4Mp.{Bgp4Mp, Event, ArePeers, IsEvent, IsBgp4Mp, 
 use Rattle.octseq_mrt.specs.Header.{IsHeader, IsNext, IsRecord}
 use Rattle.octseq_mrt.specs.Kind.{bgp4mp_number, kind_type, kind_subtype, has_wide_asns}
 use Rattle.octseq_mrt.specs.Peer.{PeerIndexTable}
-use Rattle.octseq_mrt.specs.ReadBack.{IsReadAs, SaysTable, SaysRib, SaysBgp4Mp, Attribute, attribute_octets}
-use Rattle.octseq_mrt.specs.ReadBack.{FitsAttribute, AreAttributes, said_attribute, said_entry, said_event, said_bgp4mp}
-use Rattle.octseq_mrt.specs.ReadBack.{bgp4mp_kind}
+use Rattle.octseq_mrt.specs.ReadBack.{IsReadAs, SaysTable, SaysRib, SaysBgp4Mp, AreAttributes, said_entry, said_event}
+use Rattle.octseq_mrt.specs.ReadBack.{said_bgp4mp, bgp4mp_kind}
 use Rattle.octseq_mrt.specs.Record.{Value, AreRecord, IsTyped, HasForm}
 use Rattle.octseq_mrt.specs.Rib.{Rib, RibEntry, IsRibEntry}
 use Rattle.octseq_mrt.specs.Written.{record_octets, PeerTable, FitsPeerTable, peer_table_octets, Route, FitsRoute}
 use Rattle.octseq_mrt.specs.Written.{Routes, FitsRib, rib_octets, route_octets, FitsEvent, event_octets, FitsBgp4Mp}
 use Rattle.octseq_mrt.specs.Written.{bgp4mp_octets, family_of, FitsOptional}
-use Rattle.octseq_mrt.specs.WrittenBack.{back_as, delimited_as, delimited_deciding, delimited_number, delimited_octets}
+use Rattle.octseq_mrt.specs.WrittenBack.{back_as, delimited_deciding, delimited_number}
 use Rattle.octseq_mrt.specs.WrittenBack.{delimited_address, delimited_optional, delimited_parts, routes_read_back}
 use Rattle.octseq_mrt.specs.WrittenBack.{table_read_back}
 use Rattle.octseq_mrt.specs.declared.header.CommonHeader.{CommonHeader}
@@ -43,7 +43,7 @@ use Rattle.octseq_mrt.specs.declared.kind.Bgp4MpSubtype.{Bgp4MpSubtype}
 use Rattle.octseq_mrt.specs.declared.kind.Bgp4MpSubtype.TheVariants as subtype
 use Rattle.octseq_mrt.specs.declared.kind.RecordKind.{RecordKind}
 use Rattle.octseq_mrt.specs.declared.kind.RecordKind.TheVariants as kind
-use Rattle.octseq_mrt.proofs.OneRecord.{header_parts, header_from}
+use Rattle.octseq_mrt.proofs.OneRecord.{bgp4mp_from, header_parts, header_from}
 
 -- ---- the header
 
@@ -154,32 +154,12 @@ tables time t small fits few =
 
 -- ---- RIBs
 
-delimited_value : (extended : Bool) → IsDelimited (cond extended (IsCounted 2) (IsCounted 1)) rest
-    (part_of (if extended then 2 else 1)) (λ octets. Unit {0} × (length octets < 256 ^ (if extended then 2 else 1)))
-delimited_value true = delimited_octets 2
-delimited_value false = delimited_octets 1
-
-delimited_attribute : IsDelimited IsAttribute said_attribute attribute_octets FitsAttribute
-unfolding both_say both_octets
-delimited_attribute = record {
-  next = λ w a more fits is.
-      let all = delimited_deciding (delimited_number 1)
-      (λ flags. delimited_number 1 delimited_then delimited_value (is_extended flags)) in
-      let taken = all.next w (a.flags, (a.type_code, a.octets)) more
-      (fits.flags, record { first = fits.type_code; second = (tt, fits.octets) }) is in
-      record {
-        it = taken.it;
-        tells = ap (λ s. record { flags = s.0; type_code = s.1.0; octets = s.1.1 }) taken.tells;
-        is = taken.is;
-      };
-}
-
 -- an entry, and its attributes
 delimited_entry : (paths : Bool) → IsDelimited (IsRibEntry paths) said_entry route_octets
     (λ e. FitsRoute paths e × AreAttributes e.attributes)
 delimited_entry paths = record {
   next = λ w e more fits is.
-      let row = to_read_back IsAttribute said_attribute attribute_octets FitsAttribute delimited_attribute in
+      let row = to_read_back IsAttribute attribute_says attribute_octets AttributeFits delimited_attribute in
       let taken = (delimited_parts row paths).next w e more (fits.0, fits.1.0, fits.1.1, fits.1.2) is in
       let parts = taken.is in
       let counted = parts.2.2.2 in
@@ -324,20 +304,8 @@ abbrev AreParts : Bool → Bgp4MpSubtype → Relation Parts
 AreParts has s = IsOptional has then IsNumber (asn_size (has_wide_asns s)) then IsNumber (asn_size (has_wide_asns s))
     then IsNumber 2 then ArePeers then IsEventAt s
 
--- what they say, with an event
-abbrev said_parts_with : Parts → Event → Bgp4Mp
-said_parts_with p event = record {
-  microseconds = p.0;
-  peer_asn = p.1.0;
-  local_asn = p.1.1.0;
-  interface = p.1.1.1.0;
-  peer_addr = p.1.1.1.1.0.1.0;
-  local_addr = p.1.1.1.1.0.1.1;
-  event = event;
-}
-
 parts_back : (s : Bgp4MpSubtype) (has : Bool)
-    → IsReadBack (AreParts has s) (λ p. said_parts_with p (said_event s p.1.1.1.1.1.1)) (bgp4mp_octets s)
+    → IsReadBack (AreParts has s) (λ p. bgp4mp_from p (said_event s p.1.1.1.1.1.1)) (bgp4mp_octets s)
     (λ b. FitsBgp4Mp s b × (is_some b.microseconds ≡ has) × (said_event s b.event ≡ b.event))
 unfolding both_say both_octets
 parts_back s has = back_as (λ b. simp append_assoc) (record {
@@ -369,25 +337,12 @@ parts_back s has = back_as (λ b. simp append_assoc) (record {
       }) is end in
       record {
         it = taken.it;
-        tells = ap (λ p. record {
-          microseconds = p.0;
-          peer_asn = p.1.0;
-          local_asn = p.1.1.0;
-          interface = p.1.1.1.0;
-          peer_addr = p.1.1.1.1.0.1.0;
-          local_addr = p.1.1.1.1.0.1.1;
-          event = p.1.1.1.1.1;
-        }) taken.tells;
+        tells = ap (λ p. bgp4mp_from p p.1.1.1.1.1) taken.tells;
         is = taken.is;
       };
 })
 
 -- an event says the same without its place
-rest_whole : (octets : List ℕ) → rest (whole octets) ≡ octets
-rest_whole octets =
-    let all : length octets - 0 ≡ length octets = omega arith in
-    ap (λ n. take n octets) all ∙ take-length octets
-
 event_alone : (s : Bgp4MpSubtype) (event : Event) → FitsEvent s event → FitsEvent s (said_event s event)
     × (said_event s (said_event s event) ≡ said_event s event) × (event_octets (said_event s event) ≡ event_octets event)
 event_alone s (Event.state_change states) fits = (fits, refl, refl)
@@ -446,7 +401,7 @@ events time s b small fits few =
     let p = taken.it in
     let q = taken.is in
     let ends = none_left w _ (omega (arith, end, ap length same)) in
-    let found = said_parts_with p p.1.1.1.1.1.1 in (
+    let found = bgp4mp_from p p.1.1.1.1.1.1 in (
       Value.bgp4mp found,
       form_of s has w found (record {
         afi = p.1.1.1.1.0.0;

@@ -5,12 +5,14 @@ use Rattle.std.proofs.Props.{props}
 use mathlib.Core.HLevel.{Σ_prop_path}
 use Rattle.octseq_bgp.specs.Family.{afi_of}
 use Rattle.octseq_bgp.specs.Prefix.{most_bits}
+use Rattle.octseq_bgp.specs.Written.{written_prefix}
 use Rattle.octseq_bgp.specs.declared.family.Afi.{Afi}
 use Rattle.octseq_bgp.specs.declared.family.Afi.TheVariants as addresses
 use Rattle.octseq_bgp.specs.declared.family.AfiSafiType.{AfiSafiType}
 use Rattle.octseq_bgp.specs.declared.prefix.PathId.{PathId}
 use Rattle.octseq_bgp.specs.declared.prefix.Prefix.{Prefix}
 use Rattle.octseq_mrt.specs.Address.{Address}
+use Rattle.octseq_mrt.specs.OneListed.{one_entry_parts}
 use Rattle.octseq_mrt.specs.Peer.{Peer}
 use Rattle.octseq_mrt.specs.Rib.{path_of}
 use Rattle.octseq_mrt.specs.Written.{PeerTable, FitsPeer, FitsPeerTable, table_head, peer_octets, list_octets}
@@ -22,6 +24,15 @@ use Rattle.octseq_mrt.specs.WrittenBack.{one_table, one_routes}
 -- one more peer
 abbrev pub with_peer : PeerTable → Peer → PeerTable
 with_peer t p = record t { peers = t.peers ++ p ∷ [] }
+
+-- a RIB without entries: bits after the length of its prefix are 0
+abbrev pub begun_rib : ℕ → Prefix → Routes
+begun_rib sequence p = record {
+  sequence = sequence;
+  bits = p.len;
+  prefix = (written_prefix p None).octets;
+  entries = [];
+}
 
 -- one more entry
 abbrev pub with_route : Routes → Route → Routes
@@ -35,6 +46,10 @@ pushed_route peer_index time path_id attributes = record {
   path_id = path_of path_id;
   attributes = attributes;
 }
+
+-- the number of bits of the addresses of a family
+abbrev pub address_bits : AfiSafiType → ℕ
+address_bits family = most_bits (afi_of family)
 
 -- the prefix is one of the address family
 abbrev pub FitsPrefix : AfiSafiType → Prefix → Type 0
@@ -84,12 +99,13 @@ same_table a b same =
 pub same_rib : {most : ℕ} {paths : Bool} {c d : List ℕ} {at place m n : ℕ} (a : RibWritten most paths c at m)
     (b : RibWritten most paths d place n) → c ≡ d → a.0 ≡ b.0
 same_rib {most = most} {paths = paths} a b same =
-    one_said (one_routes most paths) (routes_read_back (delimited_route paths) most) a.0 b.0 a.1.fits b.1.fits
-    (sym a.1.octets ∙ same ∙ b.1.octets)
+    one_said (one_routes (one_entry_parts paths) most) (routes_read_back (delimited_route paths) most) a.0 b.0 a.1.fits
+    b.1.fits (sym a.1.octets ∙ same ∙ b.1.octets)
 
 pub table_once : (content : List ℕ) (at count : ℕ) → IsProp (TableWritten content at count)
 table_once content at count a b = Σ_prop_path (λ t. Prim.hlevel (props, fits_family_once)) (same_table a b refl)
 
 pub rib_once : (most : ℕ) (paths : Bool) (content : List ℕ) (at count : ℕ)
     → IsProp (RibWritten most paths content at count)
-rib_once most paths content at count a b = Σ_prop_path (λ r. Prim.hlevel (props, fits_optional_once)) (same_rib a b refl)
+rib_once most paths content at count a b =
+    Σ_prop_path (λ r. Prim.hlevel (props, fits_optional_once)) (same_rib a b refl)

@@ -1,11 +1,9 @@
 -- What records say, without places, and records that say what was written.
-use Rattle.std.specs.Prelude.{◌≡◌, ℕ, ◌<◌, ◌^◌, is_some, if◌then◌else◌, List, ◌++◌, length, map}
-use Rattle.std.specs.List.{AllByRecursion, flat_map}
-use Rattle.octseq.specs.Integer.{octets_be}
-use Rattle.octseq.specs.Part.{part_of}
+use Rattle.std.specs.Prelude.{◌≡◌, ℕ, is_some, if◌then◌else◌, List, map}
+use Rattle.std.specs.List.{AllByRecursion}
 use Rattle.octseq.specs.Window.{Window, rest, whole}
-use Rattle.octseq_bgp.specs.Parts as bgp
-use Rattle.octseq_bgp.specs.Parts.{is_extended}
+use Rattle.octseq_bgp.specs.ReadWritten.{attribute_says}
+use Rattle.octseq_bgp.specs.Written.{WrittenAttribute, AttributeFits, attributes_octets}
 use Rattle.octseq_mrt.specs.Bgp4Mp.{Bgp4Mp, Event, message_session}
 use Rattle.octseq_mrt.specs.Kind.{kind_type, kind_subtype}
 use Rattle.octseq_mrt.specs.Peer.{PeerIndexTable}
@@ -40,39 +38,17 @@ SaysTable t v = ⊥
 
 -- ---- RIBs
 
--- A path attribute: its flags, its type and its octets.
-pub record Attribute : Type 0 where
-  pub flags : ℕ
-  pub type_code : ℕ
-  pub octets : List ℕ
-
--- the number of octets of its length
-abbrev pub length_octets : ℕ → ℕ
-length_octets flags = if is_extended flags then 2 else 1
-
-abbrev pub attribute_octets : Attribute → List ℕ
-attribute_octets a =
-    octets_be 1 a.flags ++ (octets_be 1 a.type_code ++ part_of (length_octets a.flags) a.octets)
-
-pub record FitsAttribute (a : Attribute) : Type 0 where
-  pub flags : a.flags < 256 ^ 1
-  pub type_code : a.type_code < 256 ^ 1
-  pub octets : length a.octets < 256 ^ length_octets a.flags
-
 -- the octets are those of path attributes
 abbrev pub AreAttributes : List ℕ → Type 0
 AreAttributes octets =
-    (row : List Attribute) × AllByRecursion FitsAttribute row × (octets ≡ flat_map attribute_octets row)
-
-abbrev pub said_attribute : bgp.Attribute → Attribute
-said_attribute a = record { flags = a.0; type_code = a.1.0; octets = rest a.1.1 }
+    (row : List WrittenAttribute) × AllByRecursion AttributeFits row × (octets ≡ attributes_octets row)
 
 abbrev pub said_entry : RibEntry → Route
 said_entry e = record {
   peer_index = e.peer_index;
   originated_time = e.originated_time;
   path_id = e.path_id;
-  attributes = flat_map attribute_octets (map said_attribute e.attributes);
+  attributes = attributes_octets (map attribute_says e.attributes);
 }
 
 abbrev pub said_rib : Rib → Routes

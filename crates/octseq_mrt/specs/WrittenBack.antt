@@ -25,7 +25,7 @@ use Rattle.octseq_bgp.specs.Path.{asn_size}
 use Rattle.octseq_bgp.specs.declared.family.Afi.{Afi}
 use Rattle.octseq_bgp.specs.declared.family.Afi.TheVariants as addresses
 use Rattle.octseq_mrt.specs.Address.{Address, IsAddress, IsOptional}
-use Rattle.octseq_mrt.specs.OneListed.{peer_parts, peer_from, one_peer, one_entry_parts}
+use Rattle.octseq_mrt.specs.OneListed.{peer_parts, peer_from, one_peer}
 use Rattle.octseq_mrt.specs.Peer.{Peer, IsPeer, IsTable, peer_family, has_wide_asn}
 use Rattle.octseq_mrt.specs.Rib.{HasEntryParts}
 use Rattle.octseq_mrt.specs.Written.{address_octets, FitsFamily, FitsOptional, peer_octets, FitsPeer, PeerTable}
@@ -49,16 +49,6 @@ back_as {Is = Is} {says = says} same back = record {
   back = λ w s fits is all.
       let long = ap length (same s) in
       subst (λ n. Takes Is says w s n) (sym long) (back.back w s fits (is ∙ same s) (omega (arith, all, long)));
-}
-
--- the same by other names
-pub delimited_as : {A S T : Type 0} {Is : Relation A} {says : A → S} {octets : S → List ℕ} {Fits : S → Type 0}
-    (parts : T → S) (whole : S → T) → ((t : T) → whole (parts t) ≡ t) → IsDelimited Is says octets Fits
-    → IsDelimited Is (λ a. whole (says a)) (λ t. octets (parts t)) (λ t. Fits (parts t))
-delimited_as parts whole again delimited = record {
-  next = λ w t more fits is.
-      let taken = delimited.next w (parts t) more fits is in
-      record { it = taken.it; tells = ap whole taken.tells ∙ again t; is = taken.is };
 }
 
 -- a value, and another whose form it decides
@@ -292,8 +282,7 @@ module _ {A : Type 0} {Is : Relation A} {says : A → Route} {Fits : Route → T
 pub one_table : IsOne IsTable
 one_table = one_number 4 one_then one_octets 2 one_then one_times 2 IsPeer one_peer
 
--- the entries of a RIB whose attributes haven't been read
-pub one_routes : (most : ℕ) (paths : Bool)
-    → IsOne (IsNumber 4 then IsPrefix most then Times 2 (HasEntryParts paths))
-one_routes most paths = one_number 4 one_then one_prefix most
-    one_then one_times 2 (HasEntryParts paths) (one_entry_parts paths)
+-- a RIB, by what its entries are read as
+pub one_routes : {A : Type 0} {Is : Relation A} → IsOne Is → (most : ℕ)
+    → IsOne (IsNumber 4 then IsPrefix most then Times 2 Is)
+one_routes {Is = Is} one most = one_number 4 one_then one_prefix most one_then one_times 2 Is one

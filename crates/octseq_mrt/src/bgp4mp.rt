@@ -1,7 +1,7 @@
 //! Messages and state changes: RFC 6396, 4.4 and 4.5, and RFC 8050, 3.
 ghost use Rattle.std.specs.Prelude.{◌≡◌, ℕ, IsErr, IfOk, ⊤};
 ghost use Rattle.octseq.specs.Parser.{window};
-ghost use Rattle.octseq.specs.Window.{Window, rest};
+ghost use Rattle.octseq.specs.Window.{Window, rest, whole};
 ghost use Rattle.octseq_format.specs.Laws.{NoneAt};
 ghost use Rattle.octseq_bgp.specs.Message as bgp;
 ghost use Rattle.octseq_bgp.specs.Message.{IsMessage};
@@ -40,6 +40,18 @@ impl<R: AsOctets + Copy> Clone for MessageOctets<R> {
 
     fn clone(&self) -> Result<Self, AllocError> {
         Ok(*self)
+    }
+}
+
+impl<R: AsOctets> MessageOctets<R> {
+    /// The octets of a message, in a record of a subtype.
+    pub fn new(subtype: Bgp4MpSubtype, octets: R) -> MessageOctets<R>
+        ensures session { result.session ≡ message_session subtype }
+        ensures octets { window result.octets ≡ whole (R.content octets) }
+    {
+        let session = subtype.session();
+        let octets = Parser::from_ref(octets);
+        MessageOctets { session, octets }
     }
 }
 

@@ -8,12 +8,13 @@ ghost use Rattle.octseq_bgp.specs.Prefix.{most_bits};
 ghost use Rattle.octseq_mrt.specs.Bgp4Mp.{Bgp4Mp};
 ghost use Rattle.octseq_mrt.specs.Kind.{kind_type, kind_subtype};
 ghost use Rattle.octseq_mrt.specs.ReadBack.{AreAttributes, IsReadAs, SaysBgp4Mp, SaysRib, SaysTable, bgp4mp_kind};
-ghost use Rattle.octseq_mrt.specs.Written.{FitsBgp4Mp, FitsPeerTable, FitsRib, FitsRoute, PeerTable, Routes, bgp4mp_octets};
-ghost use Rattle.octseq_mrt.specs.Written.{peer_table_octets, record_octets, rib_octets};
+ghost use Rattle.octseq_mrt.specs.Written.{FitsBgp4Mp, FitsPeerTable, FitsRib, FitsRoute, PeerTable, Routes};
+ghost use Rattle.octseq_mrt.specs.Written.{bgp4mp_octets, peer_table_octets, record_octets, rib_octets};
 ghost use Rattle.octseq_mrt.specs.declared.kind.Bgp4MpSubtype.{Bgp4MpSubtype as Subtype};
 ghost use Rattle.octseq_mrt.specs.declared.kind.RecordKind.TheVariants as kind;
 
-/// A peer index table that was written is read back: its octets, after a header, are a record whose value says the same.
+/// A peer index table that was written is read back: its octets, after a header, are a record whose value says the
+/// same.
 pub fn tables_are_read_back()
     ensures { (time : ℕ) (t : PeerTable) → time < 2 ^ 32 → FitsPeerTable t → length (peer_table_octets t) < 2 ^ 32
         → IsReadAs time kind.PeerIndexTable (SaysTable t) (record_octets time 13 1 (peer_table_octets t)) }
@@ -22,8 +23,9 @@ pub fn tables_are_read_back()
 /// So is a RIB, if the octets of its entries are path attributes.
 pub fn ribs_are_read_back()
     ensures { (time : ℕ) (family : Family) (paths : Bool) (r : Routes) → time < 2 ^ 32
-        → FitsRib (most_bits (afi_of family)) (FitsRoute paths) r → AllByRecursion (λ e. AreAttributes e.attributes) r.entries
-        → length (rib_octets r) < 2 ^ 32 → IsReadAs time (kind.Rib family paths) (SaysRib r)
+        → FitsRib (most_bits (afi_of family)) (FitsRoute paths) r
+        → AllByRecursion (λ e. AreAttributes e.attributes) r.entries → length (rib_octets r) < 2 ^ 32
+        → IsReadAs time (kind.Rib family paths) (SaysRib r)
         (record_octets time 13 (kind_subtype (kind.Rib family paths)) (rib_octets r)) }
 {}
 

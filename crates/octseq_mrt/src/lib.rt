@@ -17,6 +17,7 @@ pub mod writer;
 
 pub use bgp4mp::{Bgp4Mp, Event, MessageOctets};
 pub use builder::peers::PeerTableBuilder;
+pub use builder::rib::RibBuilder;
 pub use header::CommonHeader;
 pub use kind::{Bgp4MpSubtype, RecordKind};
 pub use peer::{PeerEntry, PeerIndexTable, Peers};

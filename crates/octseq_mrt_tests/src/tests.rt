@@ -15,9 +15,12 @@ fn unwrap<T, E: Debug + Drop>(rt: &impl Abort, made: Result<T, E>) -> T {
     }
 }
 
+mod events;
+mod files;
 mod kinds;
 mod readers;
 mod records;
 mod refused;
+mod ribs;
 mod texts;
 mod written;

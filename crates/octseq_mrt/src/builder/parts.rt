@@ -5,6 +5,7 @@ ghost use Rattle.octseq.specs.Integer.{octets_be};
 ghost use Rattle.octseq.specs.Limit.{IsPast, IsWithin};
 ghost use Rattle.octseq.specs.Parts.{IsFront};
 ghost use Rattle.octseq.specs.Refusal.{IsShort, IsMemory, append_error};
+ghost use Rattle.octseq_format.specs.Optional.{optional_octets};
 ghost use Rattle.octseq_bgp.specs.Path.{asn_size};
 ghost use Rattle.octseq_mrt.specs.Joined.{body_limit, joined, with_count};
 ghost use Rattle.octseq_mrt.specs.Written.{FitsOptional};
@@ -113,6 +114,18 @@ pub(crate) fn push_item<B: OctetsBuilder + Truncate + AsOctetsMut>(
     append_parts(octets, item, most)?;
     write_over(octets, count_at, &count.to_be_bytes());
     Ok(count)
+}
+
+/// Returns the octets of a number, and how many of the four these are: none if there is no number.
+#[tactic(auto, using(octseq::proofs::Written::written_4))]
+pub(crate) fn optional_octets(number: Option<u32>) -> ([u8; 4], usize)
+    ensures octets { take result.1 result.0 ≡ optional_octets (octets_be 4) number }
+    ensures most { result.1 ≤ 4 }
+{
+    match number {
+        Some(number) => (number.to_be_bytes(), 4),
+        None => ([0; 4], 0),
+    }
 }
 
 /// Returns the octets of an AS number, of which four are given: all of them, or the last two.

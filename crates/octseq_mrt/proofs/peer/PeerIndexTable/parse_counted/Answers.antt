@@ -7,7 +7,8 @@ use Rattle.octseq_bgp.specs.OneParts.{one_number}
 use Rattle.octseq_mrt.specs.OneListed.{peer_code, one_peer, peer_moves}
 use Rattle.octseq_mrt.specs.Peer.{Peer, IsPeer}
 use Rattle.octseq_mrt.proofs.Filled.{ahead_as, times_of, not_whole}
-use Rattle.octseq_mrt.proofs.OneRecord.{IsTable, one_table_at}
+use Rattle.octseq_mrt.specs.Peer.{IsTable}
+use Rattle.octseq_mrt.specs.WrittenBack.{one_table}
 use Rattle.octseq_mrt.proofs.peer.PeerIndexTable.parse_counted.Goals as goal
 
 pub returns-in_err-view_name-clause-malformed : goal.returns-in_err-view_name-clause-malformed
@@ -35,7 +36,7 @@ returns-then-remaining-gt0-clause-malformed g c = λ _ table.
     let all = c.in_ok-pass_peers.ensures.peers in
     let times = times_of IsPeer (window c.parse-2.new.parser) (window c.parse-3.new.parser) v c.in_ok-count.count all.0
     c.in_ok-count.ensures.value all.1 in
-    not_whole IsTable one_table_at (window c.args.parser) v
+    not_whole IsTable one_table (window c.args.parser) v
     (c.in_ok-collector_bgp_id.collector_bgp_id, (window c.in_ok-view_name.view_name, all.0)) (
       window c.parse.new.parser,
       c.in_ok-collector_bgp_id.ensures.value,

@@ -9,7 +9,7 @@ use Rattle.octseq_mrt.specs.OneListed.{rib_entry_code, one_rib_entry, rib_entry_
 use Rattle.octseq_mrt.specs.ReadTurns.{entries_turns}
 use Rattle.octseq_mrt.specs.Rib.{RibEntry, IsRibEntry}
 use Rattle.octseq_mrt.proofs.Filled.{ahead_as, times_of, not_whole}
-use Rattle.octseq_mrt.proofs.OneRecord.{IsRoutes, one_routes}
+use Rattle.octseq_mrt.proofs.OneRecord.{IsRoutes, one_entries}
 use Rattle.octseq_mrt.proofs.rib.Rib.parse_counted.Goals as goal
 
 pub returns-in_err-len-clause-malformed : goal.returns-in_err-len-clause-malformed
@@ -36,7 +36,7 @@ returns-then-remaining-gt0-clause-malformed g c = λ _ rib is.
     let all = c.in_ok-pass_entries.ensures.entries in
     let times = times_of (IsRibEntry paths) (window c.parse_prefix.new.parser) (window c.parse-2.new.parser) v
     c.in_ok-count.count all.0 c.in_ok-count.ensures.value all.1 in
-    not_whole (IsRoutes f paths) (one_routes f paths) (window c.args.parser) v
+    not_whole (IsRoutes f paths) (one_entries f paths) (window c.args.parser) v
     (c.in_ok-sequence.sequence, (prefix, all.0)) (
       window c.parse.new.parser,
       c.in_ok-sequence.ensures.value,
