@@ -1,5 +1,5 @@
 //! A writer of MRT files, one record at a time.
-ghost use Rattle.std.specs.Prelude.{◌≡◌, ◌<◌, ◌≤◌, ◌++◌, [], ℕ, List, length, take, IfOk, OnOk, OnErr, Err};
+ghost use Rattle.std.specs.Prelude.{◌≡◌, ◌<◌, ◌≤◌, ◌++◌, ℕ, List, length, OnOk, Err};
 ghost use Rattle.std.specs.Io.KnownBytes.{Appends};
 ghost use Rattle.octseq.specs.Integer.{octets_be};
 ghost use Rattle.octseq.specs.Parts.{IsFront};
@@ -9,7 +9,8 @@ ghost use Rattle.octseq_mrt.specs.Written.{record_octets};
 
 use crate::kind::RecordKind;
 pub use octseq_stream::WriteFrameError as WriteRecordError;
-use std::io::{self, ErrorKind, Write};
+use octseq_stream::write_octets;
+use std::io::Write;
 
 /// A writer of records, one after another: RFC 6396, 2.
 #[derive(Drop)]
@@ -108,35 +109,4 @@ fn header_octets(timestamp: u32, type_code: u16, subtype: u16, len: u32) -> [u8;
     [
         t[0], t[1], t[2], t[3], k[0], k[1], s[0], s[1], l[0], l[1], l[2], l[3],
     ]
-}
-
-/// Writes all the octets. What was written before a failure stays.
-fn write_octets<W: Write>(writer: &mut W, octets: &[u8]) -> io::Result<()>
-    ensures ok { OnOk result (Appends (W.contents writer.old) (W.contents writer.new) octets.now) }
-    ensures front { (front : List ℕ) × IsFront front octets.now
-        × Appends (W.contents writer.old) (W.contents writer.new) front }
-{
-    let mut rest = octets;
-    for _ in 0..u64::MAX {
-        if rest.is_empty() {
-            return Ok(());
-        }
-        let count = write_once(writer, rest)?;
-        rest = &rest[count..];
-    }
-    Err(io::Error::from(ErrorKind::TimedOut))
-}
-
-/// Writes once, and returns the number of octets written: 0 if the write was interrupted.
-fn write_once<W: Write>(writer: &mut W, octets: &[u8]) -> io::Result<usize>
-    ensures ok { IfOk result (λ count. (count ≤ length octets.now)
-        × Appends (W.contents writer.old) (W.contents writer.new) (take count octets.now)) }
-    ensures kept { OnErr result (Appends (W.contents writer.old) (W.contents writer.new) []) }
-{
-    match writer.write(octets) {
-        Ok(0) => Err(io::Error::from(ErrorKind::WriteZero)),
-        Ok(count) => Ok(count),
-        Err(error) if error.kind() == ErrorKind::Interrupted => Ok(0),
-        Err(error) => Err(error),
-    }
 }
