@@ -18,12 +18,15 @@ pub mod Numbers
 pub mod Octets
 pub mod OneCapability
 pub mod OneMessage
+pub mod OneRewriting
 pub mod PathsBack
 pub mod Prefixes
 pub mod PrefixesBack
 pub mod Pushes
 pub mod ReachBack
 pub mod ReadBack
+pub mod Rewriting
+pub mod RewrittenOpens
 pub mod Segments
 pub mod Shown
 pub mod Spoken

@@ -44,6 +44,8 @@ pub mod PrefixValue
 pub mod Puts
 pub mod ReadTurns
 pub mod ReadWritten
+pub mod Rewritten
+pub mod RewrittenOpen
 pub mod Session
 pub mod SpokenOf
 pub mod Stop

@@ -78,7 +78,7 @@ fn append_both<B: OctetsBuilder + Truncate>(
 
 /// Returns a header.
 #[tactic(auto, using(octseq::proofs::Written::written_1, octseq::proofs::Written::written_2), unfolding(crate::specs::Composed::header_octets))]
-fn header_of(len: u16, kind: u8) -> [u8; 19]
+pub(crate) fn header_of(len: u16, kind: u8) -> [u8; 19]
     ensures { result ≡ header_octets len kind }
 {
     let len = len.to_be_bytes();

@@ -13,6 +13,7 @@ ghost use Rattle.octseq_bgp.specs.MessageText.{IsMessageText};
 ghost use Rattle.octseq_bgp.specs.Parts.{octets_of_bits};
 ghost use Rattle.octseq_bgp.specs.PrefixValue.{address_from, address_of};
 ghost use Rattle.octseq_bgp.specs.ReadWritten.{update_says};
+ghost use Rattle.octseq_bgp.specs.Rewritten.{IsRewritten};
 ghost use Rattle.octseq_bgp.specs.Stop.{IsStop};
 ghost use Rattle.octseq_bgp.specs.Stream.{IsFramed, IsMisframed};
 ghost use Rattle.octseq_bgp.specs.Update.{Update};
@@ -110,4 +111,10 @@ pub fn updates_are_read_back()
 pub fn written_addresses_are_read_back()
     ensures { (bits : ℕ) (address : List ℕ) → AreOctets address
         → address_of bits (address_from (octets_of_bits bits) 0 bits address) ≡ address_of bits address }
+{}
+
+/// A message is written anew in at most one way.
+pub fn one_rewriting()
+    ensures { (session : Session) (octets x y : List ℕ)
+        → IsRewritten session octets x → IsRewritten session octets y → x ≡ y }
 {}

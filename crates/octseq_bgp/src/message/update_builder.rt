@@ -17,11 +17,11 @@ use octseq::{AppendError, AsOctets, OctetsBuilder, Truncate};
 use std::marker::{Model, PhantomData};
 
 mod attributes;
-mod front;
+pub(super) mod front;
 mod head;
 mod octets;
 pub mod part;
-mod prefix_octets;
+pub(super) mod prefix_octets;
 mod prefixes;
 mod reach;
 
