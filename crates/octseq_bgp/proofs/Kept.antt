@@ -14,7 +14,7 @@ octet_at [] k each = omega arith
 octet_at (x ∷ octets) zero each = each.0
 octet_at (x ∷ octets) (suc k) each = octet_at octets k each.1
 
-address_at : (n i bits : ℕ) (octets : List ℕ) (k : ℕ) → k < n
+pub address_at : (n i bits : ℕ) (octets : List ℕ) (k : ℕ) → k < n
     → get_or (address_from n i bits octets) k 0 ≡ cleared (bits_after bits (i + k)) (get_or octets (i + k) 0)
 address_at zero i bits octets k below = absurd (omega (arith, below))
 address_at (suc n) i bits octets zero below =
@@ -25,7 +25,7 @@ address_at (suc n) i bits octets (suc k) below =
     ∙ ap (λ j. cleared (bits_after bits j) (get_or octets j 0)) place
 
 -- bits that are cleared stay so
-cleared_twice : (z x : ℕ) → cleared z x ≡ cleared z (cleared z x)
+pub cleared_twice : (z x : ℕ) → cleared z x ≡ cleared z (cleared z x)
 cleared_twice z x = ap (λ q. q * 2 ^ z) (sym (mul-div_cancel (x / 2 ^ z) (one-le-pow z 2 (omega arith))))
 
 kept_at : (bits k : ℕ) (octets : List ℕ) → AreOctets octets → (k < octets_of_bits bits) ⊎ (octets_of_bits bits ≤ k)

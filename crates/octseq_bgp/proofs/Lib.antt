@@ -20,11 +20,13 @@ pub mod Numbers
 pub mod Octets
 pub mod OneCapability
 pub mod OneMessage
+pub mod OneRewriting
 pub mod PathsBack
 pub mod Prefixes
 pub mod Pushes
 pub mod ReachBack
 pub mod ReadBack
+pub mod Rewriting
 pub mod RewrittenLengths
 pub mod RewrittenOpens
 pub mod Runs

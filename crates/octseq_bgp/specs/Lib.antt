@@ -45,6 +45,7 @@ pub mod PrefixValue
 pub mod Puts
 pub mod ReadTurns
 pub mod ReadWritten
+pub mod Rewritten
 pub mod RewrittenOpen
 pub mod Session
 pub mod SpokenOf

@@ -17,6 +17,7 @@ ghost use Rattle.octseq_bgp.specs.Open.{Open};
 ghost use Rattle.octseq_bgp.specs.Parts.{octets_of_bits};
 ghost use Rattle.octseq_bgp.specs.PrefixValue.{address_from, address_of};
 ghost use Rattle.octseq_bgp.specs.ReadWritten.{update_says};
+ghost use Rattle.octseq_bgp.specs.Rewritten.{IsRewritten};
 ghost use Rattle.octseq_bgp.specs.Stop.{IsStop};
 ghost use Rattle.octseq_bgp.specs.Stream.{IsFramed, IsMisframed};
 ghost use Rattle.octseq_bgp.specs.Update.{Update};
@@ -175,4 +176,10 @@ pub fn filled_messages_have_prefixes()
     ensures announced { (most : ℕ) (u : WrittenUpdate) (row : List Given) (counts : List ℕ)
         → AllByRecursion (λ p. FitWith most (with_announced u) (p ∷ [])) row
         → AreFilled (FitWith most (with_announced u)) row counts → AllByRecursion (λ count. 1 ≤ count) counts }
+{}
+
+/// A message is written anew in at most one way.
+pub fn one_rewriting()
+    ensures { (session : Session) (octets x y : List ℕ)
+        → IsRewritten session octets x → IsRewritten session octets y → x ≡ y }
 {}

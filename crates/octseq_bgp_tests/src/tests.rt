@@ -23,6 +23,7 @@ mod messages;
 mod octets;
 mod places;
 mod refused;
+mod rewrite;
 mod sessions;
 mod streams;
 mod text;

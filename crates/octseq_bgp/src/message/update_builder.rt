@@ -18,11 +18,11 @@ use std::marker::{Model, PhantomData};
 
 mod attributes;
 mod fill;
-mod front;
+pub(super) mod front;
 mod head;
 mod octets;
 pub mod part;
-mod prefix_octets;
+pub(super) mod prefix_octets;
 mod prefixes;
 mod reach;
 mod values;

@@ -10,7 +10,7 @@ use crate::family::AfiSafiType;
 
 /// A family, next hops after their length, and a reserved octet.
 #[derive(Drop)]
-pub(super) struct Front {
+pub(crate) struct Front {
     octets: [u8; 37],
     len: usize,
     ghost within: { len ≤ 37 },
@@ -28,7 +28,7 @@ fn both(first: &[u8; 16], second: &[u8; 16]) -> [u8; 32]
 
 impl Front {
     /// Returns the front of an MP_REACH_NLRI, or `None` if its next hops aren't those of its family.
-    pub(super) fn reach(family: AfiSafiType, next_hop: &NextHop) -> Option<Front>
+    pub(crate) fn reach(family: AfiSafiType, next_hop: &NextHop) -> Option<Front>
         ensures octets { IfSome result (λ f. take f.len f.octets ≡ reach_front family next_hop.now) }
         ensures some { IsSome result ↔ IsHopOf family next_hop.now }
     {
@@ -66,7 +66,7 @@ impl Front {
     }
 
     /// Returns its octets.
-    pub(super) fn as_slice(&self) -> &[u8]
+    pub(crate) fn as_slice(&self) -> &[u8]
         ensures { result.now ≡ take self.now.len self.now.octets }
     {
         &self.octets[..self.len]

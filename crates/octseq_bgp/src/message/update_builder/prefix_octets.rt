@@ -10,7 +10,7 @@ use crate::session::SessionConfig;
 
 /// The octets of a prefix, in a range.
 #[derive(Drop)]
-pub(super) struct PrefixOctets {
+pub(crate) struct PrefixOctets {
     octets: [u8; 21],
     start: usize,
     end: usize,
@@ -19,7 +19,7 @@ pub(super) struct PrefixOctets {
 
 impl PrefixOctets {
     /// Returns the octets of a prefix, with the bits after its length cleared.
-    pub(super) fn new(prefix: &Prefix, path_id: Option<PathId>) -> PrefixOctets
+    pub(crate) fn new(prefix: &Prefix, path_id: Option<PathId>) -> PrefixOctets
         requires { prefix.now.len ≤ 128 }
         ensures octets { slice_range result.octets result.start result.end
             ≡ prefix_octets (written_prefix prefix.now path_id) }
@@ -43,7 +43,7 @@ impl PrefixOctets {
     }
 
     /// Returns them.
-    pub(super) fn as_slice(&self) -> &[u8]
+    pub(crate) fn as_slice(&self) -> &[u8]
         ensures { result.now ≡ slice_range self.now.octets self.now.start self.now.end }
     {
         &self.octets[self.start..self.end]
@@ -51,7 +51,7 @@ impl PrefixOctets {
 }
 
 /// Returns how many octets a number of bits needs.
-fn octets_of_bits(bits: u8) -> usize
+pub(crate) fn octets_of_bits(bits: u8) -> usize
     ensures octets { result ≡ octets_of_bits bits }
     ensures bits { bits ≤ 8 * result }
     ensures few { 8 * result ≤ bits + 7 }
@@ -76,7 +76,7 @@ fn cleared_address(prefix: &Prefix, len: usize) -> [u8; 16]
 }
 
 /// Whether a prefix is one of a family, with a path id exactly if the session has them for it.
-pub(super) fn is_prefix_of(
+pub(crate) fn is_prefix_of(
     session: &SessionConfig,
     family: AfiSafiType,
     prefix: &Prefix,

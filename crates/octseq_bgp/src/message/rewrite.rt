@@ -1,2 +1,0 @@
-//! Messages written anew.
-mod open;
