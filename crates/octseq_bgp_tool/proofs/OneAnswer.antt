@@ -5,19 +5,20 @@ use Rattle.octseq.specs.Code.{HasFront, IsCode}
 use Rattle.octseq_bgp.specs.Stream.{IsFramed, IsMisframed}
 use Rattle.octseq_bgp.specs.declared.session.SessionConfig.{SessionConfig}
 use Rattle.octseq_bgp_tool.proofs.Ends.{none_at_messages_end, one_messages_end}
-use Rattle.octseq_bgp_tool.specs.Out.{as_they_are, Out, RecordsOut}
+use Rattle.octseq_bgp_tool.specs.Out.{as_they_are, MessagesOut, Out, RecordsOut}
 use Rattle.octseq_bgp_tool.specs.Records.{cut_text, IsRecordPiece, IsRecordsEnd}
 use Rattle.octseq_bgp_tool.specs.Shown.{IsMessagePiece}
-use Rattle.octseq_bgp_tool.specs.Streams.{IsBlock, IsMessagesEnd}
+use Rattle.octseq_bgp_tool.specs.Streams.{IsMessagesEnd, IsPiece}
 use Rattle.octseq_bgp_tool.specs.Words.{session_of}
 use Rattle.octseq_bgp_tool.specs.declared.engine.Command.{Command}
-use Rattle.octseq_bgp_tool.specs.declared.engine.Command.TheVariants.{Message, Stream, Mrt, Messages}
+use Rattle.octseq_bgp_tool.specs.declared.engine.Command.TheVariants.{Message, Stream, Rewrite, Mrt, Messages}
+use Rattle.octseq_bgp_tool.specs.declared.engine.messages.Output.{Output}
+use Rattle.octseq_bgp_tool.specs.declared.engine.messages.Output.TheVariants.{Text, Anew}
 use Rattle.octseq_bgp_tool.specs.declared.engine.records.Records.{Records}
 use Rattle.octseq_bgp_tool.specs.declared.engine.records.Records.TheVariants.{Shown, Taken}
 use Rattle.octseq_mrt.specs.Records.{BeginsWithRecord, IsCut, IsRecordOctets}
 use Rattle.octseq_cli.proofs.Ends.{none_at_plain, one_plain_end}
 use Rattle.octseq_cli.proofs.Taken.{one_stream, one_whole}
-use Rattle.octseq_cli.specs.Frames.{IsStreamOut}
 use Rattle.octseq_cli.specs.declared.status.Status.{Status}
 
 -- the rest of a file makes one piece
@@ -50,21 +51,19 @@ code_of Fits apart a b x y fits suits e =
 -- begins with misframed octets
 module _ (one_message : (s : SessionConfig) (number : ℕ) (octets x y e f : List ℕ) (a b : Bool)
     → IsMessagePiece s number octets a x e → IsMessagePiece s number octets b y f → (a ≡ b) × (x ≡ y) × (e ≡ f))
-    (one_block : (s : SessionConfig) (number : ℕ) (octets x y e f : List ℕ) (a b : Bool)
-    → IsBlock s number octets a x e → IsBlock s number octets b y f → (a ≡ b) × (x ≡ y) × (e ≡ f))
+    (one_piece : (o : Output) (s : SessionConfig) (number : ℕ) (octets x y e f : List ℕ) (a b : Bool)
+    → IsPiece o s number octets a x e → IsPiece o s number octets b y f → (a ≡ b) × (x ≡ y) × (e ≡ f))
     (one_record : (c : Records) (number : ℕ) (octets x y e f : List ℕ) (a b : Bool)
     → IsRecordPiece c number octets a x e → IsRecordPiece c number octets b y f → (a ≡ b) × (x ≡ y) × (e ≡ f))
     (messages : (s : SessionConfig) (a b x y : List ℕ) → IsFramed s a → IsFramed s b → a ++ x ≡ b ++ y → a ≡ b)
     (misframed : (s : SessionConfig) (octets more : List ℕ) → IsMisframed s octets
     → ¬ HasFront (IsFramed s) as_they_are (octets ++ more))
     (records : (a b x y : List ℕ) → IsRecordOctets a → IsRecordOctets b → a ++ x ≡ b ++ y → a ≡ b) where
-  one_stream_out : (s : SessionConfig) (input x y e f : List ℕ) (t u : Status)
-      → IsStreamOut (IsFramed s) as_they_are (IsBlock s) (IsMessagesEnd s) input x e t
-      → IsStreamOut (IsFramed s) as_they_are (IsBlock s) (IsMessagesEnd s) input y f u
-      → (x ≡ y) × (e ≡ f) × (t ≡ u)
-  one_stream_out s =
-      one_stream (IsFramed s) as_they_are (IsBlock s) (IsMessagesEnd s) (code_of (IsFramed s) (messages s))
-      (one_block s) (none_at_messages_end misframed s) (one_messages_end s)
+  one_messages : (o : Output) (s : SessionConfig) (input x y e f : List ℕ) (t u : Status)
+      → MessagesOut o s input x e t → MessagesOut o s input y f u → (x ≡ y) × (e ≡ f) × (t ≡ u)
+  one_messages o s =
+      one_stream (IsFramed s) as_they_are (IsPiece o s) (IsMessagesEnd o s) (code_of (IsFramed s) (messages s))
+      (one_piece o s) (none_at_messages_end misframed o s) (one_messages_end o s)
 
   one_records : (c : Records) (input x y e f : List ℕ) (t u : Status) → RecordsOut c input x e t
       → RecordsOut c input y f u → (x ≡ y) × (e ≡ f) × (t ≡ u)
@@ -76,6 +75,7 @@ module _ (one_message : (s : SessionConfig) (number : ℕ) (octets x y e f : Lis
   pub one_output : (c : Command) (input x y e f : List ℕ) (t u : Status) → Out c input x e t → Out c input y f u
       → (x ≡ y) × (e ≡ f) × (t ≡ u)
   one_output (Message o) = one_whole (IsMessagePiece (session_of o) 1) (one_message (session_of o) 1)
-  one_output (Stream o) = one_stream_out (session_of o)
+  one_output (Stream o) = one_messages Text (session_of o)
+  one_output (Rewrite o) = one_messages Anew (session_of o)
   one_output Mrt = one_records Shown
   one_output Messages = one_records Taken

@@ -2,10 +2,13 @@
 use Rattle.std.proofs.Common.{◌≡◌, ◌++◌, ◌∙◌, ℕ, Bool, true, false, List, codes, refl, sym, ap, subst}
 use Rattle.octseq_bgp.specs.Message.{Message, IsMessage}
 use Rattle.octseq_bgp.specs.MessageText.{IsMessageText}
+use Rattle.octseq_bgp.specs.Rewritten.{IsRewritten}
 use Rattle.octseq_bgp.specs.Stop.{IsStop}
 use Rattle.octseq_bgp.specs.declared.session.SessionConfig.{SessionConfig}
 use Rattle.octseq_bgp_tool.specs.Shown.{IsMessagePiece, IsNote, IsShown}
-use Rattle.octseq_bgp_tool.specs.Streams.{IsBlock}
+use Rattle.octseq_bgp_tool.specs.Streams.{IsAnew, IsBlock, IsPiece}
+use Rattle.octseq_bgp_tool.specs.declared.engine.messages.Output.{Output}
+use Rattle.octseq_bgp_tool.specs.declared.engine.messages.Output.TheVariants.{Text, Anew}
 use Rattle.octseq_cli.specs.Frames.{stop_line}
 
 -- by the law of places: octets that aren't a message have one note
@@ -45,8 +48,8 @@ module _ (one_shown : (s : SessionConfig) (octets x y : List ℕ) (b c : Bool) �
       let moved = subst (λ a. IsNote what s number octets a e) same.1 n in
       (same.1, same.0, one_note what s number octets e f b moved m)
 
-  -- a message of a stream makes one piece
-  pub one_block : (s : SessionConfig) (number : ℕ) (octets x y e f : List ℕ) (a b : Bool)
+  -- a message of a stream that is shown makes one piece
+  one_block : (s : SessionConfig) (number : ℕ) (octets x y e f : List ℕ) (a b : Bool)
       → IsBlock s number octets a x e → IsBlock s number octets b y f → (a ≡ b) × (x ≡ y) × (e ≡ f)
   one_block s number octets x y e f a b (is_message, shown, p, n, fine, w) (is_other, other, q, m, also, v) =
       let same = one_shown s octets shown other is_message is_other p q in
@@ -56,3 +59,21 @@ module _ (one_shown : (s : SessionConfig) (octets x y : List ℕ) (b c : Bool) �
         w ∙ ap (λ l. l ++ codes "\n") same.0 ∙ sym v,
         one_note what s number octets e f is_other moved m,
       )
+
+  -- by the law of messages anew as well
+  module _ (one_rewriting : (s : SessionConfig) (octets x y : List ℕ) → IsRewritten s octets x → IsRewritten s octets y
+      → x ≡ y) where
+    -- and so does one that is rewritten
+    one_anew : (s : SessionConfig) (number : ℕ) (octets x y e f : List ℕ) (a b : Bool) → IsAnew s number octets a x e
+        → IsAnew s number octets b y f → (a ≡ b) × (x ≡ y) × (e ≡ f)
+    one_anew s number octets x y e f true true (p, n) (q, m) = (refl, one_rewriting s octets x y p q, n ∙ sym m)
+    one_anew s number octets x y e f false false (p, none, n) (q, empty, m) =
+        (refl, none ∙ sym empty, one_note (codes "message") s number octets e f false n m)
+    one_anew s number octets x y e f true false (p, n) (q, empty, m) = absurd (q p.0 p.1.0)
+    one_anew s number octets x y e f false true (p, none, n) (q, m) = absurd (p q.0 q.1.0)
+
+    -- a message of a stream makes one piece
+    pub one_piece : (o : Output) (s : SessionConfig) (number : ℕ) (octets x y e f : List ℕ) (a b : Bool)
+        → IsPiece o s number octets a x e → IsPiece o s number octets b y f → (a ≡ b) × (x ≡ y) × (e ≡ f)
+    one_piece Text = one_block
+    one_piece Anew = one_anew

@@ -3,7 +3,7 @@ use Rattle.std.proofs.Common.{◌≡◌, ◌∙◌, ◌-◌, ℕ, Bool, true, fa
 use Rattle.std.proofs.Common.{nat_eq, refl, sym, ap}
 use Rattle.octseq_bgp_tool.specs.Words.{name_of, words_of}
 use Rattle.octseq_bgp_tool.specs.declared.engine.Command.{Command}
-use Rattle.octseq_bgp_tool.specs.declared.engine.Command.TheVariants.{Message, Stream, Mrt, Messages}
+use Rattle.octseq_bgp_tool.specs.declared.engine.Command.TheVariants.{Message, Stream, Rewrite, Mrt, Messages}
 use Rattle.octseq_bgp_tool.specs.declared.options.Options.{Options}
 
 -- the options with these
@@ -47,13 +47,15 @@ not_an_s true true true = refl
 abbrev command_reported : List ℕ → Command
 command_reported word =
     if nat_eq (get_or word 0 0) 115 then Stream (reported_by (drop 6 word))
+    else (if nat_eq (get_or word 0 0) 114 then Rewrite (reported_by (drop 7 word))
     else (if nat_eq (get_or word 1 0) 114 then Mrt
-    else (if nat_eq (get_or word 7 0) 115 then Messages else Message (reported_by (drop 7 word))))
+    else (if nat_eq (get_or word 7 0) 115 then Messages else Message (reported_by (drop 7 word)))))
 
 command_again : (c : Command) → command_reported (name_of c) ≡ c
 command_again Mrt = refl
 command_again Messages = refl
 command_again (Stream o) = ap Stream (reported_again o.two_octet o.add_path o.extended)
+command_again (Rewrite o) = ap Rewrite (reported_again o.two_octet o.add_path o.extended)
 command_again (Message o) =
     ap (λ is. if is then Messages else Message (reported_by (words_of o))) (not_an_s o.two_octet o.add_path o.extended)
     ∙ ap Message (reported_again o.two_octet o.add_path o.extended)

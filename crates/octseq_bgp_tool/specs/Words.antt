@@ -2,7 +2,7 @@
 use Rattle.std.specs.Prelude.{Bool, not, if◌then◌else◌, ℕ, List, [], ◌++◌, codes}
 use Rattle.octseq_bgp.specs.declared.session.SessionConfig.{SessionConfig}
 use Rattle.octseq_bgp_tool.specs.declared.engine.Command.{Command}
-use Rattle.octseq_bgp_tool.specs.declared.engine.Command.TheVariants.{Message, Stream, Mrt, Messages}
+use Rattle.octseq_bgp_tool.specs.declared.engine.Command.TheVariants.{Message, Stream, Rewrite, Mrt, Messages}
 use Rattle.octseq_bgp_tool.specs.declared.options.Options.{Options}
 use Rattle.octseq_mrt.specs.Bgp4Mp.{all_paths}
 
@@ -19,6 +19,7 @@ words_of o = option_word o.two_octet (codes ",two-octet") ++ option_word o.add_p
 abbrev pub name_of : Command → List ℕ
 name_of (Message o) = codes "message" ++ words_of o
 name_of (Stream o) = codes "stream" ++ words_of o
+name_of (Rewrite o) = codes "rewrite" ++ words_of o
 name_of Mrt = codes "mrt"
 name_of Messages = codes "messages"
 

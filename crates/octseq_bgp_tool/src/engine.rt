@@ -6,7 +6,7 @@ ghost use Rattle.octseq_bgp_tool.specs.declared.engine.Command.{Command};
 ghost use Rattle.octseq_cli.specs.Run.{IsNamed};
 ghost use Rattle.octseq_cli.specs.declared.status.Status.{Status};
 
-use crate::engine::messages::{Messages, one_stream_piece};
+use crate::engine::messages::{Messages, Output, one_stream_piece};
 use crate::engine::records::{Records, one_record_piece};
 use crate::engine::shown::{OneMessage, one_message_piece};
 use crate::options::Options;
@@ -24,7 +24,7 @@ mod tests;
 
 /// The help text of the program.
 const HELP: &str = "\
-octseq_bgp_tool reads BGP messages and MRT records, and shows them as text.
+octseq_bgp_tool reads BGP messages and MRT records, and shows them as text or writes them anew.
 
 usage: octseq_bgp_tool [COMMAND [FILE]]
 
@@ -35,13 +35,16 @@ commands, the first where none is named:
             octseq_bgp_tool message FILE
   stream    shows BGP messages, one after another, with an empty line after each
             octseq_bgp_tool stream,two-octet < FILE
+  rewrite   writes such messages anew: without bits that mean nothing, and no length longer than it has to be; it
+            leaves out what is no message
+            octseq_bgp_tool rewrite FILE > OUTPUT
   mrt       shows MRT records, with an empty line after each
             octseq_bgp_tool mrt FILE
   messages  writes the messages of the MRT records that have one, as a stream; it leaves out what is no message
             octseq_bgp_tool messages FILE > OUTPUT
   --help    writes this
 
-message and stream may be followed by these words, in this order, each after a comma:
+message, stream and rewrite may be followed by these words, in this order, each after a comma:
   two-octet  AS numbers have two octets
   add-path   prefixes of all families have path ids
   extended   messages may have 65,535 octets
@@ -51,7 +54,8 @@ where reading stopped. If such a line can't be written, none follows, the output
 
 status:
   0  all went well
-  1  the message is malformed, what follows the last message is none, or the input ends inside a message or a record
+  1  the message is malformed, rewrite left out octets that are no message, what follows the last message is none, or
+     the input ends inside a message or a record
   2  the words name no command
   3  there was not enough memory
   4  a read or a write failed
@@ -64,6 +68,8 @@ pub enum Command {
     Message(Options),
     /// Write the text of each message of the input.
     Stream(Options),
+    /// Write each message of the input anew.
+    Rewrite(Options),
     /// Write the text of each record of the input.
     Mrt,
     /// Write the messages in the records of the input.
@@ -112,9 +118,14 @@ impl Commands for Command {
         match word {
             "mrt" => Some(Command::Mrt),
             "messages" => Some(Command::Messages),
-            _ => match (after(word, "message"), after(word, "stream")) {
-                (Some(words), _) => Options::named(words).map(Command::Message),
-                (_, Some(words)) => Options::named(words).map(Command::Stream),
+            _ => match (
+                after(word, "message"),
+                after(word, "stream"),
+                after(word, "rewrite"),
+            ) {
+                (Some(words), _, _) => Options::named(words).map(Command::Message),
+                (_, Some(words), _) => Options::named(words).map(Command::Stream),
+                (_, _, Some(words)) => Options::named(words).map(Command::Rewrite),
                 _ => None,
             },
         }
@@ -140,7 +151,12 @@ impl Commands for Command {
                 take_whole(OneMessage(options.session()), alloc, reader, writer, errors)
             }
             Command::Stream(options) => {
-                take_stream(Messages(options.session()), alloc, reader, writer, errors)
+                let (session, output) = (options.session(), Output::Text);
+                take_stream(Messages { session, output }, alloc, reader, writer, errors)
+            }
+            Command::Rewrite(options) => {
+                let (session, output) = (options.session(), Output::Anew);
+                take_stream(Messages { session, output }, alloc, reader, writer, errors)
             }
             Command::Mrt => take_stream(Records::Shown, alloc, reader, writer, errors),
             Command::Messages => take_stream(Records::Taken, alloc, reader, writer, errors),

@@ -35,6 +35,7 @@ fn unwrap<T, E: Debug + Drop>(rt: &impl Abort, made: Result<T, E>) -> T {
 mod hostile;
 mod records;
 mod refused;
+mod rewritten;
 mod streams;
 
 /// The marker that a message begins with.

@@ -53,6 +53,12 @@ fn stream_tells_a_front(rt: HostRuntime) {
 }
 
 #[test]
+fn rewrite_tells_a_front(rt: HostRuntime) {
+    let octets = unwrap(&rt, messages(rt.alloc(), &[&KEEPALIVE, &UPDATE]));
+    is_reported(&rt, rt.alloc(), "rewrite", &octets, &octets);
+}
+
+#[test]
 fn records_tell_a_front(rt: HostRuntime) {
     let octets = unwrap(&rt, file(rt.alloc()));
     let text = unwrap(&rt, file_text(rt.alloc()));
