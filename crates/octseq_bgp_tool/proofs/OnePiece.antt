@@ -69,8 +69,8 @@ module _ (one_shown : (s : SessionConfig) (octets x y : List ℕ) (b c : Bool) �
     one_anew s number octets x y e f true true (p, n) (q, m) = (refl, one_rewriting s octets x y p q, n ∙ sym m)
     one_anew s number octets x y e f false false (p, none, n) (q, empty, m) =
         (refl, none ∙ sym empty, one_note (codes "message") s number octets e f false n m)
-    one_anew s number octets x y e f true false (p, n) (q, empty, m) = absurd (q p.0 p.1.0)
-    one_anew s number octets x y e f false true (p, none, n) (q, m) = absurd (p q.0 q.1.0)
+    one_anew s number octets x y e f true false (p, n) (q, empty, m) = absurd (q p.0 p.1)
+    one_anew s number octets x y e f false true (p, none, n) (q, m) = absurd (p q.0 q.1)
 
     -- a message of a stream makes one piece
     pub one_piece : (o : Output) (s : SessionConfig) (number : ℕ) (octets x y e f : List ℕ) (a b : Bool)
