@@ -27,7 +27,6 @@ pub mod Pushes
 pub mod ReachBack
 pub mod ReadBack
 pub mod Rewriting
-pub mod RewrittenLengths
 pub mod RewrittenOpens
 pub mod Runs
 pub mod Segments
