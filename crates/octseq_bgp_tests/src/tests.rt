@@ -24,6 +24,7 @@ mod octets;
 mod places;
 mod refused;
 mod rewrite;
+mod rewrite_open;
 mod sessions;
 mod streams;
 mod text;

@@ -17,7 +17,12 @@ fn assert_rewritten(
     let read = message(rt, text);
     let written = rewrite(read.as_slice(), session, Vec::new(rt.alloc()));
     let wanted = message(rt, wanted);
-    equal(rt, text, unwrap(rt, written).as_slice() == wanted.as_slice(), true);
+    equal(
+        rt,
+        text,
+        unwrap(rt, written).as_slice() == wanted.as_slice(),
+        true,
+    );
 }
 
 /// Ends the test if a message of a modern session isn't rewritten as another.
@@ -41,15 +46,28 @@ fn with_zeros(rt: &impl Abort, mut octets: Vec<u8>, count: u16) -> Vec<u8> {
 /// Ends the test if an UPDATE with one attribute of `count` zeros isn't rewritten as another.
 fn assert_zeros(rt: &(impl AllocGlobal + Abort), text: &str, wanted: &str, count: u16) {
     let read = with_zeros(rt, message(rt, text), count);
-    let written = rewrite(read.as_slice(), SessionConfig::modern(), Vec::new(rt.alloc()));
+    let written = rewrite(
+        read.as_slice(),
+        SessionConfig::modern(),
+        Vec::new(rt.alloc()),
+    );
     let wanted = with_zeros(rt, message(rt, wanted), count);
-    equal(rt, text, unwrap(rt, written).as_slice() == wanted.as_slice(), true);
+    equal(
+        rt,
+        text,
+        unwrap(rt, written).as_slice() == wanted.as_slice(),
+        true,
+    );
 }
 
 /// Returns why a message of a modern session isn't rewritten, if it isn't.
 fn refusal(rt: &(impl AllocGlobal + Abort), text: &str) -> Option<WriteError> {
     let read = message(rt, text);
-    match rewrite(read.as_slice(), SessionConfig::modern(), Vec::new(rt.alloc())) {
+    match rewrite(
+        read.as_slice(),
+        SessionConfig::modern(),
+        Vec::new(rt.alloc()),
+    ) {
         Ok(_) => None,
         Err(error) => Some(error),
     }
@@ -169,8 +187,18 @@ fn other_messages_stay(rt: HostRuntime) {
 
 #[test]
 fn what_is_no_message_is_refused(rt: HostRuntime) {
-    equal(&rt, "type", refusal(&rt, "0013 06"), Some(WriteError::Malformed));
-    equal(&rt, "length", refusal(&rt, "0014 04"), Some(WriteError::Malformed));
+    equal(
+        &rt,
+        "type",
+        refusal(&rt, "0013 06"),
+        Some(WriteError::Malformed),
+    );
+    equal(
+        &rt,
+        "length",
+        refusal(&rt, "0014 04"),
+        Some(WriteError::Malformed),
+    );
     let bits = refusal(&rt, "001d 02 0000 0000 21c000020100");
     equal(&rt, "bits", bits, Some(WriteError::Malformed));
     equal(&rt, "none", refusal(&rt, "0013 04"), None);
@@ -198,5 +226,10 @@ fn what_a_builder_holds_is_replaced_by_a_message(rt: HostRuntime) {
     equal(&rt, "update", written.as_slice() == read.as_slice(), true);
     let read = message(&rt, "0013 04");
     let written = unwrap(&rt, rewrite(read.as_slice(), session, written));
-    equal(&rt, "keepalive", written.as_slice() == read.as_slice(), true);
+    equal(
+        &rt,
+        "keepalive",
+        written.as_slice() == read.as_slice(),
+        true,
+    );
 }
