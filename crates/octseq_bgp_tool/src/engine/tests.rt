@@ -246,7 +246,7 @@ fn another_word_is_reported_on_standard_error(rt: HostRuntime) {
     for word in [
         "",
         "Stream",
-        "rewrite",
+        "rewritten",
         "messages,two-octet",
         "mrt,extended",
         "stream,",

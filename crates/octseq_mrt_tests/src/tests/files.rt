@@ -1,9 +1,9 @@
 //! Files written record by record, and read back.
-use crate::tests::events::{between, message};
+use crate::tests::events::{OCTETS, between, message};
 use crate::tests::ribs::prefix;
 use crate::tests::unwrap;
 use crate::tests::written::peer;
-use octseq::Array;
+use octseq::{Array, AsOctets};
 use octseq_asserts::{assert_equal, assert_true};
 use octseq_bgp::family::{Afi, AfiSafiType};
 use octseq_bgp::prefix::PathId;
@@ -77,22 +77,23 @@ fn write_ribs<W: Write>(
     records.write_record(1_700_000_002, rib.kind(), rib.as_slice())
 }
 
-/// Writes a message, and a state change with microseconds.
-fn write_events<W: Write>(
-    rt: &(impl Abort + AllocGlobal),
+/// Writes a message of these octets, and a state change with microseconds.
+fn write_events<R: AsOctets + Copy, W: Write>(
+    rt: &impl Abort,
     records: &mut RecordWriter<W>,
+    octets: R,
 ) -> Result<(), WriteRecordError> {
     let subtype = Bgp4MpSubtype::Message;
-    let mut octets = Array::<64>::new();
-    let it = message(subtype);
-    unwrap(rt, it.append_octets(subtype, &mut octets));
-    records.write_record(1_700_000_003, it.kind(subtype), octets.as_slice())?;
+    let mut written = Array::<64>::new();
+    let it = message(octets, subtype);
+    unwrap(rt, it.append_octets(subtype, &mut written));
+    records.write_record(1_700_000_003, it.kind(subtype), written.as_slice())?;
     let subtype = Bgp4MpSubtype::StateChangeAs4;
-    let mut octets = Array::<64>::new();
-    let mut it = between(Event::StateChange(5, 6));
+    let mut written = Array::<64>::new();
+    let mut it = between::<R>(Event::StateChange(5, 6));
     it.microseconds = Some(5);
-    unwrap(rt, it.append_octets(subtype, &mut octets));
-    records.write_record(1_700_000_004, it.kind(subtype), octets.as_slice())
+    unwrap(rt, it.append_octets(subtype, &mut written));
+    records.write_record(1_700_000_004, it.kind(subtype), written.as_slice())
 }
 
 /// Writes the file.
@@ -102,7 +103,20 @@ fn write_file<W: Write>(
 ) -> Result<(), WriteRecordError> {
     write_table(rt, records)?;
     write_ribs(rt, records)?;
-    write_events(rt, records)
+    write_events(rt, records, OCTETS)
+}
+
+/// Ends the test if a file of five records doesn't have this text.
+fn assert_text(rt: &(impl Abort + AllocGlobal), file: &[u8], wanted: &str) {
+    let mut reader = RecordReader::new(rt.alloc(), file);
+    let mut text = String::new(rt.alloc());
+    for _ in 0..5 {
+        assert_true!(rt, unwrap(rt, reader.read_next()));
+        let record = unwrap(rt, reader.record());
+        unwrap(rt, write!(text, "{record}"));
+    }
+    assert_true!(rt, !unwrap(rt, reader.read_next()));
+    assert_equal!(rt, text.as_str(), wanted);
 }
 
 #[test]
@@ -111,15 +125,7 @@ fn a_file_is_written_and_read_back(rt: HostRuntime) {
     unwrap(&rt, write_file(&rt, &mut records));
     let file = records.into_inner();
     assert_equal!(&rt, file.as_slice(), FILE);
-    let mut reader = RecordReader::new(rt.alloc(), file.as_slice());
-    let mut text = String::new(rt.alloc());
-    for _ in 0..5 {
-        assert_true!(&rt, unwrap(&rt, reader.read_next()));
-        let record = unwrap(&rt, reader.record());
-        unwrap(&rt, write!(text, "{record}"));
-    }
-    assert_true!(&rt, !unwrap(&rt, reader.read_next()));
-    assert_equal!(&rt, text.as_str(), TEXT);
+    assert_text(&rt, file.as_slice(), TEXT);
 }
 
 /// A sink that takes a few octets at a time, fails at one write, and goes on after it.
