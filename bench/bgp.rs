@@ -413,3 +413,62 @@ fn capability(code: u8, value: &[u8]) -> Option<u64> {
 fn tuple([upper, lower, safi, flags]: [u8; 4]) -> u64 {
     u64::from(u16::from_be_bytes([upper, lower])) + u64::from(safi) + u64::from(flags)
 }
+
+/// How many times one call writes a message.
+pub const WRITTEN: usize = 64;
+
+/// Appends an attribute of at most 255 octets.
+#[inline(always)]
+fn push_attribute(message: &mut Vec<u8>, kind: u8, value: &[u8]) {
+    message.extend_from_slice(&[0x40, kind, value.len() as u8]);
+    message.extend_from_slice(value);
+}
+
+/// Appends an IPv4 prefix, if it has at most 32 bits and the message at most 4,096 octets with it. Bits after its length
+/// are 0.
+#[inline(always)]
+fn push_prefix(message: &mut Vec<u8>, len: u8, address: [u8; 4]) -> Option<()> {
+    if len > 32 {
+        return None;
+    }
+    let octets = (usize::from(len) + 7) / 8;
+    if message.len() + 1 + octets > 4096 {
+        return None;
+    }
+    let address = u64::from(u32::from_be_bytes(address)) & !(u64::from(u32::MAX) >> len);
+    message.push(len);
+    message.extend_from_slice(&(address as u32).to_be_bytes()[..octets]);
+    Some(())
+}
+
+/// Writes an UPDATE that announces prefixes of four octets each, in place of what a vector holds.
+#[inline(never)]
+fn write_announced(message: &mut Vec<u8>, prefixes: &[u8], asns: &[u32]) -> Option<()> {
+    message.clear();
+    message.extend_from_slice(&[255; 16]);
+    message.extend_from_slice(&[0, 0, 2, 0, 0, 0, 0]);
+    push_attribute(message, 1, &[0]);
+    message.extend_from_slice(&[0x40, 2, 2 + 4 * asns.len() as u8, 2, asns.len() as u8]);
+    asns.iter().for_each(|asn| message.extend_from_slice(&asn.to_be_bytes()));
+    push_attribute(message, 3, &[192, 0, 2, 1]);
+    let size = (message.len() as u16 - 23).to_be_bytes();
+    message[21..23].copy_from_slice(&size);
+    for four in prefixes.as_chunks::<4>().0 {
+        push_prefix(message, four[0], [four[1], four[2], four[3], 0])?;
+    }
+    let len = (message.len() as u16).to_be_bytes();
+    message[16..18].copy_from_slice(&len);
+    Some(())
+}
+
+/// The octets of an UPDATE that announces prefixes of four octets each, as one number. It is written several times.
+#[inline(never)]
+pub fn announced(prefixes: &[u8]) -> u64 {
+    let mut message = Vec::with_capacity(4096);
+    for _ in 0..WRITTEN {
+        if write_announced(&mut message, prefixes, std::hint::black_box(&[64500, 64501, 64502])).is_none() {
+            return 0;
+        }
+    }
+    sum_of_octets(&message)
+}

@@ -1,4 +1,4 @@
-//! Times the reading of BGP messages beside a reader by hand, and that of records of MRT.
+//! Times the reading and writing of BGP messages beside code by hand, and the reading of records of MRT.
 //!
 //! Both readers must agree first: on each message in each of eight sessions, on each of its cuts, and on each message
 //! with an octet changed.
@@ -11,6 +11,7 @@ unsafe extern "C" {
     fn octseq_bgp_checked(stream: *const u8, len: usize) -> u64;
     fn octseq_bgp_read(stream: *const u8, len: usize) -> u64;
     fn octseq_bgp_addresses(stream: *const u8, len: usize) -> u64;
+    fn octseq_bgp_announced(prefixes: *const u8, len: usize) -> u64;
     fn octseq_mrt_records(file: *const u8, len: usize) -> u64;
     fn octseq_mrt_read(file: *const u8, len: usize) -> u64;
 }
@@ -165,6 +166,19 @@ fn full() -> Vec<(&'static str, u8, Vec<u8>)> {
     ]
 }
 
+/// Tells the times of UPDATEs that are written, with so many prefixes each.
+fn tell_written() {
+    println!("\n| UPDATE written | ours / by hand, ns | ratio |\n|---|---|---|");
+    for count in [1, 10, 100, 500, 1000_u16] {
+        let prefixes: Vec<u8> = (0..count).flat_map(|n| [24, 10, (n >> 8) as u8, n as u8]).collect();
+        assert_eq!(call(octseq_bgp_announced, &prefixes), bgp::announced(&prefixes), "{count} prefixes");
+        let (one, other) =
+            times(|| call(octseq_bgp_announced, black_box(&prefixes)), || bgp::announced(black_box(&prefixes)));
+        let written = bgp::WRITTEN as f64;
+        println!("| {count} prefixes | {:.0} / {:.0} | {:.2} |", one / written, other / written, one / other);
+    }
+}
+
 /// Tells how many megabytes of records a second are read.
 fn tell_records(path: &str) {
     let file = std::fs::read(path).expect("the file is there");
@@ -198,5 +212,6 @@ fn main() {
     for (name, session, message) in &full {
         tell(name, &[(*session, message)]);
     }
+    tell_written();
     paths.for_each(|path| tell_records(&path));
 }
