@@ -16,7 +16,6 @@ pub mod Fills
 pub mod Handling
 pub mod Held
 pub mod ItemOctets
-pub mod ItemRow
 pub mod Items
 pub mod Lists
 pub mod Message

@@ -3,9 +3,9 @@ ghost use Rattle.std.specs.Prelude.{◌≡◌, ◌+◌, ◌*◌, ◌<◌, ◌≤
 ghost use Rattle.std.specs.Coded.{Coded};
 ghost use Rattle.octseq.specs.Parser.{window, Takes};
 ghost use Rattle.octseq.specs.Window.{left, next};
-ghost use Rattle.octseq_format.specs.Fixed.{IsFixed};
+ghost use Rattle.octseq_format.specs.Fixed.{IsFixed, one_fixed};
+ghost use Rattle.octseq_format.specs.Row.{Holds, held_once};
 ghost use Rattle.octseq_bgp.specs.Fills.{Fills};
-ghost use Rattle.octseq_bgp.specs.ItemRow.{Ahead, items_once};
 
 use octseq::{AsOctets, Malformed, Parser, ShortInput};
 use std::alloc::AllocError;
@@ -48,7 +48,8 @@ pub struct Items<R: AsOctets, T: Item> {
     parser: Parser<R>,
     left: usize,
     item: PhantomData<T>,
-    ghost ahead: { Ahead T.width T.reads (window parser) left } by { items_once T.found_code T.width T.reads _ _ },
+    ghost ahead: { Holds (IsFixed T.width T.reads) (window parser) left } by { held_once T.found_code
+        (IsFixed T.width T.reads) (one_fixed T.width T.reads) (window parser) left },
 }
 
 impl<R: AsOctets + Copy, T: Item> Copy for Items<R, T> {}

@@ -1,4 +1,4 @@
-//! BGP messages, read from one buffer without copies: RFC 4271 and its extensions.
+//! BGP messages, read from one buffer without copies, written, and written anew: RFC 4271 and its extensions.
 #![tactic(auto)]
 
 pub mod attribute;
