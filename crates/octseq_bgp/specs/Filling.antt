@@ -53,7 +53,7 @@ with_withdrawn u row = record u { withdrawn = u.withdrawn ++ map given row }
 abbrev pub with_announced : WrittenUpdate → List Given → WrittenUpdate
 with_announced u row = record u { announced = u.announced ++ map given row }
 
--- with their octets at the end of the last attribute, whose type this is, if there are any
+-- with more prefixes at the end of the last attribute, whose type this is; with none it stays as it is
 abbrev pub with_in_last : AttributeType → WrittenUpdate → List Given → WrittenUpdate
 with_in_last t u [] = u
 with_in_last t u (p ∷ row) = more_in_last t u (prefixes_octets (map given (p ∷ row)))
