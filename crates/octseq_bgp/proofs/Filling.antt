@@ -17,9 +17,10 @@ use Rattle.octseq_bgp.specs.Composed.{least}
 use Rattle.octseq_bgp.specs.Filling.{ArePushed, FillsMessage, FitWith, Given, given, given_long}
 use Rattle.octseq_bgp.specs.Filling.{with_announced, with_withdrawn}
 use Rattle.octseq_bgp.specs.Writing.{Pushes, Writing, more_announced, more_withdrawn}
-use Rattle.octseq_bgp.specs.Written.{IsPrefixOf, WrittenPrefix, WrittenUpdate, longest, prefix_octets, prefixes_octets}
+use Rattle.octseq_bgp.specs.Written.{WrittenPrefix, WrittenUpdate, longest, prefix_octets, prefixes_octets}
 use Rattle.octseq_bgp.specs.Written.{update_octets}
-use Rattle.octseq_bgp.specs.declared.family.AfiSafiType.TheVariants as family
+use Rattle.octseq_bgp.specs.declared.message.update_builder.part.MpList.{MpList}
+use Rattle.octseq_bgp.specs.declared.session.SessionConfig.{SessionConfig}
 use Rattle.octseq_bgp.proofs.Pushes.{all_more}
 use Rattle.octseq_bgp.proofs.Updates.{update_long}
 
@@ -209,26 +210,30 @@ announced_long u row =
     let more = given_octets u.announced row in
     omega (arith, long, all, more)
 
--- Items add their octets to those of an UPDATE.
-abbrev pub Adds : {A : Type 0} → (List A → WrittenUpdate) → ℕ → (A → ℕ) → Type 0
-Adds {A} more begun size = (row : List A) → length (update_octets (more row)) ≡ begun + sum_by size row
+-- An UPDATE has no fewer octets with items that have no fewer.
+abbrev pub Rises : {A : Type 0} → (List A → WrittenUpdate) → (A → ℕ) → Type 0
+Rises {A} more size = (few many : List A) → sum_by size few ≤ sum_by size many
+    → length (update_octets (more few)) ≤ length (update_octets (more many))
 
-pub grows : {A : Type 0} (more : List A → WrittenUpdate) (begun : ℕ) (size : A → ℕ) → Adds more begun size
-    → (row : List A) → Grows more row
-grows more begun size adds row k m less =
+pub withdrawn_rises : (u : WrittenUpdate) → Rises (with_withdrawn u) given_long
+withdrawn_rises u few many less = omega (arith, less, withdrawn_long u few, withdrawn_long u many)
+
+pub announced_rises : (u : WrittenUpdate) → Rises (with_announced u) given_long
+announced_rises u few many less = omega (arith, less, announced_long u few, announced_long u many)
+
+pub grows : {A : Type 0} (more : List A → WrittenUpdate) (size : A → ℕ) → Rises more size → (row : List A)
+    → Grows more row
+grows more size rises row k m less =
     let part = sum_by-take-le size (take m row) k in
     let same = ap (sum_by size) (take-take k m row less) in
-    let few = adds (take k row) in
-    let many = adds (take m row) in
-    omega (arith, part, same, few, many)
+    rises (take k row) (take m row) (omega (arith, part, same))
 
-pub fits_after : {A : Type 0} (most : ℕ) (more : List A → WrittenUpdate) (begun : ℕ) (size : A → ℕ) → Adds more begun size
+pub fits_after : {A : Type 0} (most : ℕ) (more : List A → WrittenUpdate) (size : A → ℕ) → Rises more size
     → (k : ℕ) (run : List A) → FitWith most more run → FitWith most more (drop k run)
-fits_after most more begun size adds k run fits =
+fits_after most more size rises k run fits =
     let both = sum_by-take-drop size run k in
-    let few = adds (drop k run) in
-    let many = adds run in
-    omega (arith, both, few, many, fits)
+    let less = rises (drop k run) run (omega (arith, both)) in
+    omega (arith, less, fits)
 
 -- ---- one more
 
@@ -249,20 +254,19 @@ no_withdrawn u = ap (λ w. record u { withdrawn = w }) (sym (append-nil u.withdr
 pub no_announced : (u : WrittenUpdate) → u ≡ with_announced u []
 no_announced u = ap (λ n. record u { announced = n }) (sym (append-nil u.announced))
 
--- a push of the next prefix
-pub step : {B : Type 0} {limit : Option ℕ} {asks : Bool} {most : ℕ} {row : List Given} {old now next : Writing B} {n : ℕ}
-    (result : Result (Unit {0}) WriteError) (x : Given) (one : WrittenUpdate → WrittenPrefix → WrittenUpdate)
-    (more : List Given → WrittenUpdate) → ((done : List Given) (p : Given) → one (more done) (given p) ≡ more (done ++ p ∷ []))
-    → ArePut (λ p. IsPrefixOf old.session family.Ipv4Unicast p.0 p.1) more row most old now n
-    → take (n + 1) row ≡ take n row ++ x ∷ []
-    → Pushes limit asks (IsPrefixOf now.session family.Ipv4Unicast x.0 x.1) result (one now.update (given x)) now.open_list
-    now next
-    → Pushes limit asks (IsPrefixOf old.session family.Ipv4Unicast x.0 x.1) result (more (take (n + 1) row)) now.open_list
-    now next
-step {limit = limit} {asks = asks} {row = row} {now = now} {next = next} {n = n} result x one more another are is pushed =
-    let wanted : one now.update (given x) ≡ more (take (n + 1) row) =
-    ap (λ u. one u (given x)) are.update ∙ another (take n row) x ∙ ap more (sym is) in
-    subst (λ s. Pushes limit asks (IsPrefixOf s family.Ipv4Unicast x.0 x.1) result (more (take (n + 1) row)) now.open_list
-    now next) are.session
-    (subst (λ w. Pushes limit asks (IsPrefixOf now.session family.Ipv4Unicast x.0 x.1) result w now.open_list now next)
-    wanted pushed)
+module _ {B : Type 0} {limit : Option ℕ} {asks : Bool} {most : ℕ} {row : List Given} {old now next : Writing B} {n : ℕ} where
+  -- a push of the next prefix
+  pub step : (Good : SessionConfig → Option MpList → Given → Type 0) (result : Result (Unit {0}) WriteError) (x : Given)
+      (one : WrittenUpdate → WrittenPrefix → WrittenUpdate) (more : List Given → WrittenUpdate)
+      → ((done : List Given) (p : Given) → one (more done) (given p) ≡ more (done ++ p ∷ []))
+      → ArePut (Good old.session old.open_list) more row most old now n → take (n + 1) row ≡ take n row ++ x ∷ []
+      → Pushes limit asks (Good now.session now.open_list x) result (one now.update (given x)) now.open_list now next
+      → Pushes limit asks (Good old.session old.open_list x) result (more (take (n + 1) row)) now.open_list now next
+  step Good result x one more another are is pushed =
+      let wanted : one now.update (given x) ≡ more (take (n + 1) row) =
+      ap (λ u. one u (given x)) are.update ∙ another (take n row) x ∙ ap more (sym is) in
+      let l = now.open_list in
+      let all = more (take (n + 1) row) in
+      subst (λ s. Pushes limit asks (Good s old.open_list x) result all l now next) are.session
+      (subst (λ o. Pushes limit asks (Good now.session o x) result all l now next) are.open_list
+      (subst (λ w. Pushes limit asks (Good now.session l x) result w l now next) wanted pushed))

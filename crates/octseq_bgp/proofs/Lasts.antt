@@ -25,7 +25,7 @@ use Rattle.octseq_bgp.proofs.Pushes.{Wanted, all_more, one_more}
 use Rattle.octseq_bgp.proofs.Updates.{attribute_once, held_fits, held_withdrawn, held_attributes}
 use Rattle.octseq_bgp.proofs.Updates.{held_attributes_up, update_long}
 
-head_long : (flags kind n : ℕ) → length (head_octets flags kind n) ≡ 2 + length_width flags
+pub head_long : (flags kind n : ℕ) → length (head_octets flags kind n) ≡ 2 + length_width flags
 head_long flags kind n =
     let one = length-append (octets_be 1 flags) (octets_be 1 kind ++ octets_be (length_width flags) n) in
     let two = length-append (octets_be 1 kind) (octets_be (length_width flags) n) in
@@ -53,7 +53,7 @@ head_told_by t n len old (no apart) is short long =
     long (omega (arith, is, four, many)) ∙ sym four
 
 -- it grows with the attribute
-head_grows_by : (t : AttributeType) (m n : ℕ) → Dec (m ≤ 255) → Dec (n ≤ 255) → m ≤ n
+pub head_grows_by : (t : AttributeType) (m n : ℕ) → Dec (m ≤ 255) → Dec (n ≤ 255) → m ≤ n
     → length (head_of t m) ≤ length (head_of t n)
 head_grows_by t m n (yes few) (yes less) fits = omega (arith, head_few t m few, head_few t n less)
 head_grows_by t m n (yes few) (no apart) fits =
@@ -72,7 +72,7 @@ width_some_by t n (no apart) =
     let two = width_many t n (omega (arith, many)) in
     omega (arith, two)
 
-width_some : (t : AttributeType) (n : ℕ) → 1 ≤ length_width (flags_for t n)
+pub width_some : (t : AttributeType) (n : ℕ) → 1 ≤ length_width (flags_for t n)
 width_some t n = width_some_by t n (dec_le n 255)
 
 -- ---- a list that grows at its end

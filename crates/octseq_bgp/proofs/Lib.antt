@@ -8,6 +8,7 @@ pub mod Families
 pub mod FaultsAre
 pub mod Filling
 pub mod Fronts
+pub mod InLast
 pub mod Kept
 pub mod Lasts
 pub mod Marks

@@ -5,8 +5,10 @@ use Rattle.std.specs.List.{AllByRecursion, flat_map}
 use Rattle.octseq.specs.Refusal.{IsMalformed, IsShort, IsMemory, write_error}
 use Rattle.octseq.specs.declared.error.WriteError.{WriteError}
 use Rattle.octseq_bgp.specs.Composed.{least}
-use Rattle.octseq_bgp.specs.Writing.{Writing}
-use Rattle.octseq_bgp.specs.Written.{WrittenPrefix, WrittenUpdate, longest, prefix_octets, update_octets, written_prefix}
+use Rattle.octseq_bgp.specs.Writing.{Writing, more_in_last}
+use Rattle.octseq_bgp.specs.Written.{WrittenPrefix, WrittenUpdate, longest, prefix_octets, prefixes_octets}
+use Rattle.octseq_bgp.specs.Written.{update_octets, written_prefix}
+use Rattle.octseq_bgp.specs.declared.attribute.attribute_type.AttributeType.{AttributeType}
 use Rattle.octseq_bgp.specs.declared.prefix.PathId.{PathId}
 use Rattle.octseq_bgp.specs.declared.prefix.Prefix.{Prefix}
 
@@ -50,6 +52,11 @@ with_withdrawn u row = record u { withdrawn = u.withdrawn ++ map given row }
 -- with more announced prefixes
 abbrev pub with_announced : WrittenUpdate → List Given → WrittenUpdate
 with_announced u row = record u { announced = u.announced ++ map given row }
+
+-- with more prefixes at the end of the last attribute, whose type this is; with none it stays as it is
+abbrev pub with_in_last : AttributeType → WrittenUpdate → List Given → WrittenUpdate
+with_in_last t u [] = u
+with_in_last t u (p ∷ row) = more_in_last t u (prefixes_octets (map given (p ∷ row)))
 
 -- ---- what a call that fills a message does
 

@@ -7,7 +7,8 @@ ghost use Rattle.octseq.specs.Window.{Window, rest};
 ghost use Rattle.octseq_format.specs.Canonical.{AreOctets};
 ghost use Rattle.octseq_bgp.specs.Capability.{CapabilityValue, IsCapabilityValue};
 ghost use Rattle.octseq_bgp.specs.Fault.{Fault, AreFaultsOf, worst_of};
-ghost use Rattle.octseq_bgp.specs.Filling.{AreFilled, AreRuns, FitWith, Given, given_long, with_announced, with_withdrawn};
+ghost use Rattle.octseq_bgp.specs.Filling.{AreFilled, AreRuns, FitWith, Given, given_long, with_announced};
+ghost use Rattle.octseq_bgp.specs.Filling.{with_in_last, with_withdrawn};
 ghost use Rattle.octseq_bgp.specs.Handling.{IsHandling};
 ghost use Rattle.octseq_bgp.specs.Message as said;
 ghost use Rattle.octseq_bgp.specs.Message.{IsMessage};
@@ -28,6 +29,7 @@ ghost use Rattle.octseq_bgp.specs.WrittenNotification.{WrittenNotification, noti
 ghost use Rattle.octseq_bgp.specs.WrittenOpen.{FitsOpen, WrittenOpen, open_octets};
 ghost use Rattle.octseq_bgp.specs.WrittenRouteRefresh.{WrittenRouteRefresh, route_refresh_octets, route_refresh_says};
 ghost use Rattle.octseq_bgp.specs.WrittenValue.{WrittenValue, FitsForm, says_value, value_octets, value_type};
+ghost use Rattle.octseq_bgp.specs.declared.attribute.attribute_type.AttributeType.{AttributeType};
 ghost use Rattle.octseq_bgp.specs.declared.session.SessionConfig.{SessionConfig as Session};
 
 use crate::session::SessionConfig;
@@ -166,6 +168,9 @@ pub fn filled_messages_are_fewest()
     ensures announced { (most : ℕ) (u : WrittenUpdate) (row : List Given) (counts : List ℕ) (runs : List (List Given))
         → AreFilled (FitWith most (with_announced u)) row counts → AreRuns (FitWith most (with_announced u)) row runs
         → length counts ≤ length runs }
+    ensures in_last { (most : ℕ) (t : AttributeType) (u : WrittenUpdate) (row : List Given) (counts : List ℕ)
+        (runs : List (List Given)) → AreFilled (FitWith most (with_in_last t u)) row counts
+        → AreRuns (FitWith most (with_in_last t u)) row runs → length counts ≤ length runs }
 {}
 
 /// None of them is without prefixes, if each prefix alone fits such a message.
@@ -176,6 +181,9 @@ pub fn filled_messages_have_prefixes()
     ensures announced { (most : ℕ) (u : WrittenUpdate) (row : List Given) (counts : List ℕ)
         → AllByRecursion (λ p. FitWith most (with_announced u) (p ∷ [])) row
         → AreFilled (FitWith most (with_announced u)) row counts → AllByRecursion (λ count. 1 ≤ count) counts }
+    ensures in_last { (most : ℕ) (t : AttributeType) (u : WrittenUpdate) (row : List Given) (counts : List ℕ)
+        → AllByRecursion (λ p. FitWith most (with_in_last t u) (p ∷ [])) row
+        → AreFilled (FitWith most (with_in_last t u)) row counts → AllByRecursion (λ count. 1 ≤ count) counts }
 {}
 
 /// A message is written anew in at most one way.

@@ -494,3 +494,122 @@ fn a_prefix_that_cant_be_written_ends_a_run(rt: HostRuntime) {
     ];
     assert_equal!(&rt, unwrap(&rt, update.fill_announced(&full)), 1);
 }
+
+/// Returns 1,000 IPv6 prefixes of 64 bits: nine octets each.
+fn many_ipv6_prefixes(rt: &(impl AllocGlobal + Abort)) -> Vec<(Prefix, Option<PathId>)> {
+    let mut prefixes = Vec::new(rt.alloc());
+    for n in 0..1000_u16 {
+        let octets = n.to_be_bytes();
+        unwrap(rt, prefixes.push((ipv6(octets[0], octets[1], 0, 64), None)));
+    }
+    prefixes
+}
+
+/// Lists prefixes in as few messages as they need, all with the same next hop, if any, and returns their lengths.
+fn fill_lists(
+    rt: &(impl AllocGlobal + Abort),
+    list: MpList,
+    prefixes: &[(Prefix, Option<PathId>)],
+) -> Vec<usize> {
+    let hop = NextHop::Ipv6([0x20, 1, 0xd, 0xb8, 0, 0, 0, 0, 0, 0, 0, 0, 0, 0, 0, 1]);
+    let mut lens = Vec::new(rt.alloc());
+    let mut left = prefixes;
+    for _ in 0..prefixes.len() {
+        if left.is_empty() {
+            break;
+        }
+        let mut update = begin(rt, SessionConfig::modern()).attributes();
+        let count = match list {
+            MpList::Reach(family) => {
+                unwrap(rt, update.push_mp_reach(family, &hop));
+                unwrap(rt, update.fill_reached(left))
+            }
+            MpList::Unreach(family) => {
+                unwrap(rt, update.push_mp_unreach(family));
+                unwrap(rt, update.fill_unreached(left))
+            }
+        };
+        let Some(others) = left.get(count..) else {
+            panic!(rt; "more were pushed than were left");
+        };
+        left = others;
+        unwrap(rt, lens.push(update.finish().len()));
+    }
+    lens
+}
+
+#[test]
+fn lists_fill_as_few_messages_as_they_need(rt: HostRuntime) {
+    // A message has 23 octets, its attribute four before its value, and this 21 before its prefixes. That leaves 4,048:
+    // 449 prefixes of nine octets. The third message has the 102 that are left.
+    let prefixes = many_ipv6_prefixes(&rt);
+    let lens = fill_lists(&rt, MpList::Reach(AfiSafiType::Ipv6Unicast), &prefixes);
+    assert_equal!(&rt, lens.as_slice(), &[4089, 4089, 966]);
+    // An MP_UNREACH_NLRI has three before its prefixes, which leaves 4,066: 451 of nine octets, and then 98.
+    let lens = fill_lists(&rt, MpList::Unreach(AfiSafiType::Ipv6Unicast), &prefixes);
+    assert_equal!(&rt, lens.as_slice(), &[4089, 4089, 912]);
+}
+
+/// Lists unreachable prefixes in a message, and returns how many it took, and the message.
+fn unreach<B: OctetsBuilder + Truncate + AsOctetsMut>(
+    rt: &(impl AllocGlobal + Abort),
+    octets: B,
+    prefixes: &[(Prefix, Option<PathId>)],
+) -> (usize, B) {
+    let update = UpdateBuilder::from_builder(octets, SessionConfig::modern());
+    let mut update = unwrap(rt, update).attributes();
+    unwrap(rt, update.push_mp_unreach(AfiSafiType::Ipv6Unicast));
+    let count = unwrap(rt, update.fill_unreached(prefixes));
+    (count, update.finish())
+}
+
+#[test]
+fn a_list_that_is_filled_may_pass_255_octets(rt: HostRuntime) {
+    // With 28 prefixes the value has 255 octets, and the message 281. Another takes nine, and the length an octet more.
+    let prefixes = many_ipv6_prefixes(&rt);
+    let (count, message) = unreach(&rt, Array::<290>::new(), &prefixes);
+    assert_equal!(&rt, count, 28);
+    let wanted = octets(&rt, "0119 02 0000 0102 800fff 000201 40 20010db8");
+    assert_equal!(&rt, message.as_ref().get(16..34), Some(wanted.as_slice()));
+    let (count, message) = unreach(&rt, Array::<291>::new(), &prefixes);
+    assert_equal!(&rt, count, 29);
+    let wanted = octets(&rt, "0123 02 0000 010c 900f0108 000201 40 20010db8");
+    assert_equal!(&rt, message.as_ref().get(16..35), Some(wanted.as_slice()));
+}
+
+#[test]
+fn reachable_prefixes_are_filled_with_path_ids(rt: HostRuntime) {
+    let mut update = begin(&rt, with_paths()).attributes();
+    let hop = NextHop::Ipv4([10, 0, 0, 1]);
+    unwrap(&rt, update.push_mp_reach(AfiSafiType::Ipv4Multicast, &hop));
+    let prefixes = [
+        (ipv4([9, 9, 9, 0], 24), Some(PathId(1))),
+        (ipv4([9, 9, 9, 0], 24), Some(PathId(2))),
+    ];
+    assert_equal!(&rt, unwrap(&rt, update.fill_reached(&prefixes)), 2);
+    let wanted =
+        "0033 02 0000 001c 800e19 0001 02 04 0a000001 00 00000001 18090909 00000002 18090909";
+    assert_message(&rt, "two", &update.finish(), wanted);
+}
+
+#[test]
+fn a_prefix_that_isnt_of_the_list_ends_a_run(rt: HostRuntime) {
+    let mut update = begin(&rt, SessionConfig::modern()).attributes();
+    let prefixes = [
+        (ipv6(0, 1, 0, 48), None),
+        (ipv4([9, 9, 9, 0], 24), None),
+        (ipv6(0, 2, 0, 48), None),
+    ];
+    let refused = update.fill_unreached(&prefixes);
+    assert_equal!(&rt, refused, Err(WriteError::Malformed));
+    assert_equal!(&rt, unwrap(&rt, update.fill_unreached(&[])), 0);
+    unwrap(&rt, update.push_mp_unreach(AfiSafiType::Ipv6Unicast));
+    let refused = update.fill_unreached(&prefixes);
+    assert_equal!(&rt, refused, Err(WriteError::Malformed));
+    let wanted = "0024 02 0000 000d 800f0a 000201 3020010db80001";
+    assert_message(&rt, "one", update.as_slice(), wanted);
+    let more = [(ipv6(0, 2, 0, 48), None)];
+    assert_equal!(&rt, unwrap(&rt, update.fill_unreached(&more)), 1);
+    let wanted = "002b 02 0000 0014 800f11 000201 3020010db80001 3020010db80002";
+    assert_message(&rt, "two", &update.finish(), wanted);
+}

@@ -1,10 +1,12 @@
-use Rattle.std.proofs.Common.{length, refl, ap, ◌+◌, ◌∙◌, arith, Ok, Err}
+use Rattle.std.proofs.Common.{refl, ap, ◌+◌, ◌∙◌, arith, Ok, Err}
 use Rattle.std.proofs.lemmas.List.{take_more}
 use Rattle.octseq.specs.declared.error.WriteError.TheVariants.{Malformed, Memory, Short}
 use Rattle.octseq_bgp.specs.Filling.{given_long, with_announced}
 use Rattle.octseq_bgp.specs.Writing.{more_announced}
-use Rattle.octseq_bgp.specs.Written.{update_octets}
-use Rattle.octseq_bgp.proofs.Filling.{announced_long, filled, full, grows, next_announced, no_announced, none_put, put_more, refuses, step}
+use Rattle.octseq_bgp.specs.Written.{IsPrefixOf}
+use Rattle.octseq_bgp.specs.declared.family.AfiSafiType.TheVariants as family
+use Rattle.octseq_bgp.proofs.Filling.{announced_rises, filled, full, grows, next_announced, no_announced, none_put}
+use Rattle.octseq_bgp.proofs.Filling.{put_more, refuses, step}
 use Rattle.octseq_bgp.proofs.message.update_builder.fill.UpdateBuilder+B+Announced.fill_announced.Goals as goal
 
 pub loop-prefix-init : goal.loop-prefix-init
@@ -18,17 +20,19 @@ pub returns-in-Err-Short-clause-filled : goal.returns-in-Err-Short-clause-filled
 returns-in-Err-Short-clause-filled g c =
     let before = c.args.self.now.update in
     let is = take_more c.args.prefixes.now c.loop-prefix.prefix-index _ c.loop-prefix-test.true in
-    let pushed = step (Err Short) _ more_announced (with_announced before) (next_announced before) c.loop-prefix.invariant.put is
+    let pushed = step (λ s l p. IsPrefixOf s family.Ipv4Unicast p.0 p.1) (Err Short) _ more_announced
+    (with_announced before) (next_announced before) c.loop-prefix.invariant.put is
     (rw c.in-Err-Short.field-0-is at c.in-Err-Short.ensures.pushed) in
     rw c.loop-prefix.invariant.count
     (full c.loop-prefix.invariant.put c.loop-prefix-test.true is pushed
-    (grows (with_announced before) (length (update_octets before)) given_long (announced_long before) c.args.prefixes.now))
+    (grows (with_announced before) given_long (announced_rises before) c.args.prefixes.now))
 
 pub returns-in-Err-Malformed-clause-filled : goal.returns-in-Err-Malformed-clause-filled
 returns-in-Err-Malformed-clause-filled g c =
     let before = c.args.self.now.update in
     let is = take_more c.args.prefixes.now c.loop-prefix.prefix-index _ c.loop-prefix-test.true in
-    let pushed = step (Err Malformed) _ more_announced (with_announced before) (next_announced before) c.loop-prefix.invariant.put is
+    let pushed = step (λ s l p. IsPrefixOf s family.Ipv4Unicast p.0 p.1) (Err Malformed) _ more_announced
+    (with_announced before) (next_announced before) c.loop-prefix.invariant.put is
     (rw c.in-Err-Malformed.field-0-is at c.in-Err-Malformed.ensures.pushed) in
     refuses Malformed (λ none. none) c.loop-prefix.invariant.put c.loop-prefix-test.true is pushed
 
@@ -36,7 +40,8 @@ pub returns-in-Err-Memory-clause-filled : goal.returns-in-Err-Memory-clause-fill
 returns-in-Err-Memory-clause-filled g c =
     let before = c.args.self.now.update in
     let is = take_more c.args.prefixes.now c.loop-prefix.prefix-index _ c.loop-prefix-test.true in
-    let pushed = step (Err Memory) _ more_announced (with_announced before) (next_announced before) c.loop-prefix.invariant.put is
+    let pushed = step (λ s l p. IsPrefixOf s family.Ipv4Unicast p.0 p.1) (Err Memory) _ more_announced
+    (with_announced before) (next_announced before) c.loop-prefix.invariant.put is
     (rw c.in-Err-Memory.field-0-is at c.in-Err-Memory.ensures.pushed) in
     refuses Memory (λ none. none) c.loop-prefix.invariant.put c.loop-prefix-test.true is pushed
 
@@ -44,7 +49,8 @@ pub loop-prefix-preserved : goal.loop-prefix-preserved
 loop-prefix-preserved g c =
     let before = c.args.self.now.update in
     let is = take_more c.args.prefixes.now c.loop-prefix.prefix-index _ c.loop-prefix-test.true in
-    let pushed = step (Ok tt) _ more_announced (with_announced before) (next_announced before) c.loop-prefix.invariant.put is
+    let pushed = step (λ s l p. IsPrefixOf s family.Ipv4Unicast p.0 p.1) (Ok tt) _ more_announced
+    (with_announced before) (next_announced before) c.loop-prefix.invariant.put is
     c.in-Ok.ensures.pushed in
     record {
       put = put_more c.loop-prefix.invariant.put c.loop-prefix-test.true is pushed;
