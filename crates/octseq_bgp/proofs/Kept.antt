@@ -1,12 +1,11 @@
 -- The address of a prefix is kept when it is written.
 use Rattle.std.proofs.Common.{◌≡◌, ℕ, zero, suc, ◌+◌, ◌*◌, ◌/◌, ◌^◌, ◌<◌, ◌≤◌, ◌⊎◌, inl, inr, List, [], ◌∷◌, get_or}
-use Rattle.std.proofs.Common.{sym, ap, ◌∙◌, arith}
+use Rattle.std.proofs.Common.{refl, sym, ap, ◌∙◌, arith}
 use Rattle.std.proofs.Math.Nat.{mul-div_cancel, one-le-pow}
 use Rattle.std.proofs.lemmas.List.{get_or_past}
 use Rattle.octseq_format.specs.Canonical.{AreOctets}
 use Rattle.octseq_bgp.specs.Parts.{octets_of_bits}
 use Rattle.octseq_bgp.specs.PrefixValue.{address_from, address_of, bits_after, cleared}
-use Rattle.octseq_bgp.proofs.Addresses.{address_is, below_or_not}
 use Rattle.octseq_bgp.proofs.Prefixes.{address_long}
 
 octet_at : (octets : List ℕ) (k : ℕ) → AreOctets octets → get_or octets k 0 < 256
@@ -47,11 +46,26 @@ kept_at bits k octets each (inr past) =
     ap (λ z. cleared z (get_or octets k 0)) all ∙ none ∙ sym nothing ∙ ap (λ z. cleared z 0) (sym all)
     ∙ ap (cleared z) (sym (get_or_past (address_from (octets_of_bits bits) 0 bits octets) k 0 (omega (arith, long, past))))
 
+-- an index is below another or not
+below_or_not : (k n : ℕ) → (k < n) ⊎ (n ≤ k)
+below_or_not k zero = inr (omega arith)
+below_or_not zero (suc n) = inl (omega arith)
+below_or_not (suc k) (suc n) = elim (below_or_not k n) [
+  | inl below ↦ inl (omega (arith, below))
+  | inr past ↦ inr (omega (arith, past))
+]
+
+-- octets that agree in the bits of an address have the same one
+agree : (n i bits : ℕ) (xs ys : List ℕ)
+    → ((k : ℕ) → cleared (bits_after bits k) (get_or xs k 0) ≡ cleared (bits_after bits k) (get_or ys k 0))
+    → address_from n i bits xs ≡ address_from n i bits ys
+agree zero i bits xs ys same = refl
+agree (suc n) i bits xs ys same =
+    ap (λ x. x ∷ address_from n (i + 1) bits xs) (same i)
+    ∙ ap (λ more. cleared (bits_after bits i) (get_or ys i 0) ∷ more) (agree n (i + 1) bits xs ys same)
+
 pub address_kept : (bits : ℕ) (address : List ℕ) → AreOctets address
     → address_of bits (address_from (octets_of_bits bits) 0 bits address) ≡ address_of bits address
 address_kept bits address each =
-    sym (address_is bits (address_from (octets_of_bits bits) 0 bits address) (address_of bits address)
-    (address_long 16 0 bits address) (λ k below.
-    let here : 0 + k ≡ k = omega arith in
-    address_at 16 0 bits address k below ∙ ap (λ j. cleared (bits_after bits j) (get_or address j 0)) here
-    ∙ kept_at bits k address each (below_or_not k (octets_of_bits bits))))
+    agree 16 0 bits (address_from (octets_of_bits bits) 0 bits address) address
+    (λ k. sym (kept_at bits k address each (below_or_not k (octets_of_bits bits))))

@@ -1,4 +1,3 @@
-pub mod Addresses
 pub mod Attributes
 pub mod Bodies
 pub mod Chunks

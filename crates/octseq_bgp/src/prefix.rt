@@ -7,7 +7,7 @@ ghost use Rattle.octseq_bgp.specs.Fills.{Counts, TakesFirst};
 ghost use Rattle.octseq_bgp.specs.Parts.{IsPathPrefix, IsPrefix, octets_of_bits};
 ghost use Rattle.octseq_bgp.specs.Prefix as said;
 ghost use Rattle.octseq_bgp.specs.Prefix.{AreAhead, ArePrefixes, ahead_once, most_bits};
-ghost use Rattle.octseq_bgp.specs.PrefixValue.{cleared, address_of};
+ghost use Rattle.octseq_bgp.specs.PrefixValue.{address_from, address_of, bits_after, cleared};
 
 use crate::family::{Afi, AfiSafiType};
 use crate::key_octet::KeyOctet;
@@ -145,6 +145,7 @@ impl<R: AsOctets + Copy> Prefixes<R> {
     /// # Errors
     ///
     /// `Malformed` if prefixes don't fill it exactly.
+    #[inline(always)]
     pub(crate) fn parse_counted(
         parser: Parser<R>,
         session: &SessionConfig,
@@ -286,41 +287,62 @@ pub struct Prefix {
 }
 
 /// Clears the last `bits` bits of an octet.
+#[inline(always)]
 pub(crate) fn clear(octet: u8, bits: usize) -> u8
     requires { bits ≤ 8 }
     ensures { result ≡ cleared bits octet }
 {
-    match bits {
-        0 => octet,
-        1 => octet / 2 * 2,
-        2 => octet / 4 * 4,
-        3 => octet / 8 * 8,
-        4 => octet / 16 * 16,
-        5 => octet / 32 * 32,
-        6 => octet / 64 * 64,
-        7 => octet / 128 * 128,
-        _ => 0,
+    (u32::from(octet) >> bits << bits) as u8
+}
+
+/// Returns the octet at an index of the address whose first `bits` bits are in `octets`.
+#[inline(always)]
+fn octet_at(octets: &[u8], i: usize, bits: u8) -> u8
+    requires { i < 16 }
+    ensures { result ≡ cleared (bits_after bits i) (slice_index octets.now i) }
+{
+    if i >= octets.len() {
+        return 0;
     }
+    let after = (8 * (i + 1)).saturating_sub(usize::from(bits));
+    clear(octets[i], after.min(8))
+}
+
+/// Returns four octets of the address whose first `bits` bits are in `octets`, from an index on.
+#[inline(always)]
+fn four_at(octets: &[u8], i: usize, bits: u8) -> [u8; 4]
+    requires { i ≤ 12 }
+    ensures { result ≡ address_from 4 i bits octets.now }
+{
+    if i >= octets.len() {
+        return [0; 4];
+    }
+    [
+        octet_at(octets, i, bits),
+        octet_at(octets, i + 1, bits),
+        octet_at(octets, i + 2, bits),
+        octet_at(octets, i + 3, bits),
+    ]
 }
 
 /// Returns the address whose first `bits` bits are in `octets`.
+#[inline(always)]
 fn address_of(octets: &[u8], bits: u8) -> [u8; 16]
     ensures { result ≡ address_of bits octets.now }
 {
-    let mut address = [0; 16];
-    let len = octets.len().min(16);
-    let full = usize::from(bits / 8).min(len);
-    for i in 0..full {
-        address[i] = octets[i];
-    }
-    if full < len {
-        address[full] = clear(octets[full], 8 - usize::from(bits % 8));
-    }
-    address
+    let a = four_at(octets, 0, bits);
+    let b = four_at(octets, 4, bits);
+    let c = four_at(octets, 8, bits);
+    let d = four_at(octets, 12, bits);
+    [
+        a[0], a[1], a[2], a[3], b[0], b[1], b[2], b[3], c[0], c[1], c[2], c[3], d[0], d[1], d[2],
+        d[3],
+    ]
 }
 
 impl<R: AsOctets + Copy> Nlri<R> {
     /// Returns the prefix as a value.
+    #[inline(always)]
     pub fn prefix(&self) -> Prefix
         ensures afi { result.afi ≡ self.now.afi }
         ensures len { result.len ≡ self.now.len }

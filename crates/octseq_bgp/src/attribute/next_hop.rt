@@ -29,6 +29,7 @@ impl NextHop {
     /// # Errors
     ///
     /// `Malformed` if they aren't one.
+    #[inline(always)]
     pub fn parse<R: AsOctets + Copy>(
         parser: Parser<R>,
         family: AfiSafiType,

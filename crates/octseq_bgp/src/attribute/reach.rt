@@ -44,6 +44,7 @@ impl<R: AsOctets + Copy> MpReachNlri<R> {
     ghost use Rattle.octseq_bgp.specs.ValueOf.{reach_of};
 
     /// Reads all that a parser has left, and counts a turn for each prefix.
+    #[inline(always)]
     pub(crate) fn parse_counted(
         parser: Parser<R>,
         session: &SessionConfig,
@@ -94,6 +95,7 @@ impl<R: AsOctets + Copy> MpUnreachNlri<R> {
     ghost use Rattle.octseq_bgp.specs.ValueOf.{unreach_of};
 
     /// Reads all that a parser has left, and counts a turn for each prefix.
+    #[inline(always)]
     pub(crate) fn parse_counted(
         parser: Parser<R>,
         session: &SessionConfig,
