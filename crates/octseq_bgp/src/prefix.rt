@@ -317,6 +317,9 @@ fn four_at(octets: &[u8], i: usize, bits: u8) -> [u8; 4]
     if i >= octets.len() {
         return [0; 4];
     }
+    if i + 4 <= octets.len() && 8 * (i + 4) <= usize::from(bits) {
+        return [octets[i], octets[i + 1], octets[i + 2], octets[i + 3]];
+    }
     [
         octet_at(octets, i, bits),
         octet_at(octets, i + 1, bits),

@@ -17,12 +17,12 @@ use std::alloc::AllocError;
 /// Reachable prefixes.
 #[derive(Debug)]
 pub struct MpReachNlri<R: AsOctets> {
-    /// The address family.
-    pub family: AfiSafiType,
-    /// The next hops.
-    pub next_hop: NextHop,
     /// The prefixes.
     pub prefixes: Prefixes<R>,
+    /// The next hops.
+    pub next_hop: NextHop,
+    /// The address family.
+    pub family: AfiSafiType,
 }
 
 impl<R: AsOctets + Copy> Copy for MpReachNlri<R> {}
@@ -73,10 +73,10 @@ impl<R: AsOctets + Copy> MpReachNlri<R> {
 /// Prefixes that are no longer reachable.
 #[derive(Debug)]
 pub struct MpUnreachNlri<R: AsOctets> {
-    /// The address family.
-    pub family: AfiSafiType,
     /// The prefixes.
     pub prefixes: Prefixes<R>,
+    /// The address family.
+    pub family: AfiSafiType,
 }
 
 impl<R: AsOctets + Copy> Copy for MpUnreachNlri<R> {}
