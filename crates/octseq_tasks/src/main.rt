@@ -1,12 +1,16 @@
-//! Six tasks, a few lines each. `docs/CALLING.md` shows them, and what they print.
+//! Seven tasks, a few lines each. `docs/CALLING.md` shows them, and what they print.
 #![tactic(auto)]
 
 mod bgp_read;
+mod bgp_written;
 mod dns_read;
 mod dns_written;
 mod fixed_buffer;
 mod format;
 mod text;
+
+use octseq_bgp::family::Afi;
+use octseq_bgp::prefix::Prefix;
 
 fn main(rt: HostRuntime) -> anyhow::Result<()> {
     let alloc = rt.alloc();
@@ -23,6 +27,13 @@ fn main(rt: HostRuntime) -> anyhow::Result<()> {
     for prefix in bgp_read::announced(alloc, UPDATE)?.as_slice() {
         println!(rt; "{prefix}")?;
     }
+    let prefix = Prefix {
+        afi: Afi::Ipv4,
+        len: 24,
+        address: [192, 0, 2, 0, 0, 0, 0, 0, 0, 0, 0, 0, 0, 0, 0, 0],
+    };
+    let messages = bgp_written::announcements(alloc, &[(prefix, None)], 0xC000_0201)?;
+    println!(rt; "{:?}", messages.as_slice())?;
     Ok(())
 }
 
