@@ -80,15 +80,12 @@ RibWritten most paths content at count =
 
 fits_family_once : (afi : Afi) (a : Address) → IsProp (FitsFamily afi a)
 fits_family_once addresses.Ipv4 (Address.ipv4 octets) = Prim.hlevel props
-fits_family_once addresses.Ipv6 (Address.ipv6 segments) = Prim.hlevel props
-fits_family_once addresses.Ipv4 (Address.ipv6 segments) = Prim.hlevel props
-fits_family_once addresses.Ipv6 (Address.ipv4 octets) = Prim.hlevel props
+fits_family_once _ (Address.ipv6 segments) = Prim.hlevel props
+fits_family_once _ _ = Prim.hlevel props
 
 fits_optional_once : (has : Bool) (n : Option ℕ) → IsProp (FitsOptional has n)
-fits_optional_once true (Some n) = Prim.hlevel props
-fits_optional_once false None = Prim.hlevel props
-fits_optional_once true None = Prim.hlevel props
-fits_optional_once false (Some n) = Prim.hlevel props
+fits_optional_once has None = Prim.hlevel props
+fits_optional_once has (Some n) = Prim.hlevel props
 
 -- two are the same if their octets are
 pub same_table : {c d : List ℕ} {at place m n : ℕ} (a : TableWritten c at m) (b : TableWritten d place n) → c ≡ d
