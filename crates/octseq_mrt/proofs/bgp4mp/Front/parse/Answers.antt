@@ -10,6 +10,10 @@ use Rattle.octseq_mrt.specs.Bgp4Mp.{ArePeers}
 use Rattle.octseq_mrt.specs.OneListed.{one_optional}
 use Rattle.octseq_mrt.proofs.bgp4mp.Front.parse.Goals as goal
 
+pub returns-in_err-microseconds-clause-malformed : goal.returns-in_err-microseconds-clause-malformed
+returns-in_err-microseconds-clause-malformed g c = λ _ it v is.
+    c.in_err-microseconds.ensures.malformed refl it.0 is.0 is.1
+
 pub returns-in_err-addresses-clause-malformed : goal.returns-in_err-addresses-clause-malformed
 returns-in_err-addresses-clause-malformed g c = λ _.
     let asn = IsNumber (asn_size c.args.wide) in

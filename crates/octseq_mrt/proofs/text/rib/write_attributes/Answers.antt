@@ -30,6 +30,6 @@ loop-attribute-preserved g c =
 pub returns : goal.returns
 returns g c =
     let so_far = c.loop-attribute.invariant in
-    let none = subst (λ row. AreRibAttributeLines row []) (sym c.in-None.ensures.steps.0) refl in
-    let all = subst (AreRibAttributeLines (attributes_left c.args.attributes)) (append-nil so_far.done) (so_far.whole [] none) in
+    let all = subst (AreRibAttributeLines (attributes_left c.args.attributes)) (append-nil so_far.done) (so_far.whole []
+    (rw c.in-None.ensures.steps.0 refl)) in
     (so_far.done, all, so_far.written)

@@ -31,6 +31,6 @@ loop-entry-preserved g c =
 pub returns : goal.returns
 returns g c =
     let so_far = c.loop-entry.invariant in
-    let none = subst (λ row. AreEntryLines row []) (sym c.in-None.ensures.steps.0) refl in
-    let all = subst (AreEntryLines (entries_left c.args.entries)) (append-nil so_far.done) (so_far.whole [] none) in
+    let all = subst (AreEntryLines (entries_left c.args.entries)) (append-nil so_far.done) (so_far.whole []
+    (rw c.in-None.ensures.steps.0 refl)) in
     (so_far.done, all, so_far.written)
