@@ -1,5 +1,5 @@
 -- Records that were written are read back.
-use Rattle.std.proofs.Common.{◌≡◌, ℕ, ◌<◌, ◌^◌, Bool, true, false, Option, List, [], ◌∷◌, ◌++◌, length, map, refl, sym}
+use Rattle.std.proofs.Common.{◌≡◌, ℕ, ◌<◌, ◌^◌, Bool, true, false, List, [], ◌∷◌, ◌++◌, length, map, refl, sym}
 use Rattle.std.proofs.Common.{ap, ◌∙◌, subst, arith, append_assoc}
 use Rattle.std.proofs.lemmas.List.{map-id}
 use Rattle.std.specs.List.{AllByRecursion}
@@ -23,7 +23,7 @@ use Rattle.octseq_bgp.specs.declared.family.AfiSafiType.{AfiSafiType}
 use Rattle.octseq_bgp.specs.declared.family.AfiSafiType.TheVariants as family
 use Rattle.octseq_bgp.proofs.WholesBack.{HasAll, whole_back, fills_back, extent, extent_of, extent_octets, IsExtent}
 use Rattle.octseq_bgp.proofs.WholesBack.{extent_back, has_extent}
-use Rattle.octseq_mrt.specs.Address.{Address, IsFamily, family_number}
+use Rattle.octseq_mrt.specs.Address.{IsFamily, family_number}
 use Rattle.octseq_mrt.specs.Bgp4Mp.{Bgp4Mp, Event, IsEvent, IsBgp4MpFront, IsBgp4Mp, message_session}
 use Rattle.octseq_mrt.specs.Header.{IsHeader, IsNext}
 use Rattle.octseq_mrt.specs.Kind.{kind_type, kind_subtype, has_wide_asns}
@@ -32,7 +32,7 @@ use Rattle.octseq_mrt.specs.ReadBack.{IsReadAs, SaysTable, SaysRib, SaysBgp4Mp, 
 use Rattle.octseq_mrt.specs.ReadBack.{bgp4mp_kind}
 use Rattle.octseq_mrt.specs.Record.{Value, AreRecord, HasForm}
 use Rattle.octseq_mrt.specs.Rib.{IsRibEntry}
-use Rattle.octseq_mrt.specs.Written.{record_octets, PeerTable, FitsPeerTable, peer_table_octets, Route, FitsRoute}
+use Rattle.octseq_mrt.specs.Written.{record_octets, PeerTable, FitsPeerTable, peer_table_octets, FitsRoute}
 use Rattle.octseq_mrt.specs.Written.{Routes, FitsRib, rib_octets, route_octets, FitsEvent, event_octets, FitsBgp4Mp}
 use Rattle.octseq_mrt.specs.Written.{bgp4mp_octets, family_of}
 use Rattle.octseq_mrt.specs.WrittenBack.{fit, delimited_deciding, delimited_number, delimited_part, delimited_address}

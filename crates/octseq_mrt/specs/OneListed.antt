@@ -1,5 +1,5 @@
 -- At most one peer, and one RIB entry, is at a place, with one end, and it takes at least one octet.
-use Rattle.std.specs.Prelude.{◌≡◌, ℕ, Bool, Option, List, refl}
+use Rattle.std.specs.Prelude.{ℕ, Bool, Option, List, refl}
 use Rattle.std.proofs.Common.{ap, ◌∙◌, subst, arith}
 use Rattle.std.specs.Net.Addr.{segments_of}
 use Rattle.octseq.specs.Window.{Window}

@@ -2,7 +2,6 @@
 use Rattle.std.specs.Prelude.{◌≡◌, ℕ, ◌*◌, ◌/◌, ◌%◌, ◌+◌, ◌<◌, ◌≤◌, ◌^◌, Bool, Option, Some, None}
 use Rattle.std.specs.Prelude.{List, [], ◌∷◌, ◌++◌, length, map, refl, slice_index}
 use Rattle.std.proofs.Common.{sym, ap, ◌∙◌, subst, suc, arith, append_assoc}
-use Rattle.std.proofs.lemmas.List.{map-id}
 use Rattle.std.specs.Net.Addr.{segments_of, octets_of}
 use Rattle.octseq.specs.Integer.{octets_be}
 use Rattle.octseq.specs.Part.{part_of}
