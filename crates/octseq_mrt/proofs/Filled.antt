@@ -140,8 +140,8 @@ module _ {A B C : Type 0} {First : Relation A} {Second : Relation B} {Is : Relat
       → Many head.1.1 Is u row v → 0 < left v → (it : A × (B × List C)) → Whole (First then Second then Times 2 Is) w it
       → ⊥
   no_end w u v head row at many some it is =
-      let same = (first one_then second one_then one_times 2 Is listed.one).same w it (head.0, (head.1.0, row)) is.0 v is.1
-      (at.0, at.1, (at.2.0, at.2.1, (head.1.1, u, at.2.2, many))) in
+      let same = (first one_then second one_then one_times 2 Is listed.one).same w it (head.0, (head.1.0, row)) is.0 v
+      is.1 (at.0, at.1, (at.2.0, at.2.1, (head.1.1, u, at.2.2, many))) in
       let here = ap left same.1 in let ends = is.2 in
       omega (arith, here, ends, some)
 

@@ -65,8 +65,8 @@ module _ {A Fits : Type 0} {item : A → List ℕ} {head : List ℕ} {items : Li
       ∙ ap (λ front. front ++ (octets_be 2 (count + 1) ++ drop (at + 2) (head ++ (c ++ all)))) parts.0
       ∙ ap (λ after. head ++ (octets_be 2 (count + 1) ++ after)) parts.1
       ∙ ap (λ n. head ++ (octets_be 2 n ++ all)) (sym up ∙ many) in
-      let all_put = ap length put in
-      record { fits = fits; octets = put; place = is.place; many = many; few = omega (arith, few, all_put, listed_long) }
+      let size = ap length put in
+      record { fits = fits; octets = put; place = is.place; many = many; few = omega (arith, few, size, listed_long) }
 
 -- the count is among the octets
 pub listed_place : {A Fits : Type 0} {item : A → List ℕ} {head : List ℕ} {items : List A} {content : List ℕ}
@@ -102,8 +102,8 @@ one_more_fits items one many next =
 
 -- a table without peers
 abbrev pub table_begun : (id : ℕ) (view content : List ℕ) → id < 256 ^ 4 → length view < 65536
-    → content ≡ octets_be 4 id ++ (octets_be 2 (length view) ++ (view ++ (0 ∷ 0 ∷ []))) → length content ≤ 4294967295
-    → TableWritten content (6 + length view) 0
+    → content ≡ octets_be 4 id ++ (octets_be 2 (length view) ++ (view ++ (0 ∷ 0 ∷ [])))
+    → length content ≤ 4294967295 → TableWritten content (6 + length view) 0
 table_begun id view content fits few octets most =
     let t : PeerTable = record { collector_bgp_id = id; view_name = view; peers = [] } in
     let all : FitsPeerTable t = record { collector_bgp_id = fits; view_name = few; peers = tt; count = omega arith } in (

@@ -1,6 +1,6 @@
 -- Octets are a record in at most one way, and it has one value.
-use Rattle.std.proofs.Common.{◌≡◌, ℕ, [], ◌∷◌, Bool, true, false, Option, List, get_or, if◌then◌else◌, nat_eq, refl, sym}
-use Rattle.std.proofs.Common.{ap, ◌∙◌, subst}
+use Rattle.std.proofs.Common.{◌≡◌, ℕ, [], ◌∷◌, Bool, true, false, Option, List, get_or, if◌then◌else◌, nat_eq, refl}
+use Rattle.std.proofs.Common.{sym, ap, ◌∙◌, subst}
 use mathlib.Core.Logic.{inl, inr}
 use Rattle.octseq.specs.Window.{Window, whole}
 use Rattle.octseq_format.specs.Counted.{Times}
@@ -147,10 +147,10 @@ bgp4mp_from p event = record {
 
 one_bgp4mp : (extended : Bool) (s : Bgp4MpSubtype) (w : Window) → OneSaid (IsBgp4Mp extended s w)
 one_bgp4mp extended s w a b is other =
-    let front = (one_front extended (has_wide_asns s)).same w (front_parts a is.afi) (front_parts b other.afi) is.rest
+    let at = (one_front extended (has_wide_asns s)).same w (front_parts a is.afi) (front_parts b other.afi) is.rest
     other.rest is.front other.front in
-    let event = one_event s other.rest a.event b.event (subst (λ w. IsEvent s w a.event) front.1 is.event) other.event in
-    ap (λ p. bgp4mp_from p a.event) front.0 ∙ ap (bgp4mp_from (front_parts b other.afi)) event
+    let event = one_event s other.rest a.event b.event (subst (λ w. IsEvent s w a.event) at.1 is.event) other.event in
+    ap (λ p. bgp4mp_from p a.event) at.0 ∙ ap (bgp4mp_from (front_parts b other.afi)) event
 
 -- ---- the value of a record
 

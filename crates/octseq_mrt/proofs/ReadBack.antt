@@ -53,9 +53,9 @@ delimited_next k = record {
       let none = fits.0.1 in
       let many = fits.1 in
       let long : length e.1.1 ≡ k = omega (arith, all, many) in
-      let come = front_comes_next w e.1.1 more k is long in
-      let same : extent (nested k w) ≡ e = same_pair (omega (arith, many)) (same_pair (omega (arith, none)) come.1) in
-      record { it = nested k w; tells = same; is = (come.0, refl, ap (λ n. past n w) long) };
+      let at = front_comes_next w e.1.1 more k is long in
+      let same : extent (nested k w) ≡ e = same_pair (omega (arith, many)) (same_pair (omega (arith, none)) at.1) in
+      record { it = nested k w; tells = same; is = (at.0, refl, ap (λ n. past n w) long) };
 }
 
 abbrev header_octets : CommonHeader → List ℕ
@@ -135,7 +135,8 @@ delimited_entry paths = record {
       let filled = fills_back delimited_attribute octets row.0 row.1 (subst (HasAll octets) row.2 all) in
       let row_octets = attributes_octets (map attribute_says filled.0) in
       let same = ap (λ s. route_of (s.0, (s.1.0, (s.1.1.0, row_octets)))) taken.tells
-      ∙ ap (λ o. route_of (e.peer_index, (e.originated_time, (e.path_id, o)))) (ap attributes_octets filled.1 ∙ sym row.2) in
+      ∙ ap (λ o. route_of (e.peer_index, (e.originated_time, (e.path_id, o))))
+      (ap attributes_octets filled.1 ∙ sym row.2) in
       let it = entry_from taken.it filled.0 in
       let entry : IsRibEntry paths w it (past (length (route_octets e)) w) =
       record { octets = octets; parts = taken.is; attributes = filled.2 } in
@@ -204,7 +205,7 @@ events time s b small fits few =
     read_as time (bgp4mp_kind s b) (bgp4mp_octets s b) (SaysBgp4Mp s b) small few (λ w all.
     let has = is_some b.microseconds in
     let asn = delimited_number (asn_size (has_wide_asns s)) in
-    let peers = delimited_deciding delimited_family (λ afi. delimited_address afi delimited_then delimited_address afi) in
+    let peers = delimited_deciding delimited_family (λ f. delimited_address f delimited_then delimited_address f) in
     let front = delimited_optional has delimited_then asn delimited_then asn delimited_then delimited_number 2
     delimited_then peers in
     let parts = front_parts b (family_of b.peer_addr) in
@@ -212,11 +213,11 @@ events time s b small fits few =
     (fit (fit fits.microseconds (fit fits.peer_asn (fit fits.local_asn (fit fits.interface
     (tt, fit fits.peer_addr fits.local_addr))))) (refl, refl)) (subst (HasAll w) (simp append_assoc) all) in
     let p = found.0.0 in
-    let octets = found.0.1 in
+    let o = found.0.1 in
     let is = found.2.1 in
-    let event = event_back s octets b.event fits.event (has_extent octets (event_octets b.event) (ap (λ r. r.1) found.1)) in
+    let event = event_back s o b.event fits.event (has_extent o (event_octets b.event) (ap (λ r. r.1) found.1)) in
     let there = subst (λ u. IsBgp4MpFront has (has_wide_asns s) w p u) (sym is.2.0) is.1 in
     let it = bgp4mp_from p event.0 in
-    let body : IsBgp4Mp has s w it = record { afi = p.1.1.1.1.0; rest = octets; front = there; event = event.1 } in
+    let body : IsBgp4Mp has s w it = record { afi = p.1.1.1.1.0; rest = o; front = there; event = event.1 } in
     let says = ap (λ r. bgp4mp_from r.0 (said_event s event.0)) found.1 ∙ ap (bgp4mp_from parts) event.2 in
     (Value.bgp4mp it, form_of s has w it body, says))

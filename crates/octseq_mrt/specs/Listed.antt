@@ -14,7 +14,7 @@ use Rattle.octseq_mrt.specs.OneListed.{one_peer, peer_moves, one_rib_entry, rib_
 use Rattle.octseq_mrt.specs.Peer.{IsPeer}
 use Rattle.octseq_mrt.specs.Rib.{IsRibEntry}
 
--- At most one such value is at a place, and it takes at least one octet. Two lists of them are equal in at most one way.
+-- At most one such value is at a place, and it takes at least one octet. Lists of them are equal in at most one way.
 pub record AreListed {A : Type 0} (Is : Relation A) : Type 0 where
   pub set : IsSet (List A)
   pub one : IsOne Is

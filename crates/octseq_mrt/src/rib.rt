@@ -207,7 +207,7 @@ impl<R: AsOctets + Copy> Clone for Rib<R> {
     }
 }
 
-/// Reads what comes before the entries of a RIB: its sequence number, its prefix as a length and a parser of its octets,
+/// Reads what comes before the entries of a RIB: its sequence number, its prefix as a length and a parser of octets,
 /// and the number of entries.
 fn parse_head<R: AsOctets + Copy>(
     parser: &mut Parser<R>,

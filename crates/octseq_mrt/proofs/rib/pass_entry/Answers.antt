@@ -19,8 +19,9 @@ pub returns-in_err-_attributes-clause-malformed : goal.returns-in_err-_attribute
 returns-in_err-_attributes-clause-malformed g c = λ _ e v is.
     let fills = entry_fills c.args.paths (window c.args.parser.now) (window c.parse.new.parser) v _ e
     c.in_ok-parts.ensures.parts is in
+    let w = window c.in_ok-parts.parts.octets in
     c.in_err-_attributes.ensures.malformed refl e.attributes fills.0
-    (row_moved IsAttribute attribute_moves (window c.in_ok-parts.parts.octets) fills.0 e.attributes fills.1.0, fills.1.1)
+    (row_moved IsAttribute attribute_moves w fills.0 e.attributes fills.1.0, fills.1.1)
 
 pub returns-clause-entry : goal.returns-clause-entry
 returns-clause-entry g c =

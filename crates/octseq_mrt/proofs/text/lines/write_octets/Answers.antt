@@ -11,5 +11,5 @@ returns-in-Ok g c = on_ok_weaker c.fmt.result
     c.fmt.ensures.shown
 
 pub returns-in-Err : goal.returns-in-Err
-returns-in-Err g c = shown_of c.write_str.result _ _ _ (codes "malformed\n") (inr (c.in-Err.ensures.malformed refl, refl))
-    (λ plain ok. search rules)
+returns-in-Err g c = shown_of c.write_str.result _ _ _ (codes "malformed\n")
+    (inr (c.in-Err.ensures.malformed refl, refl)) (λ plain ok. search rules)

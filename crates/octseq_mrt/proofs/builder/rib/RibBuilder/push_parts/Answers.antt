@@ -18,8 +18,8 @@ returns-in-Ok-clause-ok g c =
     let a = c.args in
     let done = c.in-Ok.ensures in
     let e = pushed_route a.peer_index a.originated_time a.path_id a.attributes.now in
-    same_rib c.self-1.given.0 (rib_more a.self.now.rib e c.requires.fits c.requires.octets done.count done.within done.ok)
-    refl
+    same_rib c.self-1.given.0 (rib_more a.self.now.rib e c.requires.fits c.requires.octets done.count done.within
+    done.ok) refl
 
 pub returns-in-Ok-clause-short : goal.returns-in-Ok-clause-short
 returns-in-Ok-clause-short g c =
