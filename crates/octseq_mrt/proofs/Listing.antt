@@ -106,18 +106,17 @@ abbrev pub table_begun : (id : ℕ) (view content : List ℕ) → id < 256 ^ 4 �
     → length content ≤ 4294967295 → TableWritten content (6 + length view) 0
 table_begun id view content fits few octets most =
     let t : PeerTable = record { collector_bgp_id = id; view_name = view; peers = [] } in
-    let all : FitsPeerTable t = record { collector_bgp_id = fits; view_name = few; peers = tt; count = omega arith } in (
-      t,
-      listed_none peer_octets (octets_be 4 id) (octets_be 2 (length view)) view content _ all octets
-          (omega (arith, length_be 4 id, length_be 2 (length view))) most,
-    )
+    let all : FitsPeerTable t = record { collector_bgp_id = fits; view_name = few; peers = tt; count = omega arith } in
+    let list = listed_none peer_octets (octets_be 4 id) (octets_be 2 (length view)) view content (6 + length view) all
+    octets (omega (arith, length_be 4 id, length_be 2 (length view))) most in
+    (t, list)
 
 -- a RIB without entries
 abbrev pub rib_begun : {paths : Bool} (family : AfiSafiType) (sequence : ℕ) (p : Prefix) (content : List ℕ) {len : ℕ}
     → sequence < 256 ^ 4 → FitsPrefix family p → p.len ≤ 128 → len ≡ octets_of_bits p.len
     → content ≡ octets_be 4 sequence ++ (octets_be 1 p.len ++ ((written_prefix p None).octets ++ (0 ∷ 0 ∷ [])))
     → length content ≤ 4294967295 → RibWritten (most_bits (afi_of family)) paths content (5 + len) 0
-rib_begun {paths = paths} family sequence p content fits within few many octets most =
+rib_begun {paths = paths} family sequence p content {len = len} fits within few many octets most =
     let r = begun_rib sequence p in
     let size = address_long (octets_of_bits p.len) 0 p.len p.address in
     let bits = subst (λ afi. p.len ≤ most_bits afi) within.0 within.1 in
@@ -128,11 +127,10 @@ rib_begun {paths = paths} family sequence p content fits within few many octets 
       prefix = size;
       entries = tt;
       count = omega arith;
-    } in (
-      r,
-      listed_none route_octets (octets_be 4 sequence) (octets_be 1 p.len) r.prefix content _ all octets
-          (omega (arith, length_be 4 sequence, length_be 1 p.len, size, many)) most,
-    )
+    } in
+    let list = listed_none route_octets (octets_be 4 sequence) (octets_be 1 p.len) r.prefix content (5 + len) all octets
+    (omega (arith, length_be 4 sequence, length_be 1 p.len, size, many)) most in
+    (r, list)
 
 -- a table with one more peer
 abbrev pub table_more : {content new more : List ℕ} {at count n : ℕ} (t : TableWritten content at count) (p : Peer)

@@ -49,17 +49,18 @@ use Rattle.octseq_mrt.proofs.OneRecord.{header_parts, header_from, table_from, r
 delimited_next : (k : ℕ) → IsDelimited (IsNext k) extent extent_octets (λ e. IsExtent e × (e.0 ≡ k))
 delimited_next k = record {
   next = λ w e more fits is.
-      let all = fits.0.0 in
+      let here = fits.0.0 in
       let none = fits.0.1 in
       let many = fits.1 in
-      let long : length e.1.1 ≡ k = omega (arith, all, many) in
+      let long : length e.1.1 ≡ k = omega (arith, here, many) in
       let at = front_comes_next w e.1.1 more k is long in
-      let same : extent (nested k w) ≡ e = same_pair (omega (arith, many)) (same_pair (omega (arith, none)) at.1) in
-      record { it = nested k w; tells = same; is = (at.0, refl, ap (λ n. past n w) long) };
+      let all : extent (nested k w) ≡ e = same_pair (omega (arith, many)) (same_pair (omega (arith, none)) at.1) in
+      record { it = nested k w; tells = all; is = (at.0, refl, ap (λ n. past n w) long) };
 }
 
 abbrev header_octets : CommonHeader → List ℕ
-header_octets h = octets_be 4 h.timestamp ++ (octets_be 2 h.type_code ++ (octets_be 2 h.subtype ++ octets_be 4 h.length))
+header_octets h =
+    octets_be 4 h.timestamp ++ (octets_be 2 h.type_code ++ (octets_be 2 h.subtype ++ octets_be 4 h.length))
 
 delimited_header : IsDelimited IsHeader (λ h. h) header_octets (λ h. (h.timestamp < 256 ^ 4) × (h.type_code < 256 ^ 2)
     × (h.subtype < 256 ^ 2) × (h.length < 256 ^ 4))
