@@ -1,10 +1,7 @@
 pub mod Apart
-pub mod Events
 pub mod Filled
+pub mod Lines
 pub mod Listing
-pub mod OneKind
 pub mod OneRecord
 pub mod ReadBack
-pub mod Reading
-pub mod Steps
 pub mod Texts

@@ -1,8 +1,9 @@
 -- Addresses, and optional numbers.
-use Rattle.std.specs.Prelude.{◌≡◌, Bool, true, false, ℕ, Option, Some, None, List}
+use Rattle.std.specs.Prelude.{Bool, ℕ, Option, List}
 use Rattle.std.specs.Net.Addr.{ipv4_octets, ipv6_segments, segments_of}
 use Rattle.std.specs.declared.net.ip_addr.IpAddr.{IpAddr}
 use Rattle.std.specs.declared.net.ip_addr.IpAddr.TheVariants.{V4, V6}
+use Rattle.octseq_format.specs.Conditional.{IsIf}
 use Rattle.octseq_format.specs.Fixed.{IsFixed}
 use Rattle.octseq_format.specs.Laws.{Relation}
 use Rattle.octseq_bgp.specs.Parts.{IsNumber}
@@ -33,9 +34,6 @@ IsAddress addresses.Ipv6 = IsFixed 16 (λ octets. Address.ipv6 (segments_of octe
 abbrev pub IsFamily : Relation Afi
 IsFamily w afi v = IsNumber 2 w (family_number afi) v
 
--- a number of four octets if there is one, otherwise nothing
+-- a number of four octets if there is to be one, otherwise nothing
 abbrev pub IsOptional : Bool → Relation (Option ℕ)
-IsOptional true w (Some n) v = IsNumber 4 w n v
-IsOptional true w None v = ⊥
-IsOptional false w (Some n) v = ⊥
-IsOptional false w None v = v ≡ w
+IsOptional has = IsIf (λ _. has) (IsNumber 4) 0

@@ -3,7 +3,6 @@ use Rattle.std.specs.Prelude.{◌≡◌, Bool, true, false, ℕ, Option}
 use Rattle.octseq.specs.Window.{Window}
 use Rattle.octseq_format.specs.Laws.{Relation}
 use Rattle.octseq_format.specs.Pair.{◌then◌}
-use Rattle.octseq_format.specs.Rest.{IsRest}
 use Rattle.octseq_bgp.specs.Parts.{IsNumber, ◌deciding◌}
 use Rattle.octseq_bgp.specs.Fills.{Whole}
 use Rattle.octseq_bgp.specs.Path.{asn_size}
@@ -45,11 +44,11 @@ message_session s = record {
 abbrev pub ArePeers : Relation (Afi × (Address × Address))
 ArePeers = IsFamily deciding (λ afi. IsAddress afi then IsAddress afi)
 
--- Microseconds, if the type has them; the AS numbers of the peer and the collector; the interface index; their
--- addresses; and what follows.
-abbrev pub IsBgp4MpFront : Bool → Bool → Relation (Option ℕ × (ℕ × (ℕ × (ℕ × ((Afi × (Address × Address)) × Window)))))
+-- Microseconds, if the type has them; the AS numbers of the peer and the collector; the interface index; and their
+-- addresses.
+abbrev pub IsBgp4MpFront : Bool → Bool → Relation (Option ℕ × (ℕ × (ℕ × (ℕ × (Afi × (Address × Address))))))
 IsBgp4MpFront extended wide = IsOptional extended then IsNumber (asn_size wide) then IsNumber (asn_size wide)
-    then IsNumber 2 then ArePeers then IsRest
+    then IsNumber 2 then ArePeers
 
 -- what follows, by the subtype
 abbrev pub IsEvent : Bgp4MpSubtype → Window → Event → Type 0
@@ -57,18 +56,10 @@ IsEvent s w (Event.state_change states) = (is_state_change s ≡ true) × Whole 
 IsEvent s w (Event.message session octets) =
     (is_state_change s ≡ false) × (session ≡ message_session s) × (octets ≡ w)
 
--- A record of BGP4MP of a subtype, or of BGP4MP_ET.
+-- A record of BGP4MP of a subtype, or of BGP4MP_ET: the event is in all that follows the addresses.
 pub record IsBgp4Mp (extended : Bool) (s : Bgp4MpSubtype) (w : Window) (b : Bgp4Mp) : Type 0 where
   pub afi : Afi
   pub rest : Window
-  pub front : Whole (IsBgp4MpFront extended (has_wide_asns s)) w (
-    b.microseconds,
-    (
-      b.peer_asn,
-      (
-        b.local_asn,
-        (b.interface, ((afi, (b.peer_addr, b.local_addr)), rest)),
-      ),
-    ),
-  )
+  pub front : IsBgp4MpFront extended (has_wide_asns s) w
+      (b.microseconds, (b.peer_asn, (b.local_asn, (b.interface, (afi, (b.peer_addr, b.local_addr)))))) rest
   pub event : IsEvent s rest b.event

@@ -1,5 +1,5 @@
 -- Tables and RIBs while they are written.
-use Rattle.std.specs.Prelude.{◌≡◌, ℕ, ◌≤◌, Bool, true, false, Option, Some, None, List, [], ◌∷◌, ◌++◌, length}
+use Rattle.std.specs.Prelude.{◌≡◌, ℕ, ◌≤◌, Bool, Option, Some, None, List, [], ◌∷◌, ◌++◌, length}
 use Rattle.std.proofs.Common.{refl, sym, ◌∙◌}
 use Rattle.std.proofs.Props.{props}
 use mathlib.Core.HLevel.{Σ_prop_path}
@@ -15,7 +15,7 @@ use Rattle.octseq_mrt.specs.Address.{Address}
 use Rattle.octseq_mrt.specs.OneListed.{one_entry_parts}
 use Rattle.octseq_mrt.specs.Peer.{Peer}
 use Rattle.octseq_mrt.specs.Rib.{path_of}
-use Rattle.octseq_mrt.specs.Written.{PeerTable, FitsPeer, FitsPeerTable, table_head, peer_octets, list_octets}
+use Rattle.octseq_mrt.specs.Written.{PeerTable, FitsPeerTable, table_head, peer_octets, list_octets}
 use Rattle.octseq_mrt.specs.Written.{FitsFamily, FitsOptional}
 use Rattle.octseq_mrt.specs.Written.{Route, Routes, FitsRoute, FitsRib, rib_head, route_octets}
 use Rattle.octseq_mrt.specs.WrittenBack.{one_said, table_read_back, delimited_route, routes_read_back}
@@ -80,15 +80,12 @@ RibWritten most paths content at count =
 
 fits_family_once : (afi : Afi) (a : Address) → IsProp (FitsFamily afi a)
 fits_family_once addresses.Ipv4 (Address.ipv4 octets) = Prim.hlevel props
-fits_family_once addresses.Ipv6 (Address.ipv6 segments) = Prim.hlevel props
-fits_family_once addresses.Ipv4 (Address.ipv6 segments) = Prim.hlevel props
-fits_family_once addresses.Ipv6 (Address.ipv4 octets) = Prim.hlevel props
+fits_family_once _ (Address.ipv6 segments) = Prim.hlevel props
+fits_family_once _ _ = Prim.hlevel props
 
 fits_optional_once : (has : Bool) (n : Option ℕ) → IsProp (FitsOptional has n)
-fits_optional_once true (Some n) = Prim.hlevel props
-fits_optional_once false None = Prim.hlevel props
-fits_optional_once true None = Prim.hlevel props
-fits_optional_once false (Some n) = Prim.hlevel props
+fits_optional_once has None = Prim.hlevel props
+fits_optional_once has (Some n) = Prim.hlevel props
 
 -- two are the same if their octets are
 pub same_table : {c d : List ℕ} {at place m n : ℕ} (a : TableWritten c at m) (b : TableWritten d place n) → c ≡ d

@@ -1,5 +1,4 @@
 pub mod Address
-pub mod Ahead
 pub mod Bgp4Mp
 pub mod Builders
 pub mod Building

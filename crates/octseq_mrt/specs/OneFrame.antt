@@ -2,6 +2,9 @@
 use Rattle.std.proofs.Common.{◌≡◌, ◌+◌, ◌≤◌, ◌∙◌, ℕ, List, length, take, refl, ap, arith}
 use Rattle.octseq.specs.Integer.{be}
 use Rattle.octseq.specs.Window.{Window, left, next, past, nested, whole}
+use Rattle.octseq_format.specs.Pair.{◌then◌}
+use Rattle.octseq_bgp.specs.Parts.{IsNumber}
+use Rattle.octseq_mrt.specs.Header.{IsHeader}
 use Rattle.octseq_mrt.specs.Records.{record_length, IsRecordOctets}
 use Rattle.octseq_mrt.specs.declared.header.CommonHeader.{CommonHeader}
 use Rattle.octseq_stream.proofs.Headers.{range_of_front}
@@ -10,31 +13,18 @@ use Rattle.octseq_stream.proofs.Headers.{range_of_front}
 pub record_octets : (octets : List ℕ) → length octets ≡ 12 + record_length octets → IsRecordOctets octets
 record_octets octets all =
     let w = whole octets in
-    let h : CommonHeader = record {
-      timestamp = be (next 4 w);
-      type_code = be (next 2 (past 4 w));
-      subtype = be (next 2 (past 6 w));
-      length = record_length octets;
-    } in (
-      (h, nested h.length (past 12 w)),
-      (
-        past h.length (past 12 w),
-        (
-          past 12 w,
-          (
-            past 4 w,
-            (omega (arith, all), refl, refl),
-            (
-              past 6 w,
-              (omega (arith, all), refl, refl),
-              (past 8 w, (omega (arith, all), refl, refl), (omega (arith, all), refl, refl)),
-            ),
-          ),
-          (omega (arith, all), refl, refl),
-        ),
-        omega (arith, all),
-      ),
-    )
+    let a = past 4 w in
+    let b = past 6 w in
+    let c = past 8 w in
+    let d = past 12 w in
+    let n = record_length octets in
+    let h : CommonHeader =
+    record { timestamp = be (next 4 w); type_code = be (next 2 a); subtype = be (next 2 b); length = n } in
+    let last : (IsNumber 2 then IsNumber 4) b (h.subtype, n) d =
+    (c, (omega (arith, all), refl, refl), (omega (arith, all), refl, refl)) in
+    let header : IsHeader w h d =
+    (a, (omega (arith, all), refl, refl), (b, (omega (arith, all), refl, refl), last)) in
+    ((h, nested n d), (past n d, (d, header, (omega (arith, all), refl, refl)), omega (arith, all)))
 
 -- and no others
 pub record_long : (octets : List ℕ) → IsRecordOctets octets → length octets ≡ 12 + record_length octets

@@ -9,6 +9,7 @@ use Rattle.octseq_bgp.specs.Parts.{Attribute, IsAttribute, IsNumber, IsCounted, 
 use Rattle.octseq_bgp.specs.Family.{afi_of}
 use Rattle.octseq_bgp.specs.Fills.{Whole, Fills}
 use Rattle.octseq_bgp.specs.Value as bgp
+use Rattle.octseq_bgp.specs.declared.family.Afi.{Afi}
 use Rattle.octseq_bgp.specs.declared.family.AfiSafiType.{AfiSafiType}
 use Rattle.octseq_bgp.specs.declared.prefix.PathId.{PathId}
 use Rattle.octseq_bgp.specs.declared.session.SessionConfig.{SessionConfig}
@@ -44,6 +45,10 @@ pub record Rib : Type 0 where
   pub sequence : ℕ
   pub prefix : ℕ × Window
   pub entries : List RibEntry
+
+-- a sequence number, a prefix, and the number of entries
+abbrev pub IsRibHead : Afi → Relation (ℕ × ((ℕ × Window) × ℕ))
+IsRibHead afi = IsNumber 4 then IsPrefix (most_bits afi) then IsNumber 2
 
 -- a sequence number, a prefix, and as many entries as a count says
 abbrev pub IsRib : AfiSafiType → Bool → Window → Rib → Type 0

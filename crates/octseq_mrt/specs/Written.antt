@@ -1,11 +1,12 @@
 -- What records that are written say, without places, and their octets: RFC 6396, 2 and 4, and RFC 8050, 3 and 4.
-use Rattle.std.specs.Prelude.{◌≡◌, ℕ, ◌<◌, ◌≤◌, ◌^◌, Bool, true, false, Option, Some, None, is_some, slice_index}
-use Rattle.std.specs.Prelude.{List, [], ◌∷◌, ◌++◌, length}
+use Rattle.std.specs.Prelude.{◌≡◌, ℕ, ◌<◌, ◌≤◌, ◌^◌, Bool, true, false, Option, is_some, slice_index}
+use Rattle.std.specs.Prelude.{List, ◌++◌, length}
 use Rattle.std.specs.List.{AllByRecursion, flat_map}
 use Rattle.std.specs.Net.Addr.{octets_of}
 use Rattle.octseq.specs.Integer.{octets_be}
 use Rattle.octseq.specs.Part.{part_of}
 use Rattle.octseq.specs.Window.{rest}
+use Rattle.octseq_format.specs.Conditional.{IfFits}
 use Rattle.octseq_format.specs.Optional.{optional_octets}
 use Rattle.octseq_bgp.specs.Parts.{octets_of_bits}
 use Rattle.octseq_bgp.specs.Path.{asn_size}
@@ -45,9 +46,7 @@ FitsFamily afi a = ⊥
 
 -- there is a number that fits four octets, or none where there is to be none
 abbrev pub FitsOptional : Bool → Option ℕ → Type 0
-FitsOptional true (Some n) = n < 256 ^ 4
-FitsOptional false None = Unit {0}
-FitsOptional has n = ⊥
+FitsOptional has = IfFits (λ _. has) (λ n. n < 256 ^ 4) 0
 
 -- ---- peer index tables: RFC 6396, 4.3.1
 

@@ -1,8 +1,7 @@
 -- What was written is read back: the lists of records. So the octets of a table or a RIB say one thing.
-use Rattle.std.specs.Prelude.{◌≡◌, ℕ, ◌+◌, ◌*◌, ◌/◌, ◌%◌, ◌<◌, ◌≤◌, ◌^◌, Bool, true, false, Option, Some, None}
+use Rattle.std.specs.Prelude.{◌≡◌, ℕ, ◌*◌, ◌/◌, ◌%◌, ◌+◌, ◌<◌, ◌≤◌, ◌^◌, Bool, Option, Some, None}
 use Rattle.std.specs.Prelude.{List, [], ◌∷◌, ◌++◌, length, map, refl, slice_index}
 use Rattle.std.proofs.Common.{sym, ap, ◌∙◌, subst, suc, arith, append_assoc}
-use Rattle.std.proofs.lemmas.List.{map-id}
 use Rattle.std.specs.Net.Addr.{segments_of, octets_of}
 use Rattle.octseq.specs.Integer.{octets_be}
 use Rattle.octseq.specs.Part.{part_of}
@@ -14,9 +13,8 @@ use Rattle.octseq_format.specs.Fixed.{IsFixed, delimited_fixed}
 use Rattle.octseq_format.specs.Integers.{are_be}
 use Rattle.octseq_format.specs.Laws.{Relation, Takes, IsOne, IsReadBack, IsDelimited}
 use Rattle.octseq_format.specs.Optional.{optional_octets}
-use Rattle.octseq_format.specs.Pair.{◌then◌, ◌delimited_then◌, ◌back_then◌, ◌one_then◌, same_pair, past_both}
-use Rattle.octseq_format.specs.Pair.{both_say, both_octets}
-use Rattle.octseq_format.specs.Rest.{IsRest, rest_read_back}
+use Rattle.octseq_format.specs.Pair.{◌then◌, ◌also◌, ◌delimited_then◌, ◌back_then◌, ◌one_then◌, both_say, both_octets}
+use Rattle.octseq_format.specs.Rest.{rest_read_back}
 use Rattle.octseq_format.specs.Tagged.{tagged_read_back}
 use Rattle.octseq_format.proofs.Wholes.{whole_taken, content_taken}
 use Rattle.octseq_bgp.specs.Parts.{IsNumber, IsCounted, IsPrefix, octets_of_bits, ◌deciding◌}
@@ -24,6 +22,7 @@ use Rattle.octseq_bgp.specs.OneParts.{one_number, one_octets, one_prefix}
 use Rattle.octseq_bgp.specs.Path.{asn_size}
 use Rattle.octseq_bgp.specs.declared.family.Afi.{Afi}
 use Rattle.octseq_bgp.specs.declared.family.Afi.TheVariants as addresses
+use Rattle.octseq_bgp.proofs.WholesBack.{counted_is}
 use Rattle.octseq_mrt.specs.Address.{Address, IsAddress, IsOptional}
 use Rattle.octseq_mrt.specs.OneListed.{peer_parts, peer_from, one_peer}
 use Rattle.octseq_mrt.specs.Peer.{Peer, IsPeer, IsTable, peer_family, has_wide_asn}
@@ -37,19 +36,28 @@ use Rattle.octseq_mrt.specs.Written.{rib_octets, FitsRib}
 -- octets say one thing
 pub one_said : {A S : Type 0} {Is : Relation A} {says : A → S} {octets : S → List ℕ} {Fits : S → Type 0} → IsOne Is
     → IsReadBack Is says octets Fits → (s t : S) → Fits s → Fits t → octets s ≡ octets t → s ≡ t
-one_said {says = says} {octets = octets} one back s t fits also same =
+one_said {says = says} {octets = octets} one back s t fits others same =
     let x = whole_taken back s fits in
-    let y = content_taken back t also (octets s) same in
+    let y = content_taken back t others (octets s) same in
     sym x.tells ∙ ap says (one.same _ x.it y.it _ _ x.is y.is).0 ∙ y.tells
 
--- the same by octets that are put together in another way
-pub back_as : {A S : Type 0} {Is : Relation A} {says : A → S} {octets others : S → List ℕ} {Fits : S → Type 0}
-    → ((s : S) → others s ≡ octets s) → IsReadBack Is says octets Fits → IsReadBack Is says others Fits
-back_as {Is = Is} {says = says} same back = record {
-  back = λ w s fits is all.
-      let long = ap length (same s) in
-      subst (λ n. Takes Is says w s n) (sym long) (back.back w s fits (is ∙ same s) (omega (arith, all, long)));
+-- what is said by other words, whose octets are put together in another way
+pub back_from : {A S T : Type 0} {Is : Relation A} {says : A → S} {octets : S → List ℕ} {Fits : S → Type 0}
+    {written : T → List ℕ} {Suits : T → Type 0} (to : T → S) (from : S → T) → ((t : T) → from (to t) ≡ t)
+    → ((t : T) → Suits t → Fits (to t)) → ((t : T) → written t ≡ octets (to t)) → IsReadBack Is says octets Fits
+    → IsReadBack Is (λ a. from (says a)) written Suits
+back_from {Is = Is} to from again suits same back = record {
+  back = λ w t fits is all.
+      let long = ap length (same t) in
+      let taken = back.back w (to t) (suits t fits) (is ∙ same t) (omega (arith, all, long)) in
+      let moved = subst (λ n. Is w taken.it (past n w)) (sym long) taken.is in
+      record { it = taken.it; tells = ap from taken.tells ∙ again t; is = moved };
 }
+
+-- both fit
+pub fit : {A B : Type 0} {First : A → Type 0} {Second : B → Type 0} {both : A × B} → First both.0 → Second both.1
+    → (First also Second) both
+fit one two = record { first = one; second = two }
 
 -- a value, and another whose form it decides
 pub delimited_deciding : {A B T : Type 0} {First : Relation A} {Second : A → Relation B} {tells : B → T}
@@ -57,27 +65,17 @@ pub delimited_deciding : {A B T : Type 0} {First : Relation A} {Second : A → R
     → IsDelimited First (λ a. a) first Fits → ((a : A) → IsDelimited (Second a) tells (second a) (Also a))
     → IsDelimited {S = A × T} (First deciding Second) (λ both. (both.0, tells both.1))
     (λ said. first said.0 ++ second said.0 said.1) (λ said. Fits said.0 × Also said.0 said.1)
+unfolding both_say both_octets
 delimited_deciding {Second = Second} {first = first} {second = second} one two = record {
   next = λ w said more fits is.
-      let x = first said.0 in
-      let y = second said.0 said.1 in
-      let apart = is ∙ append_assoc x y more in
-      let come = front_comes_next w x (y ++ more) (length x) apart refl in
-      let here = one.next w said.0 (y ++ more) fits.0 apart in
-      let there = (two said.0).next (past (length x) w) said.1 more fits.1 come.2 in
-      record {
-        it = (here.it, there.it);
-        tells = same_pair here.tells there.tells;
-        is = (
-          past (length x) w,
-          here.is,
-          subst (λ a. Second a (past (length x) w) there.it (past (length (x ++ y)) w)) (sym here.tells)
-              (subst (Second said.0 (past (length x) w) there.it) (past_both w x y) there.is),
-        );
-      };
+      let taken = (one delimited_then two said.0).next w said more (fit fits.0 fits.1) is in
+      let u = taken.is.0 in
+      let end = past (length (first said.0 ++ second said.0 said.1)) w in
+      let moved = subst (λ a. Second a u taken.it.1 end) (sym (ap (λ s. s.0) taken.tells)) taken.is.2 in
+      record { it = taken.it; tells = taken.tells; is = (u, taken.is.1, moved) };
 }
 
--- ---- addresses and optional numbers
+-- ---- numbers, octets after their length, addresses
 
 pub delimited_number : (k : ℕ) → IsDelimited (IsNumber k) (λ n. n) (octets_be k) (λ n. n < 256 ^ k)
 delimited_number k = delimited_fixed (are_be k)
@@ -89,12 +87,11 @@ pub delimited_part : {A S : Type 0} {Is : Relation A} {says : A → S} {octets :
 delimited_part {Is = Is} {says = says} {octets = octets} k back = record {
   next = λ w s more fits is.
       let few = fits.1 in
-      let same : 0 + length (octets s) ≡ length (octets s) = omega arith in
-      let made = λ (n : ℕ). octets_be k n ++ octets s in
-      subst (λ n. Takes (Counted k 0 Is) says w s (length (made n))) same
+      let same = counted_is k octets s in
+      subst (λ o. Takes (Counted k 0 Is) says w s (length o)) same
       ((delimited_counted {k = k} {extra = 0} back).next w s more
       (record { tag_fits = omega (arith, few); inside = record { inside = fits.0; many = refl } })
-      (is ∙ ap (λ n. made n ++ more) (sym same)));
+      (is ∙ ap (λ o. o ++ more) (sym same)));
 }
 
 pub delimited_octets : (k : ℕ) → IsDelimited (IsCounted k) rest (part_of k)
@@ -124,8 +121,7 @@ pub delimited_address : (afi : Afi) → IsDelimited (IsAddress afi) (λ a. a) ad
 delimited_address afi = record { next = next afi } where
   next : (afi : Afi) (w : Window) (a : Address) (more : List ℕ) → FitsFamily afi a → rest w ≡ address_octets a ++ more
       → Takes (IsAddress afi) (λ a. a) w a (length (address_octets a))
-  next addresses.Ipv4 w (Address.ipv4 octets) more fits is =
-      fixed_next Address.ipv4 w (Address.ipv4 octets) octets more 4 fits refl is
+  next addresses.Ipv4 w (Address.ipv4 octets) more fits is = fixed_next Address.ipv4 w _ octets more 4 fits refl is
   next addresses.Ipv6 w (Address.ipv6 segments) more fits is =
       let many = fits.0 in
       fixed_next (λ octets. Address.ipv6 (segments_of octets)) w (Address.ipv6 segments) (octets_of segments) more 16
@@ -135,147 +131,82 @@ delimited_address afi = record { next = next afi } where
 
 pub delimited_optional : (has : Bool)
     → IsDelimited (IsOptional has) (λ n. n) (optional_octets (octets_be 4)) (FitsOptional has)
-delimited_optional has = record { next = next has } where
-  next : (has : Bool) (w : Window) (n : Option ℕ) (more : List ℕ) → FitsOptional has n
+delimited_optional has = record { next = next } where
+  next : (w : Window) (n : Option ℕ) (more : List ℕ) → FitsOptional has n
       → rest w ≡ optional_octets (octets_be 4) n ++ more
       → Takes (IsOptional has) (λ n. n) w n (length (optional_octets (octets_be 4) n))
-  next true w (Some n) more fits is =
-      let taken = (delimited_number 4).next w n more fits is in
-      record { it = Some taken.it; tells = ap Some taken.tells; is = taken.is }
-  next false w None more fits is = record { it = None; tells = refl; is = ap (λ p. at p w) (omega arith) }
-  next true w None more fits is = absurd fits
-  next false w (Some n) more fits is = absurd fits
+  next w None more fits is = record { it = None; tells = refl; is = (fits, ap (λ p. at p w) (omega arith)) }
+  next w (Some n) more fits is =
+      let taken = (delimited_number 4).next w n more fits.1 is in
+      record { it = Some taken.it; tells = ap Some taken.tells; is = (fits.0, taken.is) }
 
 -- ---- peer index tables
 
-pub delimited_peer : IsDelimited IsPeer (λ p. p) peer_octets FitsPeer
-unfolding both_say both_octets peer_from
+delimited_peer : IsDelimited IsPeer (λ p. p) peer_octets FitsPeer
+unfolding both_say both_octets
 delimited_peer = record {
   next = λ w p more fits is.
-      let all = delimited_deciding (delimited_number 1) (λ kind. delimited_number 4
+      let all = delimited_deciding (delimited_number 1) (λ (kind : ℕ). delimited_number 4
       delimited_then delimited_address (peer_family kind)
       delimited_then delimited_number (asn_size (has_wide_asn kind))) in
-      let taken = all.next w (peer_parts p) more (
-        fits.peer_type,
-        record { first = fits.bgp_id; second = record { first = fits.addr; second = fits.asn } },
-      ) is in
+      let taken = all.next w (peer_parts p) more (fits.peer_type, fit fits.bgp_id (fit fits.addr fits.asn)) is in
       record { it = peer_from taken.it; tells = ap peer_from taken.tells; is = taken.is };
 }
 
+-- a table, by its parts
+abbrev pub table_of : ℕ × (List ℕ × List Peer) → PeerTable
+table_of s = record { collector_bgp_id = s.0; view_name = s.1.0; peers = s.1.1 }
+
 -- what a table says
 abbrev pub table_said : ℕ × (Window × List Peer) → PeerTable
-table_said t = record { collector_bgp_id = t.0; view_name = rest t.1.0; peers = t.1.1 }
+table_said t = table_of (t.0, (rest t.1.0, map (λ p. p) t.1.1))
 
 pub table_read_back : IsReadBack IsTable table_said peer_table_octets FitsPeerTable
 unfolding both_say both_octets
-table_read_back = back_as (λ t. append_assoc (octets_be 4 t.collector_bgp_id) (part_of 2 t.view_name) _) (record {
-  back = λ w t fits is all.
-      let lists = tagged_read_back {tag = length} (delimited_number 2) (many_read_back delimited_peer) in
-      let whole = delimited_number 4 back_then delimited_octets 2 back_then lists in
-      let taken = whole.back w (t.collector_bgp_id, (t.view_name, t.peers)) (record {
-        first = fits.collector_bgp_id;
-        second = record {
-          first = (tt, fits.view_name);
-          second = record { tag_fits = fits.count; inside = record { each = fits.peers; many = refl } };
-        };
-      }) is all in
-      record {
-        it = taken.it;
-        tells = ap (λ peers. record (table_said taken.it) { peers = peers }) (sym (map-id taken.it.1.1))
-            ∙ ap (λ s. record { collector_bgp_id = s.0; view_name = s.1.0; peers = s.1.1 }) taken.tells;
-        is = taken.is;
-      };
-})
+table_read_back = back_from (λ (t : PeerTable). (t.collector_bgp_id, (t.view_name, t.peers))) table_of (λ _. refl)
+    (λ t fits. fit fits.collector_bgp_id (fit (tt, fits.view_name)
+    (record { tag_fits = fits.count; inside = record { each = fits.peers; many = refl } })))
+    (λ t. append_assoc (octets_be 4 t.collector_bgp_id) (part_of 2 t.view_name) _)
+    (delimited_number 4 back_then delimited_octets 2 back_then tagged_read_back {tag = length} (delimited_number 2)
+    (many_read_back delimited_peer))
 
 -- ---- RIBs
 
--- entries, by what their attributes are read as
-module _ {A S : Type 0} {Is : Relation A} {says : A → S} {octets : S → List ℕ} {Fits : S → Type 0}
-    (back : IsReadBack Is says octets Fits) (paths : Bool) where
-  abbrev pub said_parts : (S → List ℕ) → ℕ × (ℕ × (Option ℕ × A)) → Route
-  said_parts octets e = record {
-    peer_index = e.0;
-    originated_time = e.1.0;
-    path_id = e.1.1.0;
-    attributes = octets (says e.1.1.1);
-  }
+-- an entry, by its parts
+abbrev pub route_of : ℕ × (ℕ × (Option ℕ × List ℕ)) → Route
+route_of s = record { peer_index = s.0; originated_time = s.1.0; path_id = s.1.1.0; attributes = s.1.1.1 }
 
-  pub delimited_parts : IsDelimited (IsNumber 2 then IsNumber 4 then IsOptional paths then Counted 2 0 Is)
-      (said_parts octets) route_octets (λ e. FitsRoute paths e × (s : S) × Fits s × (e.attributes ≡ octets s))
-  unfolding both_say both_octets
-  delimited_parts = record {
-    next = λ w e more fits is.
-        let all = delimited_number 2 delimited_then delimited_number 4 delimited_then delimited_optional paths
-        delimited_then delimited_part 2 back in
-        let same = fits.3 in
-        let made = λ (o : List ℕ). record e { attributes = o } in
-        let taken = all.next w (e.peer_index, (e.originated_time, (e.path_id, fits.1))) more (record {
-          first = fits.0.peer_index;
-          second = record {
-            first = fits.0.originated_time;
-            second = record {
-              first = fits.0.path_id;
-              second = (fits.2, subst (λ o. length o < 256 ^ 2) same fits.0.attributes);
-            };
-          };
-        }) (is ∙ ap (λ o. route_octets (made o) ++ more) same) in
-        record {
-          it = taken.it;
-          tells = ap (λ s. record {
-            peer_index = s.0;
-            originated_time = s.1.0;
-            path_id = s.1.1.0;
-            attributes = octets s.1.1.1;
-          }) taken.tells ∙ ap made (sym same);
-          is = subst (λ o. (IsNumber 2 then IsNumber 4 then IsOptional paths then Counted 2 0 Is) w taken.it
-              (past (length (route_octets (made o))) w)) (sym same) taken.is;
-        };
-  }
-
--- entries whose attributes haven't been read
-abbrev pub route_said : ℕ × (ℕ × (Option ℕ × Window)) → Route
-route_said = said_parts rest_read_back true (λ octets. octets)
-
-pub delimited_route : (paths : Bool) → IsDelimited (HasEntryParts paths) route_said route_octets (FitsRoute paths)
+-- whose attributes haven't been read
+pub delimited_route : (paths : Bool) → IsDelimited (HasEntryParts paths)
+    (λ e. route_of (e.0, (e.1.0, (e.1.1.0, rest e.1.1.1)))) route_octets (FitsRoute paths)
+unfolding both_say both_octets
 delimited_route paths = record {
-  next = λ w e more fits is. (delimited_parts rest_read_back paths).next w e more (fits, e.attributes, tt, refl) is;
+  next = λ w e more fits is.
+      let all = delimited_number 2 delimited_then delimited_number 4 delimited_then delimited_optional paths
+      delimited_then delimited_octets 2 in
+      let taken = all.next w (e.peer_index, (e.originated_time, (e.path_id, e.attributes))) more
+      (fit fits.peer_index (fit fits.originated_time (fit fits.path_id (tt, fits.attributes)))) is in
+      record { it = taken.it; tells = ap route_of taken.tells; is = taken.is };
 }
+
+abbrev routes_of : ℕ × ((ℕ × List ℕ) × List Route) → Routes
+routes_of s = record { sequence = s.0; bits = s.1.0.0; prefix = s.1.0.1; entries = s.1.1 }
 
 -- RIBs, by what their entries are read as
 module _ {A : Type 0} {Is : Relation A} {says : A → Route} {Fits : Route → Type 0}
     (delimited : IsDelimited Is says route_octets Fits) (most : ℕ) where
-  pub routes_read_back : IsReadBack (IsNumber 4 then IsPrefix most then Times 2 Is) (λ r. record {
-    sequence = r.0;
-    bits = r.1.0.0;
-    prefix = rest r.1.0.1;
-    entries = map says r.1.1;
-  }) rib_octets (FitsRib most Fits)
+  pub routes_read_back : IsReadBack (IsNumber 4 then IsPrefix most then Times 2 Is)
+      (λ r. routes_of (r.0, ((r.1.0.0, rest r.1.0.1), map says r.1.1))) rib_octets (FitsRib most Fits)
   unfolding both_say both_octets
-  routes_read_back = back_as (λ r. append_assoc (octets_be 4 r.sequence) (octets_be 1 r.bits ++ r.prefix) _) (record {
-    back = λ w r fits is all.
-        let long = fits.prefix in
-        let prefix = delimited_deciding (delimited_number 1) (delimited_when (λ bits. bits ≤ most)
-        (λ bits. delimited_sized {extra = 0} rest_read_back (octets_of_bits bits))) in
-        let whole = delimited_number 4 back_then prefix back_then tagged_read_back {tag = length}
-        (delimited_number 2) (many_read_back delimited) in
-        let taken = whole.back w (r.sequence, ((r.bits, r.prefix), r.entries)) (record {
-          first = fits.sequence;
-          second = record {
-            first = (fits.bits, (record { inside = tt; many = omega (arith, long) }, fits.within));
-            second = record { tag_fits = fits.count; inside = record { each = fits.entries; many = refl } };
-          };
-        }) is all in
-        record {
-          it = taken.it;
-          tells = ap (λ s. record {
-            sequence = s.0;
-            bits = s.1.0.0;
-            prefix = s.1.0.1;
-            entries = s.1.1;
-          }) taken.tells;
-          is = taken.is;
-        };
-  })
+  routes_read_back = back_from (λ (r : Routes). (r.sequence, ((r.bits, r.prefix), r.entries))) routes_of (λ _. refl)
+      (λ r fits.
+      let long = fits.prefix in
+      fit fits.sequence (fit (fits.bits, (record { inside = tt; many = omega (arith, long) }, fits.within))
+      (record { tag_fits = fits.count; inside = record { each = fits.entries; many = refl } })))
+      (λ r. append_assoc (octets_be 4 r.sequence) (octets_be 1 r.bits ++ r.prefix) _)
+      (delimited_number 4 back_then delimited_deciding (delimited_number 1) (delimited_when (λ bits. bits ≤ most)
+      (λ bits. delimited_sized {extra = 0} rest_read_back (octets_of_bits bits)))
+      back_then tagged_read_back {tag = length} (delimited_number 2) (many_read_back delimited))
 
 -- ---- at most one
 

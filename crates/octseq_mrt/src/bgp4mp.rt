@@ -8,7 +8,7 @@ ghost use Rattle.octseq_bgp.specs.Message.{IsMessage};
 ghost use Rattle.octseq_bgp.specs.Parsed.{message_of};
 ghost use Rattle.octseq_mrt.specs.Address.{address_of};
 ghost use Rattle.octseq_mrt.specs.Bgp4Mp as said;
-ghost use Rattle.octseq_mrt.specs.Bgp4Mp.{ArePeers, IsBgp4Mp, IsEvent, message_session};
+ghost use Rattle.octseq_mrt.specs.Bgp4Mp.{ArePeers, IsBgp4Mp, IsBgp4MpFront, IsEvent, message_session};
 
 use crate::address::{parse_address, parse_asn, parse_family, parse_optional};
 use crate::kind::Bgp4MpSubtype;
@@ -131,6 +131,53 @@ impl Addresses {
     }
 }
 
+/// What a record says before its event.
+#[derive(Clone, Copy, Debug)]
+struct Front {
+    microseconds: Option<u32>,
+    peer_asn: Asn,
+    local_asn: Asn,
+    interface: u16,
+    addresses: Addresses,
+}
+
+impl Front {
+    /// Reads it, with or without microseconds, and with AS numbers of four octets or two.
+    fn parse<R: AsOctets + Copy>(
+        parser: &mut Parser<R>,
+        extended: bool,
+        wide: bool,
+    ) -> Result<Front, Malformed>
+        ensures front { IfOk result (λ it. IsBgp4MpFront extended wide (window parser.old) (
+          it.microseconds,
+          (
+            it.peer_asn.0,
+            (
+              it.local_asn.0,
+              (
+                it.interface,
+                (it.addresses.afi, (address_of it.addresses.peer, address_of it.addresses.local)),
+              ),
+            ),
+          ),
+        ) (window parser.new)) }
+        ensures malformed { IsErr result → NoneAt (IsBgp4MpFront extended wide) (window parser.old) }
+    {
+        let microseconds = parse_optional(parser, extended)?;
+        let peer_asn = parse_asn(parser, wide)?;
+        let local_asn = parse_asn(parser, wide)?;
+        let interface = U16Be::parse(parser)?;
+        let addresses = Addresses::parse(parser)?;
+        Ok(Front {
+            microseconds,
+            peer_asn,
+            local_asn,
+            interface,
+            addresses,
+        })
+    }
+}
+
 /// A message or a state change, with the speakers of its session.
 #[derive(Debug)]
 pub struct Bgp4Mp<R: AsOctets> {
@@ -176,19 +223,15 @@ impl<R: AsOctets + Copy> Bgp4Mp<R> {
     {
         let wide = subtype.has_wide_asns();
         let mut ahead = parser;
-        let microseconds = parse_optional(&mut ahead, extended)?;
-        let peer_asn = parse_asn(&mut ahead, wide)?;
-        let local_asn = parse_asn(&mut ahead, wide)?;
-        let interface = U16Be::parse(&mut ahead)?;
-        let addresses = Addresses::parse(&mut ahead)?;
+        let front = Front::parse(&mut ahead, extended, wide)?;
         let event = Event::parse(ahead, subtype)?;
         Ok(Bgp4Mp {
-            microseconds,
-            peer_asn,
-            local_asn,
-            interface,
-            peer_addr: addresses.peer,
-            local_addr: addresses.local,
+            microseconds: front.microseconds,
+            peer_asn: front.peer_asn,
+            local_asn: front.local_asn,
+            interface: front.interface,
+            peer_addr: front.addresses.peer,
+            local_addr: front.addresses.local,
             event,
         })
     }

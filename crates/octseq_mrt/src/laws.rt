@@ -15,12 +15,14 @@ ghost use Rattle.octseq_mrt.specs.declared.kind.RecordKind.TheVariants as kind;
 
 /// A peer index table that was written is read back: its octets, after a header, are a record whose value says the
 /// same.
+#[tactic(auto, using(crate::proofs::ReadBack::tables))]
 pub fn tables_are_read_back()
     ensures { (time : ℕ) (t : PeerTable) → time < 2 ^ 32 → FitsPeerTable t → length (peer_table_octets t) < 2 ^ 32
         → IsReadAs time kind.PeerIndexTable (SaysTable t) (record_octets time 13 1 (peer_table_octets t)) }
 {}
 
 /// So is a RIB, if the octets of its entries are path attributes.
+#[tactic(auto, using(crate::proofs::ReadBack::ribs))]
 pub fn ribs_are_read_back()
     ensures { (time : ℕ) (family : Family) (paths : Bool) (r : Routes) → time < 2 ^ 32
         → FitsRib (most_bits (afi_of family)) (FitsRoute paths) r
@@ -30,6 +32,7 @@ pub fn ribs_are_read_back()
 {}
 
 /// So is a message or a state change. Its message has the session that the subtype says.
+#[tactic(auto, using(crate::proofs::ReadBack::events))]
 pub fn events_are_read_back()
     ensures { (time : ℕ) (s : Subtype) (b : Bgp4Mp) → time < 2 ^ 32 → FitsBgp4Mp s b
         → length (bgp4mp_octets s b) < 2 ^ 32 → IsReadAs time (bgp4mp_kind s b) (SaysBgp4Mp s b)

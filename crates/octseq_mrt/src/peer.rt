@@ -194,9 +194,11 @@ impl<R: AsOctets + Copy> PeerIndexTable<R> {
         ensures turns { turns.new ≤ turns.old + left (window parser) }
     {
         let mut ahead = parser;
-        let collector_bgp_id = U32Be::parse(&mut ahead)?;
-        let view_name = <Counted<U16Be, Nested, 0> as Format<R>>::parse(&mut ahead)?;
-        let count = U16Be::parse(&mut ahead)?;
+        let (collector_bgp_id, view_name, count) = <(
+            U32Be,
+            Counted<U16Be, Nested, 0>,
+            U16Be,
+        ) as Format<R>>::parse(&mut ahead)?;
         let first = ahead;
         pass_peers(&mut ahead, count, turns)?;
         if ahead.remaining() > 0 {

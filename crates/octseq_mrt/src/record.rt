@@ -20,6 +20,7 @@ use std::alloc::AllocError;
 /// Octets are a record in at most one way.
 ///
 /// It does nothing. Calling it brings the law into the caller's proof.
+#[tactic(auto, using(crate::proofs::OneRecord::one_record))]
 pub fn one_record()
     ensures { (octets : List ℕ) (a b : Header × Window) → AreRecord octets a → AreRecord octets b → a ≡ b }
 {}

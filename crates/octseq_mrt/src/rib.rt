@@ -4,20 +4,19 @@ ghost use Rattle.octseq.specs.Parser.{window};
 ghost use Rattle.octseq.specs.Window.{Window, left};
 ghost use Rattle.octseq_format.specs.Laws.{NoneAt};
 ghost use Rattle.octseq_format.specs.Row.{Many};
-ghost use Rattle.octseq_bgp.specs.Parts.{IsPrefix};
 ghost use Rattle.octseq_bgp.specs.Family.{afi_of};
-ghost use Rattle.octseq_bgp.specs.Prefix.{most_bits};
 ghost use Rattle.octseq_mrt.specs.Listed.{EntriesAhead, entries_once};
 ghost use Rattle.octseq_mrt.specs.ReadTurns.{entries_turns};
 ghost use Rattle.octseq_mrt.specs.Rib as said;
-ghost use Rattle.octseq_mrt.specs.Rib.{path_of, HasEntryParts, IsRibEntry, IsRib};
+ghost use Rattle.octseq_mrt.specs.Rib.{path_of, HasEntryParts, IsRibEntry, IsRibHead, IsRib};
 
 use crate::address::parse_optional;
-use crate::rib_attribute::{RibAttributes, pass_attributes};
+use crate::rib_attribute::RibAttributes;
 use octseq::{AsOctets, Malformed, Parser, Turns};
+use octseq_bgp::attribute::AttributeFormat;
 use octseq_bgp::family::{Afi, AfiSafiType};
 use octseq_bgp::prefix::{Nlri, PathId, PrefixFormat};
-use octseq_format::{Counted, Format, Nested, U16Be, U32Be};
+use octseq_format::{Counted, Format, Nested, Repeated, U16Be, U32Be};
 use std::alloc::AllocError;
 
 /// An entry of a RIB.
@@ -59,6 +58,8 @@ impl<R: AsOctets + Copy> EntryParts<R> {
     fn parse(parser: &mut Parser<R>, paths: bool) -> Result<EntryParts<R>, Malformed>
         ensures parts { IfOk result (λ it. HasEntryParts paths (window parser.old)
             (it.peer_index, (it.originated_time, (it.path_id, window it.octets))) (window parser.new)) }
+        ensures room { IfOk result (λ it.
+            left (window it.octets) + left (window parser.new) + 6 ≤ left (window parser.old)) }
         ensures malformed { IsErr result → NoneAt (HasEntryParts paths) (window parser.old) }
     {
         let peer_index = U16Be::parse(parser)?;
@@ -91,7 +92,7 @@ fn pass_entry<R: AsOctets + Copy>(
 {
     let parts = EntryParts::parse(parser, paths)?;
     let mut octets = parts.octets;
-    pass_attributes(&mut octets, turns)?;
+    let _attributes = <Repeated<AttributeFormat> as Format<R>>::parse_counted(&mut octets, turns)?;
     Ok(())
 }
 
@@ -206,18 +207,19 @@ impl<R: AsOctets + Copy> Clone for Rib<R> {
     }
 }
 
-/// Reads the next prefix of a family. Returns its length, and its octets as a parser.
-fn parse_prefix<R: AsOctets + Copy>(
+/// Reads what comes before the entries of a RIB: its sequence number, its prefix as a length and a parser of octets,
+/// and the number of entries.
+fn parse_head<R: AsOctets + Copy>(
     parser: &mut Parser<R>,
     afi: Afi,
-) -> Result<(u8, Parser<R>), Malformed>
-    ensures prefix { IfOk result (λ it.
-        IsPrefix (most_bits afi) (window parser.old) (it.0, window it.1) (window parser.new)) }
-    ensures malformed { IsErr result → NoneAt (IsPrefix (most_bits afi)) (window parser.old) }
+) -> Result<(u32, (u8, Parser<R>), u16), Malformed>
+    ensures head { IfOk result (λ it. IsRibHead afi (window parser.old)
+        (it.0, ((it.1.0, window it.1.1), it.2)) (window parser.new)) }
+    ensures malformed { IsErr result → NoneAt (IsRibHead afi) (window parser.old) }
 {
     match afi {
-        Afi::Ipv4 => PrefixFormat::<32>::parse(parser),
-        Afi::Ipv6 => PrefixFormat::<128>::parse(parser),
+        Afi::Ipv4 => <(U32Be, PrefixFormat<32>, U16Be) as Format<R>>::parse(parser),
+        Afi::Ipv6 => <(U32Be, PrefixFormat<128>, U16Be) as Format<R>>::parse(parser),
     }
 }
 
@@ -239,9 +241,7 @@ impl<R: AsOctets + Copy> Rib<R> {
         ensures turns { turns.new ≤ turns.old + left (window parser) }
     {
         let mut ahead = parser;
-        let sequence = U32Be::parse(&mut ahead)?;
-        let (len, octets) = parse_prefix(&mut ahead, family.afi())?;
-        let count = U16Be::parse(&mut ahead)?;
+        let (sequence, (len, octets), count) = parse_head(&mut ahead, family.afi())?;
         let first = ahead;
         pass_entries(&mut ahead, paths, count, turns)?;
         if ahead.remaining() > 0 {

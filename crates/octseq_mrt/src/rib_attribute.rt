@@ -1,9 +1,9 @@
 //! The path attributes of a RIB entry: RFC 6396, 4.3.4.
-ghost use Rattle.std.specs.Prelude.{◌≡◌, ◌+◌, ◌≤◌, ◌↔◌, List, length, IsTrue, IsErr, IfOk, IfSome, IsNone, OnOk, ⊤};
+ghost use Rattle.std.specs.Prelude.{◌≡◌, ◌+◌, ◌≤◌, ◌↔◌, IsTrue, IsErr, IfOk, IfSome, IsNone, ⊤};
 ghost use Rattle.octseq.specs.Parser.{window};
 ghost use Rattle.octseq.specs.Window.{Window, left};
 ghost use Rattle.octseq_format.specs.Laws.{NoneAt};
-ghost use Rattle.octseq_bgp.specs.Parts.{Attribute, IsAttribute};
+ghost use Rattle.octseq_bgp.specs.Parts.{IsAttribute};
 ghost use Rattle.octseq_bgp.specs.Fills.{Fills};
 ghost use Rattle.octseq_mrt.specs.Listed.{AttributesAhead, attributes_once};
 ghost use Rattle.octseq_mrt.specs.ReadTurns.{rib_value_turns};
@@ -120,27 +120,6 @@ impl<R: AsOctets + Copy> Iterator for RibAttributes<R> {
             Err(_) => unreachable!(),
         }
     }
-}
-
-/// Reads all that a parser has left as path attributes, and counts a turn for each.
-pub(crate) fn pass_attributes<R: AsOctets + Copy>(
-    parser: &mut Parser<R>,
-    turns: &mut Turns,
-) -> Result<(), Malformed>
-    ensures attributes { OnOk result ((row : List Attribute) × Fills IsAttribute (window parser.old) row) }
-    ensures malformed { IsErr result → (row : List Attribute) → ¬ Fills IsAttribute (window parser.old) row }
-    ensures some { turns.old ≤ turns.new }
-    ensures least { OnOk result ((row : List Attribute) → Fills IsAttribute (window parser.old) row
-        → turns.old + length row ≤ turns.new) }
-    ensures turns { turns.new ≤ turns.old + left (window parser.old) }
-{
-    let mut left = parser.remaining();
-    'attributes: while left > 0 {
-        turns.tick();
-        let _attribute = RibAttribute::parse(parser)?;
-        left = parser.remaining();
-    }
-    Ok(())
 }
 
 /// Octets that are next hops only aren't an MP_REACH_NLRI of a message, so it doesn't matter which is tried first.

@@ -1,7 +1,7 @@
 use Rattle.std.proofs.Common.{◌++◌, [], ◌∷◌, refl, arith}
 use Rattle.octseq.specs.Parser.{window}
 use Rattle.octseq_format.proofs.RowSteps.{many_ends, many_more}
-use Rattle.octseq_mrt.specs.OneListed.{one_peer, onward_peer}
+use Rattle.octseq_mrt.specs.OneListed.{one_peer, peer_moves}
 use Rattle.octseq_mrt.specs.Parsed.{peer_of}
 use Rattle.octseq_mrt.specs.Peer.{IsPeer}
 use Rattle.octseq_mrt.proofs.peer.pass_peers.Goals as goal
@@ -19,13 +19,10 @@ loop-taken-preserved g c =
     let v = window c.parse.new.parser in
     let one = peer_of c.in_ok-_peer._peer in
     let is = c.in_ok-_peer.ensures.peer in
-    let less = onward_peer.less u one v is in
-    let tick = c.tick.ensures in
+    let less = peer_moves.on u one v is in
+    let more = many_more IsPeer (window c.args.parser.now) u v c.loop-taken.taken so_far.all.0 one so_far.all.1 is in
     record {
-      all = (
-        so_far.all.0 ++ one ∷ [],
-        many_more IsPeer (window c.args.parser.now) u v c.loop-taken.taken so_far.all.0 one so_far.all.1 is,
-      );
-      least = let before = so_far.least in omega (arith, before, tick);
-      turns = let before = so_far.turns in omega (arith, before, tick, less);
+      all = (so_far.all.0 ++ one ∷ [], more);
+      least = omega (arith, so_far.least, c.tick.ensures);
+      turns = omega (arith, so_far.turns, c.tick.ensures, less);
     }

@@ -24,27 +24,20 @@ loop-taken-preserved g c =
     let u = window c.loop-taken.parser in
     let v = window c.pass_entry.new.parser in
     let one = c.in_ok-pass_entry.ensures.entry in
-    let took = c.in_ok-pass_entry.ensures.took in
-    let tick = c.tick.ensures in
+    let counted = c.in_ok-pass_entry.ensures.least one.0 v one.1 in
+    let more = many_more (IsRibEntry c.args.paths) (window c.args.parser.now) u v c.loop-taken.taken so_far.all.0 one.0
+    so_far.all.1 one.1 in
+    let sum = sum_by_push entry_turns so_far.all.0 one.0 in
     record {
-      all = (
-        so_far.all.0 ++ one.0 ∷ [],
-        many_more (IsRibEntry c.args.paths) (window c.args.parser.now) u v c.loop-taken.taken so_far.all.0 one.0
-            so_far.all.1 one.1,
-      );
-      least = let before = so_far.least in
-          let counted = c.in_ok-pass_entry.ensures.least one.0 v one.1 in
-          omega (arith, sum_by_push entry_turns so_far.all.0 one.0, before, counted, tick);
-      turns = let before = so_far.turns in omega (arith, before, tick, took);
+      all = (so_far.all.0 ++ one.0 ∷ [], more);
+      least = omega (arith, sum, so_far.least, counted, c.tick.ensures);
+      turns = omega (arith, so_far.turns, c.tick.ensures, c.in_ok-pass_entry.ensures.took);
     }
 
 pub returns-clause-least : goal.returns-clause-least
 returns-clause-least g c = λ row end is.
     let so_far = c.loop-taken.invariant in
     let paths = c.args.paths in
-    let taken = so_far.all.1.0 in
-    let counted = is.0 in
     let same = one_row (IsRibEntry paths) (one_rib_entry paths) (window c.args.parser.now) _ end so_far.all.0 row
-    (omega (arith, taken, counted)) so_far.all.1.1 is.1 in
-    let least = so_far.least in
-    omega (arith, ap entries_turns same.0, least)
+    (omega (arith, so_far.all.1.0, is.0)) so_far.all.1.1 is.1 in
+    omega (arith, ap entries_turns same.0, so_far.least)

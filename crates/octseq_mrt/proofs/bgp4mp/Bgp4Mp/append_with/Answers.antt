@@ -19,20 +19,8 @@ returns-clause-appends g c =
     let same : take time.result.1 time.result.0 ++ (c.asn_octets.result.now ++ (c.asn_octets-2.result.now
     ++ (c.to_be_bytes.result ++ (c.to_be_bytes-2.result ++ (take peer.result.1 peer.result.0
     ++ (take local.result.1 local.result.0 ++ (c.args.event.now ++ []))))))) ≡ bgp4mp_octets c.args.subtype b =
-    rw (
-      time.ensures.octets,
-      peer_asn,
-      local_asn,
-      interface,
-      family,
-      c.family_number.ensures,
-      peer.ensures.octets,
-      local.ensures.octets,
-      c.has_wide_asns-wide.ensures,
-      append-nil c.args.event.now,
-      c.requires.event,
-    )
-    refl in
+    rw (time.ensures.octets, peer_asn, local_asn, interface, family, c.family_number.ensures, peer.ensures.octets)
+    (rw (local.ensures.octets, c.has_wide_asns-wide.ensures, append-nil c.args.event.now, c.requires.event) refl) in
     let done = c.append_parts.ensures in
     subst (λ octets. AppendsBody g.B.AsOctets.limit g.B.AsOctets.asks c.append_parts.result octets
     (g.B.AsOctets.content c.args.builder.now) (g.B.AsOctets.content c.append_parts.new.builder)) same

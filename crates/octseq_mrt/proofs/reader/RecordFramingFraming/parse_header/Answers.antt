@@ -1,9 +1,24 @@
-use Rattle.std.proofs.Common.{arith}
-use Rattle.octseq_mrt.proofs.Reading.{record_header}
+use Rattle.std.proofs.Common.{◌≡◌, ◌++◌, refl, ap, arith}
+use Rattle.std.proofs.lemmas.List.{length-append}
+use Rattle.octseq.specs.Integer.{be}
+use Rattle.octseq_mrt.specs.OneFrame.{record_octets}
+use Rattle.octseq_mrt.specs.Records.{record_length}
+use Rattle.octseq_stream.proofs.Headers.{range_in_front}
 use Rattle.octseq_mrt.proofs.reader.RecordFramingFraming.parse_header.Goals as goal
 
+-- a header, and as many octets as it says, are a record
 pub returns-clause-header : goal.returns-clause-header
 returns-clause-header c =
+    let header = c.args.octets.now in
     let may = c.requires in
     let there = c.if-octets-lt-HEADER.false in
-    record_header c.args.octets.now c.length_of.result (omega (arith, may, there)) c.length_of.ensures
+    let says = c.length_of.ensures in
+    record {
+      long = omega (arith, may, there);
+      fits = λ octets all.
+          let both = length-append header octets in
+          let kept : record_length (header ++ octets) ≡ record_length header =
+          ap be (range_in_front header octets 8 12 (omega arith) (omega (arith, may, there))) in
+          record_octets (header ++ octets) (omega (arith, may, there, says, all, both, kept));
+      whole = λ _ _. refl;
+    }

@@ -1,6 +1,5 @@
-use Rattle.std.proofs.Common.{◌≡◌, refl, sym, subst, arith}
+use Rattle.std.proofs.Common.{refl, sym, subst, arith}
 use Rattle.octseq.specs.Parser.{window}
-use Rattle.octseq.specs.Window.{left}
 use Rattle.octseq_mrt.specs.Header.{IsRecord}
 use Rattle.octseq_mrt.specs.Parsed.{record_of}
 use Rattle.octseq_mrt.proofs.record.Record.parse.Goals as goal
@@ -13,11 +12,6 @@ returns-in_err-record-clause-malformed g c = λ _ it whole.
 pub returns-clause-record : goal.returns-clause-record
 returns-clause-record g c =
     let v = window c.take.new.parser in
-    let here = c.remaining.ensures.left in
-    let none = c.if-remaining-gt0.false in
-    let ends : left v ≡ 0 = omega (arith, here, none) in (
-      v,
-      subst (λ w. IsRecord w (record_of c.in_ok-record.«record») v) c.from_ref-parser.ensures.window
-          c.in_ok-record.ensures.«record»,
-      ends,
-    )
+    let is = subst (λ w. IsRecord w (record_of c.in_ok-record.«record») v) c.from_ref-parser.ensures.window
+    c.in_ok-record.ensures.«record» in
+    (v, is, omega (arith, c.remaining.ensures.left, c.if-remaining-gt0.false))

@@ -1,21 +1,11 @@
 use Rattle.std.proofs.Common.{rules, codes, refl}
-use Rattle.std.proofs.Output.{has_written_append}
-use Rattle.std.proofs.lemmas.Result.{on_ok_weaker}
-use Rattle.std.specs.Fmt.{HasWritten}
 use Rattle.octseq_bgp.specs.MessageText.{line}
 use Rattle.octseq_mrt.specs.Parsed.{bgp4mp_of}
 use Rattle.octseq_mrt.specs.RecordText.{session_text}
+use Rattle.octseq_mrt.proofs.Lines.{after_line}
 use Rattle.octseq_mrt.proofs.text.lines.write_bgp4mp.Goals as goal
 
 pub returns : goal.returns
-returns g c = on_ok_weaker c.write_event.result
-    (λ added. (
-      _,
-      (added.0, added.1, refl),
-      λ plain.
-          let head : HasWritten g.W.Write.write_str_gives c.args.f.now
-          (line (codes "bgp4mp") (session_text c.args.header (bgp4mp_of c.args.it.now))) c.write_session.new.f =
-          search rules in
-          has_written_append _ _ _ _ _ _ head (added.2 head.plain),
-    ))
-    c.write_event.ensures
+returns g c = after_line _ _ c.write_event.result
+    (line (codes "bgp4mp") (session_text c.args.header (bgp4mp_of c.args.it.now)))
+    (λ plain. search rules) (λ more is. (more, is, refl)) c.write_event.ensures

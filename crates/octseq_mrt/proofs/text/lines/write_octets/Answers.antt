@@ -1,10 +1,8 @@
 use Rattle.std.proofs.Common.{rules, codes, refl}
 use Rattle.std.proofs.lemmas.Result.{on_ok_weaker}
-use Rattle.std.specs.Fmt.{HasWritten, IsPlainFormatter}
 use mathlib.Core.Logic.{inl, inr}
 use Rattle.octseq_bgp.specs.Parsed.{message_of}
 use Rattle.octseq_bgp.proofs.Shown.{shown_of}
-use Rattle.octseq_mrt.specs.RecordText.{IsOctetsText}
 use Rattle.octseq_mrt.proofs.text.lines.write_octets.Goals as goal
 
 pub returns-in-Ok : goal.returns-in-Ok
@@ -13,8 +11,5 @@ returns-in-Ok g c = on_ok_weaker c.fmt.result
     c.fmt.ensures.shown
 
 pub returns-in-Err : goal.returns-in-Err
-returns-in-Err g c =
-    shown_of c.write_str.result (IsOctetsText c.args.session (g.R.AsOctets.content c.args.octets))
-    (IsPlainFormatter c.args.f.now)
-    (λ text. HasWritten g.W.Write.write_str_gives c.args.f.now text c.write_str.new.self) (codes "malformed\n")
+returns-in-Err g c = shown_of c.write_str.result _ _ _ (codes "malformed\n")
     (inr (c.in-Err.ensures.malformed refl, refl)) (λ plain ok. search rules)

@@ -16,8 +16,7 @@ loop-peer-init g c = record {
   whole = ap (λ row. peer_lines 0 (peers_left row)) c.into_iter-peer-iterator.ensures.into_iter_gives;
   fits =
       let same = ap (λ row. length (peers_left row)) c.into_iter-peer-iterator.ensures.into_iter_gives in
-      let most = c.octets_left-most.ensures in
-      omega (arith, same, most);
+      omega (arith, same, c.octets_left-most.ensures);
 }
 
 pub loop-peer-preserved : goal.loop-peer-preserved
@@ -31,10 +30,7 @@ loop-peer-preserved g c =
       written = λ plain. has_written_append _ _ _ _ _ _ (so_far.written plain) (search rules);
       whole = append_assoc so_far.done text (peer_lines (n + 1) (peers_left c.next.new.self))
           ∙ ap (λ row. so_far.done ++ peer_lines n row) (sym steps) ∙ so_far.whole;
-      fits =
-          let long = ap length steps in
-          let before = so_far.fits in
-          omega (arith, long, before);
+      fits = omega (arith, ap length steps, so_far.fits);
     }
 
 pub returns : goal.returns

@@ -1,5 +1,5 @@
 use Rattle.std.proofs.Common.{rules, [], ◌++◌, refl, sym, subst, append_assoc, append-nil}
-use Rattle.std.proofs.Output.{has_written_append, has_written_of_eq}
+use Rattle.std.proofs.Output.{has_written_append}
 use Rattle.octseq_mrt.specs.Parsed.{attribute_of, attributes_left, rib_value_of}
 use Rattle.octseq_mrt.specs.RecordText.{rib_attribute_lines, AreRibAttributeLines}
 use Rattle.octseq_mrt.proofs.text.rib.write_attributes.Goals as goal
@@ -30,8 +30,6 @@ loop-attribute-preserved g c =
 pub returns : goal.returns
 returns g c =
     let so_far = c.loop-attribute.invariant in
-    let none = subst (λ row. AreRibAttributeLines row []) (sym c.in-None.ensures.steps.0) refl in (
-      so_far.done ++ [],
-      so_far.whole [] none,
-      λ plain. has_written_of_eq _ _ _ _ _ (sym (append-nil so_far.done)) (so_far.written plain),
-    )
+    let all = subst (AreRibAttributeLines (attributes_left c.args.attributes)) (append-nil so_far.done) (so_far.whole []
+    (rw c.in-None.ensures.steps.0 refl)) in
+    (so_far.done, all, so_far.written)

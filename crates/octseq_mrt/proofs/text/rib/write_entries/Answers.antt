@@ -1,5 +1,5 @@
 use Rattle.std.proofs.Common.{rules, [], ◌++◌, refl, sym, subst, append_assoc, append-nil}
-use Rattle.std.proofs.Output.{has_written_append, has_written_of_eq}
+use Rattle.std.proofs.Output.{has_written_append}
 use Rattle.octseq_mrt.specs.Parsed.{entries_left}
 use Rattle.octseq_mrt.specs.RecordText.{AreEntryLines}
 use Rattle.octseq_mrt.proofs.text.rib.write_entries.Goals as goal
@@ -31,8 +31,6 @@ loop-entry-preserved g c =
 pub returns : goal.returns
 returns g c =
     let so_far = c.loop-entry.invariant in
-    let none = subst (λ row. AreEntryLines row []) (sym c.in-None.ensures.steps.0) refl in (
-      so_far.done ++ [],
-      so_far.whole [] none,
-      λ plain. has_written_of_eq _ _ _ _ _ (sym (append-nil so_far.done)) (so_far.written plain),
-    )
+    let all = subst (AreEntryLines (entries_left c.args.entries)) (append-nil so_far.done) (so_far.whole []
+    (rw c.in-None.ensures.steps.0 refl)) in
+    (so_far.done, all, so_far.written)

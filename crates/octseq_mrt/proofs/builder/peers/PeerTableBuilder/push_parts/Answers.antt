@@ -1,7 +1,6 @@
 use Rattle.std.proofs.Common.{refl}
 use Rattle.octseq_mrt.specs.Building.{same_table}
 use Rattle.octseq_mrt.specs.Parsed.{peer_of}
-use Rattle.octseq_mrt.specs.Written.{peer_octets, table_head}
 use Rattle.octseq_mrt.proofs.Listing.{listed_long, listed_place, refused_by, table_more}
 use Rattle.octseq_mrt.proofs.builder.peers.PeerTableBuilder.push_parts.Goals as goal
 
@@ -11,10 +10,9 @@ push_item-requires-clause-place g c = listed_place c.args.self.now.table.1
 pub invariant_of-self : goal.invariant_of-self
 invariant_of-self g c =
     let done = c.in-Ok.ensures in
-    record {
-      table = table_more c.args.self.now.table (peer_of c.args.peer.now) c.requires.fits c.requires.octets done.count
-          done.within done.ok;
-    }
+    let more = table_more c.args.self.now.table (peer_of c.args.peer.now) c.requires.fits c.requires.octets done.count
+    done.within done.ok in
+    record { table = more }
 
 pub returns-in-Ok-clause-ok : goal.returns-in-Ok-clause-ok
 returns-in-Ok-clause-ok g c =
@@ -24,15 +22,13 @@ returns-in-Ok-clause-ok g c =
 
 pub returns-in-Ok-clause-short : goal.returns-in-Ok-clause-short
 returns-in-Ok-clause-short g c =
-    let t = c.args.self.now.table in
-    refused_by _ t.1.many (listed_long peer_octets (table_head t.0) t.0.peers _ _ _ _ (peer_of c.args.peer.now) t.1
-    c.requires.octets) c.in-Ok.ensures.short
+    let is = c.args.self.now.table.1 in
+    refused_by _ is.many (listed_long (peer_of c.args.peer.now) is c.requires.octets) c.in-Ok.ensures.short
 
 pub returns-in-Err-clause-err : goal.returns-in-Err-clause-err
 returns-in-Err-clause-err g c = same_table c.in-Err.self-in-Err-1-own.given.0 c.args.self.now.table c.in-Err.ensures.err
 
 pub returns-in-Err-clause-short : goal.returns-in-Err-clause-short
 returns-in-Err-clause-short g c =
-    let t = c.args.self.now.table in
-    refused_by _ t.1.many (listed_long peer_octets (table_head t.0) t.0.peers _ _ _ _ (peer_of c.args.peer.now) t.1
-    c.requires.octets) c.in-Err.ensures.short
+    let is = c.args.self.now.table.1 in
+    refused_by _ is.many (listed_long (peer_of c.args.peer.now) is c.requires.octets) c.in-Err.ensures.short

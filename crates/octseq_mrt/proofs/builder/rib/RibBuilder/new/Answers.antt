@@ -12,11 +12,12 @@ invariant_of-result g c =
     let prefix = c.prefix_octets-len.ensures in
     let first : c.to_be_bytes.result ≡ octets_be 4 c.args.sequence = search (rules, written_4) in
     let second : c.to_be_bytes-2.result ≡ octets_be 1 c.args.prefix.now.len = search (rules, written_1) in
-    record {
-      rib = rib_begun c.args.family c.args.sequence c.args.prefix.now _ (omega arith)
-          (c.is_prefix_of.ensures.fits.0 yes) (c.is_prefix_of.ensures.most yes) prefix.many
-          (rw (c.in-Ok.ensures.ok, c.truncate.ensures.content, first, second, prefix.octets) refl);
-    }
+    let done = c.in-Ok.ensures in
+    let begun = rib_begun {paths = c.args.paths} c.args.family c.args.sequence c.args.prefix.now _ (omega arith)
+    (c.is_prefix_of.ensures.fits.0 yes) (c.is_prefix_of.ensures.most yes) prefix.many
+    (rw (done.ok, c.truncate.ensures.content, first, second, prefix.octets) refl)
+    (rw (done.ok, c.truncate.ensures.content) done.few) in
+    record { rib = begun }
 
 pub returns-in-Ok-clause-rib : goal.returns-in-Ok-clause-rib
 returns-in-Ok-clause-rib g c =
@@ -24,6 +25,8 @@ returns-in-Ok-clause-rib g c =
     let prefix = c.prefix_octets-len.ensures in
     let first : c.to_be_bytes.result ≡ octets_be 4 c.args.sequence = search (rules, written_4) in
     let second : c.to_be_bytes-2.result ≡ octets_be 1 c.args.prefix.now.len = search (rules, written_1) in
+    let done = c.in-Ok.ensures in
     same_rib c.result-1.given.0 (rib_begun {paths = c.args.paths} c.args.family c.args.sequence c.args.prefix.now _
     (omega arith) (c.is_prefix_of.ensures.fits.0 yes) (c.is_prefix_of.ensures.most yes) prefix.many
-    (rw (c.in-Ok.ensures.ok, c.truncate.ensures.content, first, second, prefix.octets) refl)) refl
+    (rw (done.ok, c.truncate.ensures.content, first, second, prefix.octets) refl)
+    (rw (done.ok, c.truncate.ensures.content) done.few)) refl

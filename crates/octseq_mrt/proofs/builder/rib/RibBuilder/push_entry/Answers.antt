@@ -9,11 +9,5 @@ push_parts-requires-clause-octets g c =
     let index : c.to_be_bytes.result ≡ octets_be 2 a.peer_index = search (rules, written_2) in
     let time : c.to_be_bytes-2.result ≡ octets_be 4 a.originated_time = search (rules, written_4) in
     let long : c.to_be_bytes-3.result ≡ octets_be 2 (length a.attributes.now) = search (rules, written_2) in
-    rw (
-      index,
-      time,
-      c.optional_octets-path_len.ensures.octets,
-      c.path_number.ensures.number,
-      long,
-      append-nil a.attributes.now,
-    ) refl
+    rw (index, time, c.optional_octets-path_len.ensures.octets, c.path_number.ensures.number, long)
+    (rw (append-nil a.attributes.now) refl)

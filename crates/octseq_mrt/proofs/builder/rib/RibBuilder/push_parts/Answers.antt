@@ -1,6 +1,5 @@
 use Rattle.std.proofs.Common.{refl}
 use Rattle.octseq_mrt.specs.Building.{pushed_route, same_rib}
-use Rattle.octseq_mrt.specs.Written.{rib_head, route_octets}
 use Rattle.octseq_mrt.proofs.Listing.{listed_long, listed_place, refused_by, rib_more}
 use Rattle.octseq_mrt.proofs.builder.rib.RibBuilder.push_parts.Goals as goal
 
@@ -19,16 +18,15 @@ returns-in-Ok-clause-ok g c =
     let a = c.args in
     let done = c.in-Ok.ensures in
     let e = pushed_route a.peer_index a.originated_time a.path_id a.attributes.now in
-    let more = rib_more a.self.now.rib e c.requires.fits c.requires.octets done.count done.within done.ok in
-    same_rib c.self-1.given.0 more refl
+    same_rib c.self-1.given.0 (rib_more a.self.now.rib e c.requires.fits c.requires.octets done.count done.within
+    done.ok) refl
 
 pub returns-in-Ok-clause-short : goal.returns-in-Ok-clause-short
 returns-in-Ok-clause-short g c =
     let a = c.args in
-    let r = a.self.now.rib in
+    let is = a.self.now.rib.1 in
     let e = pushed_route a.peer_index a.originated_time a.path_id a.attributes.now in
-    refused_by _ r.1.many (listed_long route_octets (rib_head r.0) r.0.entries _ _ _ _ e r.1 c.requires.octets)
-    c.in-Ok.ensures.short
+    refused_by _ is.many (listed_long e is c.requires.octets) c.in-Ok.ensures.short
 
 pub returns-in-Err-clause-err : goal.returns-in-Err-clause-err
 returns-in-Err-clause-err g c = same_rib c.in-Err.self-in-Err-1-own.given.0 c.args.self.now.rib c.in-Err.ensures.err
@@ -36,7 +34,6 @@ returns-in-Err-clause-err g c = same_rib c.in-Err.self-in-Err-1-own.given.0 c.ar
 pub returns-in-Err-clause-short : goal.returns-in-Err-clause-short
 returns-in-Err-clause-short g c =
     let a = c.args in
-    let r = a.self.now.rib in
+    let is = a.self.now.rib.1 in
     let e = pushed_route a.peer_index a.originated_time a.path_id a.attributes.now in
-    refused_by _ r.1.many (listed_long route_octets (rib_head r.0) r.0.entries _ _ _ _ e r.1 c.requires.octets)
-    c.in-Err.ensures.short
+    refused_by _ is.many (listed_long e is c.requires.octets) c.in-Err.ensures.short

@@ -1,5 +1,0 @@
-use Rattle.octseq_mrt.proofs.OneRecord as laws
-use Rattle.octseq_mrt.proofs.record.one_record.Goals as goal
-
-pub returns : goal.returns
-returns c = laws.one_record
