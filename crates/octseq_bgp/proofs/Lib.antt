@@ -1,4 +1,8 @@
 pub mod Addresses
+pub mod Anew
+pub mod AnewMessages
+pub mod AnewOpens
+pub mod AnewUpdates
 pub mod Attributes
 pub mod Bodies
 pub mod Chunks
@@ -43,5 +47,6 @@ pub mod Values
 pub mod ValuesBack
 pub mod Wholes
 pub mod WholesBack
+pub mod WrittenBack
 pub mod WrittenMessages
 pub mod WrittenOpens
