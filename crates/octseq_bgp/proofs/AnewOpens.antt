@@ -9,7 +9,7 @@ use Rattle.octseq.specs.Integer.{be, octets_be}
 use Rattle.octseq.specs.Part.{part_of}
 use Rattle.octseq.specs.Window.{Window, left, next, past, rest}
 use Rattle.octseq_format.proofs.Parts.{part_of_counted}
-use Rattle.octseq_format.specs.Canonical.{IsSound}
+use Rattle.octseq_format.specs.Canonical.{IsSound, many_rest}
 use Rattle.octseq_format.specs.Fixed.{canonical_fixed}
 use Rattle.octseq_format.specs.Pair.{same_pair}
 use Rattle.octseq_bgp.specs.Capability.{CapabilityValue, HasCode, IsCapabilityValue, ParameterValue}
@@ -20,9 +20,9 @@ use Rattle.octseq_bgp.specs.Minimal.{HasNoReserved, IsCapabilityMinimal, IsFormM
 use Rattle.octseq_bgp.specs.OneOpen.{says_parameter}
 use Rattle.octseq_bgp.specs.Open.{HasParameters, IsLong, IsOpen, Open}
 use Rattle.octseq_bgp.specs.Parts.{IsCounted, IsTlv}
-use Rattle.octseq_bgp.specs.RewrittenOpen.{Each, IsCapabilityAnew, IsOpenRewritten, IsParameterAnew, bits_anew, capability_anew}
-use Rattle.octseq_bgp.specs.RewrittenOpen.{family_anew, needs_long, open_form, open_numbers}
-use Rattle.octseq_bgp.specs.WrittenOpen.{WrittenParameter, front_len, is_apart, lengths, parameters_octets}
+use Rattle.octseq_bgp.specs.RewrittenOpen.{Appended, AreItemsSound, Each, IsCapabilityAnew, IsOpenRewritten, IsParameterAnew, bits_anew, capability_anew}
+use Rattle.octseq_bgp.specs.RewrittenOpen.{family_anew, needs_long, open_form, open_front, open_numbers, said_octets}
+use Rattle.octseq_bgp.specs.WrittenOpen.{WrittenParameter, front_len, is_apart, lengths, parameter_octets, parameters_octets}
 use Rattle.octseq_bgp.specs.declared.capability.capability_type.CapabilityType.{CapabilityType}
 use Rattle.octseq_bgp.specs.declared.capability.capability_type.CapabilityType.TheVariants as code
 use Rattle.octseq_bgp.proofs.Anew.{Kept, Shrinks, both_kept, kept_as, kept_by, row_kept}
@@ -300,3 +300,47 @@ open_shrinks w o out sound is anew =
           ∙ ap (λ o. header_octets (front_len p.long + length ps) 1 ++ o) (sym back.are)
           ∙ ap (λ n. header_octets n 1 ++ rest w) (sym all);
     }
+
+-- ---- while it is written
+
+short_fewer : (long : Bool) (row : List WrittenParameter)
+    → length (parameters_octets false row) ≤ length (parameters_octets long row)
+short_fewer true row = let long = long_row row in omega (arith, long)
+short_fewer false row = omega arith
+
+pub open_ready : (w : Window) (o : Open) → IsSound w → IsOpen w o
+    → AreItemsSound o.parameters × (length (said_octets false o.parameters) ≤ left w)
+open_ready w o sound is =
+    let back = open_back w o sound is in
+    let p = back.parameters in
+    let ps = parameters_octets p.long (map says_parameter o.parameters) in
+    let one = ap length back.are ∙ length-append (open_numbers o) (p.front ++ ps) in
+    let two = length-append p.front ps in
+    let fewer = short_fewer p.long (map says_parameter o.parameters) in
+    let many = many_rest w sound in
+    (p.sound, omega (arith, one, two, fewer, many))
+
+module _ (o : Open) (long : Bool) (len : ℕ) (sound : AreItemsSound o.parameters)
+    (form : long ≡ needs_long (map says_parameter o.parameters)) (many : len ≡ length (said_octets long o.parameters)) where
+  -- an OPEN anew has as many octets
+  pub open_long : (n : ℕ) → n ≡ front_len long → (out : List ℕ) → IsOpenRewritten o out → length out ≡ n + len
+  open_long n size out anew =
+      let said = map says_parameter o.parameters in
+      let kept = items_kept parameter_kept o.parameters anew.0 sound anew.1 in
+      let all : n + len ≡ front_len long + length (parameters_octets long said) = omega (arith, many, size) in
+      ap length anew.2 ∙ form_long o (needs_long anew.0) anew.0
+      ∙ ap (λ n. front_len (needs_long anew.0) + n) (kept.long (needs_long anew.0))
+      ∙ ap (λ l. front_len l + length (parameters_octets l said)) (needs_kept kept ∙ sym form) ∙ sym all
+
+  -- what comes before its parameters, and then these, are the OPEN
+  pub open_put : (old front all : List ℕ) → old ≡ [] → front ≡ old ++ open_front o long len
+      → Appended IsParameterAnew (parameter_octets long) o.parameters front all → IsOpenRewritten o all
+  open_put old front all none first put =
+      let kept = items_kept parameter_kept o.parameters put.0 sound put.1 in
+      let ps = parameters_octets long put.0 in (
+        put.0,
+        put.1,
+        put.2 ∙ ap (λ f. f ++ ps) (first ∙ ap (λ n. n ++ open_front o long len) none)
+            ∙ ap (λ n. open_front o long n ++ ps) (many ∙ sym (kept.long long))
+            ∙ ap (λ l. open_form o l put.0) (form ∙ sym (needs_kept kept)),
+      )

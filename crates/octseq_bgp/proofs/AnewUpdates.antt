@@ -12,7 +12,7 @@ use Rattle.std.specs.Prelude.{◌↔◌, IsTrue, if◌then◌else◌, nat_le}
 use Rattle.octseq.proofs.Written.{length_be}
 use Rattle.octseq.specs.Integer.{octets_be}
 use Rattle.octseq.specs.Part.{part_of}
-use Rattle.octseq.specs.Window.{Window, rest}
+use Rattle.octseq.specs.Window.{Window, left, rest}
 use Rattle.octseq_format.specs.Canonical.{IsSound, many_rest}
 use Rattle.octseq_bgp.specs.Composed.{long_after, message_octets}
 use Rattle.octseq_bgp.specs.Family.{afi_number, afi_of, safi_number}
@@ -22,7 +22,7 @@ use Rattle.octseq_bgp.specs.Parts.{Attribute, flags_of, inside_of, is_extended, 
 use Rattle.octseq_bgp.specs.Prefix.{Nlri}
 use Rattle.octseq_bgp.specs.PrefixValue.{address_from, bits_after, cleared}
 use Rattle.octseq_bgp.specs.ReadWritten.{attribute_says}
-use Rattle.octseq_bgp.specs.Rewritten.{AreAttributesAnew, FitsHop, IsAttributeAnew, IsUpdateRewritten, attribute_anew}
+use Rattle.octseq_bgp.specs.Rewritten.{AreAttributesAnew, AreFew, IsWritable, IsAttributeAnew, IsUpdateRewritten, attribute_anew}
 use Rattle.octseq_bgp.specs.Rewritten.{attribute_size, flags_anew, prefix_anew, prefixes_anew, value_anew}
 use Rattle.octseq_bgp.specs.Session.{adds_path}
 use Rattle.octseq_bgp.specs.Update.{IsUpdate, Update}
@@ -82,12 +82,16 @@ prefixes_kept = row_kept prefix_octets prefix_anew nlri_octets IsClear HasItsOct
 -- A value has as many octets as it had, and its next hops are those of its family.
 pub record Formed (s : SessionConfig) (w : Window) (v : Value) : Type 0 where
   pub kept : Kept (IsValueMinimal s w v) (value_anew w v) (rest w)
-  pub fits : FitsHop v
+  pub fits : IsWritable v
 
 hop_fits : (f : AfiSafiType) (w : Window) (h : NextHop) → IsNextHop f w h → IsHopOf f h
 hop_fits f w (hop.Ipv4 a) is = is.0
 hop_fits f w (hop.Ipv6 a) is = tt
 hop_fits f w (hop.Ipv6LinkLocal a b) is = tt
+
+pub all_few : (row : List Nlri) → AllByRecursion HasItsOctets row → AreFew row
+all_few [] all = tt
+all_few (n ∷ row) all = (all.0.0, all_few row all.1)
 
 reserved_kept : (n : ℕ) → Kept (n ≡ 0) (0 ∷ []) (octets_be 1 n)
 reserved_kept n = record {
@@ -113,7 +117,7 @@ reach_formed s w r sound is =
       kept = kept_by (reach_parts afi safi (part_of 1 (hop_octets r.next_hop)) (0 ∷ []) (prefixes_octets (prefixes_anew r.prefixes)))
           all (λ m. (m.0 is, m.1)) (front_kept afi (front_kept safi (front_kept (part_of 1 (hop_octets r.next_hop))
           (both_kept (reserved_kept is.reserved) (prefixes_kept r.prefixes prefixes.1)))));
-      fits = hop_fits r.family is.next_hops r.next_hop is.next_hop;
+      fits = (hop_fits r.family is.next_hops r.next_hop is.next_hop, all_few r.prefixes prefixes.1);
     }
 
 unreach_formed : (s : SessionConfig) (w : Window) (r : Unreach) → IsSound w → IsUnreach s w r
@@ -127,7 +131,7 @@ unreach_formed s w r sound is =
       kept = kept_by (append_assoc afi safi (prefixes_octets (prefixes_anew r.prefixes)))
           (front.0 ∙ ap (λ o. afi ++ (safi ++ o)) prefixes.0) (λ m. m)
           (front_kept afi (front_kept safi (prefixes_kept r.prefixes prefixes.1)));
-      fits = tt;
+      fits = all_few r.prefixes prefixes.1;
     }
 
 form_formed : (s : SessionConfig) (w : Window) → IsSound w → (t : AttributeType) (v : Value) → HasForm s t w v
@@ -197,6 +201,15 @@ size_fits true n fits = elim (dec_le n 255) [
 ]
 size_fits false n fits = let size = size_few n (omega (arith, fits)) in omega (arith, size)
 
+pub read_fits : (a : Attribute) → IsAttributeSound a
+    → attribute_size (left (inside_of a)) ≤ length (read_octets a)
+read_fits a sound =
+    let many = many_rest (inside_of a) sound.0 in
+    let was = octets_long (attribute_says a) in
+    let fits = subst (λ n. attribute_size n ≤ 2 + length_width (flags_of a) + n) many
+    (size_fits (is_extended (flags_of a)) (length (rest (inside_of a))) sound.1) in
+    omega (arith, was, fits, many)
+
 -- the flags stay if none but the four upper ones are set, and that of a long length is right
 flags_same : (flags n : ℕ) (extended : Bool) → is_extended flags ≡ extended → flags % 16 ≡ 0
     → (IsTrue extended ↔ (255 < n)) → flags_anew flags n ≡ flags
@@ -223,10 +236,9 @@ attribute_shrinks s a new sound is =
     let kept = (value_formed s w sound.0 (type_of a) v is.1).kept in
     let n = length (rest w) in
     let long = ap (λ new. length (attribute_octets new)) is.2 ∙ attribute_long a v n kept.long in
-    let was = octets_long (attribute_says a) in
-    let fits = size_fits (is_extended (flags_of a)) n sound.1 in
+    let fits = subst (λ n. attribute_size n ≤ length (read_octets a)) (sym (many_rest w sound.0)) (read_fits a sound) in
     record {
-      short = omega (arith, long, was, fits);
+      short = omega (arith, long, fits);
       same = λ minimal.
           let flags = flags_same (flags_of a) n (is_extended (flags_of a)) refl minimal.lower
           (subst (λ n. IsTrue (is_extended (flags_of a)) ↔ (255 < n)) (sym (many_rest w sound.0)) minimal.extended) in

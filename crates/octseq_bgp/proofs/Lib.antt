@@ -3,6 +3,7 @@ pub mod Anew
 pub mod AnewMessages
 pub mod AnewOpens
 pub mod AnewUpdates
+pub mod Appending
 pub mod Attributes
 pub mod Bodies
 pub mod Chunks

@@ -1,5 +1,5 @@
 -- What was read is written as the octets that it was read from.
-use Rattle.std.proofs.Common.{◌≡◌, ℕ, ◌<◌, ◌≤◌, ◌^◌, Bool, true, false, cond, List, [], ◌∷◌, ◌++◌, length, map, take, drop}
+use Rattle.std.proofs.Common.{◌≡◌, ℕ, ◌+◌, ◌<◌, ◌≤◌, ◌^◌, Bool, true, false, cond, List, [], ◌∷◌, ◌++◌, length, map, take, drop}
 use Rattle.std.proofs.Common.{sym, ap, ◌∙◌, subst, arith, append_assoc, append-nil, zero-add}
 use Rattle.std.proofs.lemmas.List.Concat.{flat_map-cons}
 use Rattle.std.proofs.lemmas.List.Folds.{flat_map-map}
@@ -255,9 +255,10 @@ items_back long w row sound is =
 whole_sound : (octets : List ℕ) → EachOctet octets → IsSound (whole octets)
 whole_sound octets each = record { each = each; ordered = omega arith; within = omega arith }
 
--- the octets of a message are a header, and those of its body
+-- The octets of a message are a header, and those of its body, which is sound. Its length fits two octets.
 pub message_back : {s : SessionConfig} {octets : List ℕ} {m : Message} → EachOctet octets → (is : IsMessage s octets m)
-    → (octets ≡ message_octets is.kind (rest is.body)) × IsSound is.body
+    → (octets ≡ message_octets is.kind (rest is.body)) × IsSound is.body × (length octets < 256 ^ 2)
+    × (length octets ≡ 19 + length (rest is.body))
 unfolding octets_be
 message_back {octets = octets} each is =
     let n = length octets in
@@ -266,4 +267,5 @@ message_back {octets = octets} each is =
     (whole_sound octets each) is.header in
     let all : octets ≡ header_octets n is.kind ++ body =
     sym (rest_whole octets) ∙ it.0 ∙ sym (header_parts n is.kind body) in
-    (all ∙ ap (λ n. header_octets n is.kind ++ body) (ap length all ∙ long_after n is.kind body), it.1.1.1.1)
+    let long = ap length all ∙ long_after n is.kind body in
+    (all ∙ ap (λ n. header_octets n is.kind ++ body) long, it.1.1.1.1, it.1.1.0, long)
