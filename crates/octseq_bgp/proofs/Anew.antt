@@ -1,4 +1,4 @@
--- What is written anew has no more octets than it had, and the same ones if it leaves nothing out.
+-- What is written anew has no more octets than it had, and the same ones if it is minimal.
 use Rattle.std.proofs.Common.{◌≡◌, ℕ, ◌+◌, ◌≤◌, List, [], ◌∷◌, ◌++◌, length, map, refl, sym, ap, ◌∙◌, arith, length-append}
 use Rattle.std.proofs.lemmas.List.Concat.{flat_map-cons}
 use Rattle.std.specs.List.{AllByRecursion, flat_map}
@@ -24,7 +24,8 @@ kept_by first second from kept = record {
   same = λ n. first ∙ kept.same (from n) ∙ sym second;
 }
 
-pub front_kept : {M : Type 0} (front : List ℕ) {new old : List ℕ} → Kept M new old → Kept M (front ++ new) (front ++ old)
+pub front_kept : {M : Type 0} (front : List ℕ) {new old : List ℕ} → Kept M new old
+    → Kept M (front ++ new) (front ++ old)
 front_kept front {new} {old} kept = record {
   long = length-append front new ∙ ap (λ n. length front + n) kept.long ∙ sym (length-append front old);
   same = λ m. ap (λ o. front ++ o) (kept.same m);

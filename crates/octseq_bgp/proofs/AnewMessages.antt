@@ -1,4 +1,4 @@
--- A message that is written anew has no more octets than it had, and the same ones if it leaves nothing out.
+-- A message that is written anew has no more octets than it had, and the same ones if it is minimal.
 use Rattle.std.proofs.Common.{◌≡◌, ℕ, ◌≤◌, List, length, sym, ap, ◌∙◌, subst, arith}
 use Rattle.octseq.specs.Window.{rest}
 use Rattle.octseq_format.specs.Canonical.{AreOctets}
@@ -21,11 +21,13 @@ message_shrinks : (s : SessionConfig) (octets out : List ℕ) (m : Message) → 
 message_shrinks s octets out (Message.opens o) each is anew =
     let back = message_back each is in
     let all = back.0 ∙ ap (λ k. message_octets k (rest is.body)) is.is.0 in
-    subst (Shrinks (IsBodyMinimal is.body (Message.opens o)) out) (sym all) (open_shrinks is.body o out back.1 is.is.1 anew)
+    subst (Shrinks (IsBodyMinimal is.body (Message.opens o)) out) (sym all)
+    (open_shrinks is.body o out back.1 is.is.1 anew)
 message_shrinks s octets out (Message.update u) each is anew =
     let back = message_back each is in
     let all = back.0 ∙ ap (λ k. message_octets k (rest is.body)) is.is.0 in
-    subst (Shrinks (IsBodyMinimal is.body (Message.update u)) out) (sym all) (update_shrinks s is.body u out back.1 is.is.1 anew)
+    subst (Shrinks (IsBodyMinimal is.body (Message.update u)) out) (sym all)
+    (update_shrinks s is.body u out back.1 is.is.1 anew)
 message_shrinks s octets out _ each is anew = same_shrinks out octets anew
 
 pub no_longer : (s : SessionConfig) (octets out : List ℕ) → AreOctets octets → IsRewritten s octets out

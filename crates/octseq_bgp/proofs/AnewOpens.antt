@@ -1,4 +1,4 @@
--- An OPEN that is written anew has no more octets than it had, and the same ones if it leaves nothing out.
+-- An OPEN that is written anew has no more octets than it had, and the same ones if it is minimal.
 use Rattle.std.proofs.Common.{◌≡◌, ◌≢◌, ℕ, ◌+◌, ◌*◌, ◌/◌, ◌%◌, ◌<◌, ◌≤◌, inl, inr, Bool, true, false, List, [], ◌∷◌, ◌++◌}
 use Rattle.std.proofs.Common.{length, map, refl, sym, ap, ◌∙◌, subst, arith, append_assoc, length-append}
 use Rattle.std.proofs.lemmas.Bool.Decides.{nat_tests}
@@ -56,7 +56,8 @@ coded_kept code.MultiProtocol w v sound is =
       long = tuple_long (t.0, (0, t.1.1)) ∙ sym (tuple_long t);
       same = λ none. ap (λ r. tuple_octets (t.0, (r, t.1.1))) (sym none);
     } in
-    subst (λ v. Kept (HasNoReserved v) (capability_anew v (rest w)) (rest w)) (sym is.1) (kept_by refl all.0 (λ m. m) kept)
+    subst (λ v. Kept (HasNoReserved v) (capability_anew v (rest w)) (rest w)) (sym is.1)
+    (kept_by refl all.0 (λ m. m) kept)
 coded_kept code.GracefulRestart w v sound is =
     let r = is.0 in
     let front = whole_back (number_back 2 back_and rest_back) w (r.bits, is.2.rest) sound is.2.front in
@@ -69,7 +70,8 @@ coded_kept code.GracefulRestart w v sound is =
     } in
     subst (λ v. Kept (HasNoReserved v) (capability_anew v (rest w)) (rest w)) (sym is.1)
     (kept_by refl (front.0 ∙ ap (λ o. octets_be 2 r.bits ++ o) families.0) (λ m. m) (both_kept bits
-    (row_kept tuple_octets family_anew tuple_octets (λ t. t.1.1 % 128 ≡ 0) _ (λ t _. family_kept t) r.families families.1)))
+    (row_kept tuple_octets family_anew tuple_octets (λ t. t.1.1 % 128 ≡ 0) _ (λ t _. family_kept t) r.families
+    families.1)))
 coded_kept code.RouteRefresh w v sound is =
     subst (λ v. Kept (HasNoReserved v) (capability_anew v (rest w)) (rest w)) (sym is.0) (kept_as refl)
 coded_kept code.ExtendedMessage w v sound is =
@@ -241,16 +243,19 @@ parameters_back w row sound (HasParameters.long long marks is fills) =
 -- What an OPEN was read from: its numbers, and its parameters.
 record OpenBack (w : Window) (o : Open) (is : IsOpen w o) : Type 0 where
   parameters : ParametersBack is.rest o.parameters is.parameters
-  are : rest w ≡ open_numbers o ++ (parameters.front ++ parameters_octets parameters.long (map says_parameter o.parameters))
+  are : rest w ≡ open_numbers o ++ (parameters.front ++ parameters_octets parameters.long
+      (map says_parameter o.parameters))
 
 open_back : (w : Window) (o : Open) → IsSound w → (is : IsOpen w o) → OpenBack w o is
 open_back w o sound is =
-    let front = whole_back (number_back 1 back_and number_back 2 back_and number_back 2 back_and number_back 4 back_and rest_back)
+    let front = whole_back (number_back 1 back_and number_back 2 back_and number_back 2 back_and number_back 4
+    back_and rest_back)
     w _ sound is.front in
     let parameters = parameters_back is.rest o.parameters front.1.1.1.1.1 is.parameters in
     record {
       parameters = parameters;
-      are = front.0 ∙ apart (octets_be 1 o.version) (octets_be 2 o.my_asn) (octets_be 2 o.holdtime) (octets_be 4 o.identifier) (rest is.rest)
+      are = front.0 ∙ apart (octets_be 1 o.version) (octets_be 2 o.my_asn) (octets_be 2 o.holdtime)
+          (octets_be 4 o.identifier) (rest is.rest)
           ∙ ap (λ p. open_numbers o ++ p) parameters.are;
     } where
       apart : (a b c d e : List ℕ) → a ++ (b ++ (c ++ (d ++ e))) ≡ (a ++ (b ++ (c ++ d))) ++ e
@@ -321,7 +326,8 @@ open_ready w o sound is =
     (p.sound, omega (arith, one, two, fewer, many))
 
 module _ (o : Open) (long : Bool) (len : ℕ) (sound : AreItemsSound o.parameters)
-    (form : long ≡ needs_long (map says_parameter o.parameters)) (many : len ≡ length (said_octets long o.parameters)) where
+    (form : long ≡ needs_long (map says_parameter o.parameters))
+    (many : len ≡ length (said_octets long o.parameters)) where
   -- an OPEN anew has as many octets
   pub open_long : (n : ℕ) → n ≡ front_len long → (out : List ℕ) → IsOpenRewritten o out → length out ≡ n + len
   open_long n size out anew =

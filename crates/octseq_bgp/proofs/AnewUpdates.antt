@@ -1,4 +1,4 @@
--- An UPDATE that is written anew has no more octets than it had, and the same ones if it leaves nothing out.
+-- An UPDATE that is written anew has no more octets than it had, and the same ones if it is minimal.
 use Rattle.std.proofs.Common.{◌≡◌, ℕ, ◌+◌, ◌*◌, ◌/◌, ◌%◌, ◌^◌, ◌<◌, ◌≤◌, inl, inr, Bool, true, false, List, [], ◌∷◌, ◌++◌, length}
 use Rattle.std.proofs.Common.{get_or, refl, sym, ap, ◌∙◌, subst, arith, append_assoc, length-append}
 use Rattle.std.proofs.Math.Decide.{dec_le}
@@ -104,17 +104,20 @@ reach_parts a b c d e = simp append_assoc
 
 reach_formed : (s : SessionConfig) (w : Window) (r : Reach) → IsSound w → IsReach s w r → Formed s w (Value.reach r)
 reach_formed s w r sound is =
-    let front = whole_back (number_back 2 back_and number_back 1 back_and counted_back 1 back_and number_back 1 back_and rest_back)
+    let front = whole_back (number_back 2 back_and number_back 1 back_and counted_back 1 back_and number_back 1
+    back_and rest_back)
     w _ sound is.front in
     let hops = hop_back r.family is.next_hops r.next_hop front.1.1.1.0.0 is.next_hop in
-    let prefixes = nlri_back (adds_path s.add_path r.family) (afi_of r.family) is.rest r.prefixes front.1.1.1.1.1 is.prefixes in
+    let prefixes = nlri_back (adds_path s.add_path r.family) (afi_of r.family) is.rest r.prefixes front.1.1.1.1.1
+    is.prefixes in
     let afi = octets_be 2 (afi_number r.family) in
     let safi = octets_be 1 (safi_number r.family) in
     let all = front.0
     ∙ ap (λ o. afi ++ (safi ++ (part_of 1 o ++ (octets_be 1 is.reserved ++ rest is.rest)))) hops
     ∙ ap (λ o. afi ++ (safi ++ (part_of 1 (hop_octets r.next_hop) ++ (octets_be 1 is.reserved ++ o)))) prefixes.0 in
     record {
-      kept = kept_by (reach_parts afi safi (part_of 1 (hop_octets r.next_hop)) (0 ∷ []) (prefixes_octets (prefixes_anew r.prefixes)))
+      kept = kept_by (reach_parts afi safi (part_of 1 (hop_octets r.next_hop)) (0 ∷ [])
+          (prefixes_octets (prefixes_anew r.prefixes)))
           all (λ m. (m.0 is, m.1)) (front_kept afi (front_kept safi (front_kept (part_of 1 (hop_octets r.next_hop))
           (both_kept (reserved_kept is.reserved) (prefixes_kept r.prefixes prefixes.1)))));
       fits = (hop_fits r.family is.next_hops r.next_hop is.next_hop, all_few r.prefixes prefixes.1);
@@ -124,7 +127,8 @@ unreach_formed : (s : SessionConfig) (w : Window) (r : Unreach) → IsSound w �
     → Formed s w (Value.unreach r)
 unreach_formed s w r sound is =
     let front = whole_back (number_back 2 back_and number_back 1 back_and rest_back) w _ sound is.front in
-    let prefixes = nlri_back (adds_path s.add_path r.family) (afi_of r.family) is.rest r.prefixes front.1.1.1 is.prefixes in
+    let prefixes = nlri_back (adds_path s.add_path r.family) (afi_of r.family) is.rest r.prefixes front.1.1.1
+    is.prefixes in
     let afi = octets_be 2 (afi_number r.family) in
     let safi = octets_be 1 (safi_number r.family) in
     record {
@@ -138,13 +142,15 @@ form_formed : (s : SessionConfig) (w : Window) → IsSound w → (t : AttributeT
     → Formed s w v
 form_formed s w sound kind.MpReachNlri v is = subst (Formed s w) (sym is.1) (reach_formed s w is.0 sound is.2)
 form_formed s w sound kind.MpUnreachNlri v is = subst (Formed s w) (sym is.1) (unreach_formed s w is.0 sound is.2)
-form_formed s w sound kind.AtomicAggregate v is = subst (Formed s w) (sym is.0) (record { kept = kept_as refl; fits = tt })
+form_formed s w sound kind.AtomicAggregate v is = subst (Formed s w) (sym is.0)
+    (record { kept = kept_as refl; fits = tt })
 form_formed s w sound _ v is = subst (Formed s w) (sym is.1) (record { kept = kept_as refl; fits = tt })
 
 pub value_formed : (s : SessionConfig) (w : Window) → IsSound w → (number : ℕ) (v : Value) → IsValue s number w v
     → Formed s w v
 value_formed s w sound number v (inl typed) = form_formed s w sound typed.0 v typed.2
-value_formed s w sound number v (inr other) = subst (Formed s w) (sym other.0) (record { kept = kept_as refl; fits = tt })
+value_formed s w sound number v (inr other) = subst (Formed s w) (sym other.0)
+    (record { kept = kept_as refl; fits = tt })
 
 -- ---- attributes
 
@@ -174,7 +180,8 @@ attribute_long_by flags n (yes few) =
     omega (arith, width, size)
 attribute_long_by flags n (no apart) =
     let many = lt_of_not-le apart in
-    let width = ap length_width (flags_many flags n (omega (arith, many))) ∙ width_extended (flags / 32 * 32 + 16) (omega arith) in
+    let width = ap length_width (flags_many flags n (omega (arith, many)))
+    ∙ width_extended (flags / 32 * 32 + 16) (omega arith) in
     let size = size_many n (omega (arith, many)) in
     omega (arith, width, size)
 
@@ -184,7 +191,16 @@ octets_long a =
     let one = length-append (octets_be 1 a.flags) (octets_be 1 a.kind ++ part) in
     let two = length-append (octets_be 1 a.kind) part in
     let three = length-append (octets_be (length_width a.flags) (length a.octets)) a.octets in
-    omega (arith, one, two, three, length_be 1 a.flags, length_be 1 a.kind, length_be (length_width a.flags) (length a.octets))
+    omega (
+      arith,
+      one,
+      two,
+      three,
+      length_be 1 a.flags,
+      length_be 1 a.kind,
+      length_be (length_width a.flags)
+          (length a.octets),
+    )
 
 pub attribute_long : (a : Attribute) (v : Value) (n : ℕ) → length (value_anew (inside_of a) v) ≡ n
     → length (attribute_octets (attribute_anew a v)) ≡ attribute_size n
@@ -221,7 +237,8 @@ flags_same flags n false is lower exactly =
     let flag : ¬ (flags / 16 % 2 ≡ 1) = grind (arith, nat_tests, is) in
     let few : n ≤ 255 = elim (dec_le n 255) [
       | yes few ↦ few
-      | no apart ↦ let many = lt_of_not-le apart in let wrong : false ≡ true = exactly.1 (omega (arith, many)) in absurd (false≢true wrong)
+      | no apart ↦ let many = lt_of_not-le apart in let wrong : false
+          ≡ true = exactly.1 (omega (arith, many)) in absurd (false≢true wrong)
     ] in
     flags_few flags n few ∙ elim (dec_le (flags / 16 % 2) 0) [
       | yes none ↦ omega (arith, none, lower)
@@ -314,5 +331,6 @@ update_shrinks s w u out sound is anew =
     record {
       short = omega (arith, new, old, long, all, x.long, y.short, z.long);
       same = λ m. anew.2 ∙ ap (message_octets 2) (ap (λ x. body_octets x wy wz) (x.same m.withdrawn)
-          ∙ ap (λ y. body_octets a y wz) (y.same m.attributes) ∙ ap (body_octets a b) (z.same m.announced) ∙ sym back.are);
+          ∙ ap (λ y. body_octets a y wz) (y.same m.attributes) ∙ ap (body_octets a b) (z.same m.announced)
+          ∙ sym back.are);
     }

@@ -25,7 +25,8 @@ pub each_first : {A B : Type 0} (Is : A → B → Type 0) {row more : List A} {a
 each_first Is steps b is others =
     (b ∷ others.0, subst (λ row. Each Is row (b ∷ others.0)) (sym steps) (b, others.0, is, others.1, refl))
 
-pub each_none : {A B : Type 0} (Is : A → B → Type 0) {row : List A} → row ≡ [] → (written : List B) × Each Is row written
+pub each_none : {A B : Type 0} (Is : A → B → Type 0) {row : List A} → row ≡ [] → (written : List B)
+    × Each Is row written
 each_none Is none = ([], subst (λ row. Each Is row []) (sym none) refl)
 
 -- If those ahead are appended to what there is now, all are to what there was.

@@ -58,7 +58,8 @@ address_again (suc n) i bits octets fits =
     ∙ ap (λ xs. cleared z (get_or octets i 0) ∷ xs) (address_again n (i + 1) bits octets (omega (arith, fits)))
 
 -- the prefix of an address that was read is written anew
-pub written_again : (n : Nlri) (p : Prefix) → n.bits ≤ 128 → p.len ≡ n.bits → p.address ≡ address_of n.bits (rest n.octets)
+pub written_again : (n : Nlri) (p : Prefix) → n.bits ≤ 128 → p.len ≡ n.bits → p.address
+    ≡ address_of n.bits (rest n.octets)
     → prefix_octets (written_prefix p n.path_id) ≡ prefix_octets (prefix_anew n)
 written_again n p few len address =
     let say = λ (bits : ℕ) (address : List ℕ). prefix_octets (record {
@@ -109,7 +110,8 @@ module _ (a : Attribute) (v : Value) (n : ℕ) (long : length (value_anew (insid
       let all = ap length attribute_is ∙ attribute_long a v n long in
       omega (arith, both, all, long)
 
-pub anew_long : (s : SessionConfig) (a : Attribute) (new : WrittenAttribute) → IsSound (inside_of a) → IsAttributeAnew s a new
+pub anew_long : (s : SessionConfig) (a : Attribute) (new : WrittenAttribute) → IsSound (inside_of a)
+    → IsAttributeAnew s a new
     → length (attribute_octets new) ≡ attribute_size (left (inside_of a))
 anew_long s a new sound is =
     let kept = (value_formed s (inside_of a) sound (type_of a) is.0 is.1).kept in
@@ -128,7 +130,8 @@ row_long s (a ∷ row) new sound are =
     omega (arith, here, there, is, both, all)
 
 -- attributes have no more octets than they had
-row_fits : (row : List Attribute) → AllByRecursion IsAttributeSound row → attributes_size row ≤ length (flat_map read_octets row)
+row_fits : (row : List Attribute) → AllByRecursion IsAttributeSound row
+    → attributes_size row ≤ length (flat_map read_octets row)
 row_fits [] sound = omega arith
 row_fits (a ∷ row) sound =
     let here = read_fits a sound.0 in
@@ -152,7 +155,8 @@ update_ready s w u is sound few =
     let y = row_fits u.attributes back.attributes in
     let z = prefixes_kept u.announced back.announced in
     let all = ap length back.are
-    ∙ body_long (flat_map nlri_octets u.withdrawn) (flat_map read_octets u.attributes) (flat_map nlri_octets u.announced) in
+    ∙ body_long (flat_map nlri_octets u.withdrawn) (flat_map read_octets u.attributes)
+    (flat_map nlri_octets u.announced) in
     let many = many_rest w sound in
     record {
       withdrawn = all_few u.withdrawn back.withdrawn;
@@ -190,7 +194,8 @@ pub others_put : (o n a p : List ℕ) → ((o ++ n) ++ a) ++ p ≡ o ++ ((n ++ a
 others_put o n a p = simp append_assoc
 
 pub update_put : (old w a n : List ℕ) (total : ℕ) → total ≡ 23 + length w + length a + length n
-    → (old ++ (header_octets total 2 ++ part_of 2 w)) ++ (part_of 2 a ++ n) ≡ old ++ message_octets 2 (body_octets w a n)
+    → (old ++ (header_octets total 2 ++ part_of 2 w)) ++ (part_of 2 a ++ n)
+    ≡ old ++ message_octets 2 (body_octets w a n)
 update_put old w a n total all =
     let long = body_long w a n in
     let same : total ≡ 19 + length (body_octets w a n) = omega (arith, long, all) in
@@ -213,7 +218,8 @@ open_in s octets o each message =
     (message.body, message.is.1, back.1, omega (arith, long, few, many))
 
 -- an UPDATE at most 65,516
-pub update_in : (s : SessionConfig) (octets : List ℕ) (u : Update) → AreOctets octets → IsMessage s octets (Message.update u)
+pub update_in : (s : SessionConfig) (octets : List ℕ) (u : Update) → AreOctets octets
+    → IsMessage s octets (Message.update u)
     → (session : SessionConfig) × (w : Window) × IsUpdate session w u × IsSound w × (left w ≤ 65516)
 update_in s octets u each message =
     let back = message_back each message in

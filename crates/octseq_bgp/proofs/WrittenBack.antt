@@ -134,7 +134,8 @@ module _ {A : Type 0} {Is : Relation A} {octets : A → List ℕ} {Holds : A →
       let here = back w a is.0 sound is.1 in
       let there = row_back is.0 row v here.on is.2 in
       record {
-        are = here.are ∙ ap (λ o. octets a ++ o) there.are ∙ sym (append_assoc (octets a) (flat_map octets row) (rest v))
+        are = here.are ∙ ap (λ o. octets a ++ o) there.are
+            ∙ sym (append_assoc (octets a) (flat_map octets row) (rest v))
             ∙ ap (λ o. o ++ rest v) (sym (flat_map-cons octets a row));
         on = there.on;
         holds = (here.holds, there.holds);
@@ -175,7 +176,8 @@ plain_back afi w it v sound is =
     }
 
 path_back : (afi : Afi)
-    → IsBack (IsPathPrefix (most_bits afi)) (λ it. nlri_octets (path_nlri afi it)) (λ it. HasItsOctets (path_nlri afi it))
+    → IsBack (IsPathPrefix (most_bits afi)) (λ it. nlri_octets (path_nlri afi it))
+    (λ it. HasItsOctets (path_nlri afi it))
 path_back afi w it v sound is =
     let both = (number_back 4 back_and plain_back afi) w it v sound is in
     record { are = both.are; on = both.on; holds = both.holds.1 }
@@ -218,7 +220,8 @@ value_back false = counted_back 1
 
 attribute_back : IsBack IsAttribute read_octets IsAttributeSound
 attribute_back w a v sound is =
-    let it = deciding_back (number_back 1) (λ flags. number_back 1 back_and value_back (is_extended flags)) w a v sound is in
+    let it = deciding_back (number_back 1) (λ flags. number_back 1 back_and value_back (is_extended flags)) w a v
+    sound is in
     record { are = it.are; on = it.on; holds = it.holds.1.1 }
 
 pub attributes_back : (w : Window) (row : List Attribute) → IsSound w → Fills IsAttribute w row
@@ -230,7 +233,8 @@ attributes_back = fills_back attribute_back
 pub hop_back : (f : AfiSafiType) (w : Window) (h : NextHop) → IsSound w → IsNextHop f w h → rest w ≡ hop_octets h
 hop_back f w (hop.Ipv4 a) sound is = (whole_back (octets_back 4) w a sound is.1).0
 hop_back f w (hop.Ipv6 a) sound is = (whole_back (octets_back 16) w a sound is).0
-hop_back f w (hop.Ipv6LinkLocal a b) sound is = (whole_back (octets_back 16 back_and octets_back 16) w (a, b) sound is).0
+hop_back f w (hop.Ipv6LinkLocal a b) sound is = (whole_back (octets_back 16 back_and octets_back 16) w (a, b) sound
+    is).0
 
 -- ---- parameters and capabilities
 
@@ -244,7 +248,8 @@ tlv_back long w p v sound is =
     let it = (number_back 1 back_and counted_back (length_octets long)) w p v sound is in
     record { are = it.are; on = it.on; holds = it.holds.1.0 }
 
-pub items_back : (long : Bool) (w : Window) (row : List (ℕ × Window)) → IsSound w → Fills (IsTlv (length_octets long)) w row
+pub items_back : (long : Bool) (w : Window) (row : List (ℕ × Window)) → IsSound w
+    → Fills (IsTlv (length_octets long)) w row
     → (rest w ≡ parameters_octets long (map says_parameter row)) × AllByRecursion IsItemSound row
 items_back long w row sound is =
     let it = fills_back (tlv_back long) w row sound is in
@@ -263,7 +268,8 @@ unfolding octets_be
 message_back {octets = octets} each is =
     let n = length octets in
     let body = rest is.body in
-    let it = whole_back (number_back 16 back_and number_back 2 back_and number_back 1 back_and rest_back) (whole octets) _
+    let it = whole_back (number_back 16 back_and number_back 2 back_and number_back 1 back_and rest_back)
+    (whole octets) _
     (whole_sound octets each) is.header in
     let all : octets ≡ header_octets n is.kind ++ body =
     sym (rest_whole octets) ∙ it.0 ∙ sym (header_parts n is.kind body) in

@@ -1,5 +1,5 @@
--- Messages that leave nothing out: what has no meaning is 0, and each length is as short as it can be. RFC 4271, 4.2 and
--- 4.3, RFC 4760, 3 and 8, RFC 4724, 3, RFC 8538, 2, and RFC 9072, 2.
+-- Minimal messages: what has no meaning is 0, and each length is as short as it can be. RFC 4271, 4.2 and 4.3, RFC
+-- 4760, 3 and 8, RFC 4724, 3, RFC 8538, 2, and RFC 9072, 2.
 use Rattle.std.specs.Prelude.{◌≡◌, ◌↔◌, ◌<◌, ◌/◌, ◌%◌, ◌^◌, ℕ, List, IsTrue, map, slice_index}
 use Rattle.std.specs.List.{AllByRecursion}
 use Rattle.octseq.specs.Window.{Window, left, rest}
@@ -59,8 +59,8 @@ abbrev pub IsParameterMinimal : ℕ × Window → Type 0
 IsParameterMinimal p = (row : List (ℕ × Window)) → IsParameterValue p.0 p.1 (ParameterValue.capabilities row)
     → AllByRecursion IsCapabilityMinimal row
 
--- Parameters are in the long form only if they need it, and the octet without meaning is then 255. (If they were read in
--- the short form, they don't need the long one.)
+-- Parameters are in the long form only if they need it, and the octet without meaning is then 255. (Those that were
+-- read in the short form don't need the long one.)
 abbrev pub IsFormMinimal : (w : Window) (row : List (ℕ × Window)) → HasParameters w row → Type 0
 IsFormMinimal w row (HasParameters.short _ _ _ _) = Unit {0}
 IsFormMinimal w row (HasParameters.long _ marks _ _) =
@@ -68,7 +68,8 @@ IsFormMinimal w row (HasParameters.long _ marks _ _) =
 
 abbrev pub IsOpenMinimal : Window → Open → Type 0
 IsOpenMinimal w o =
-    ((is : IsOpen w o) → IsFormMinimal is.rest o.parameters is.parameters) × AllByRecursion IsParameterMinimal o.parameters
+    ((is : IsOpen w o) → IsFormMinimal is.rest o.parameters is.parameters)
+    × AllByRecursion IsParameterMinimal o.parameters
 
 -- ---- a message
 

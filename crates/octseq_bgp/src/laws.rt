@@ -191,7 +191,8 @@ pub fn rewritten_messages_are_no_longer()
         → IsRewritten session octets out → length out ≤ length octets }
 {}
 
-/// A message that leaves nothing out is written anew as the octets that it was.
+/// A minimal message, in which what has no meaning is 0 and each length is as short as it can be, is written anew as the
+/// octets that it was.
 pub fn minimal_messages_stay()
     ensures { (session : Session) (octets out : List ℕ) → AreOctets octets
         → IsMinimal session octets → IsRewritten session octets out → out ≡ octets }

@@ -10,7 +10,8 @@ use Rattle.octseq_bgp.proofs.Rewriting.{attribute_is, head_long}
 use Rattle.octseq_bgp.proofs.message.rewriting.attributes.put_attribute.Goals as goal
 
 pub put_head-requires-clause-few : goal.put_head-requires-clause-few
-put_head-requires-clause-few g c = let left = c.remaining-len.ensures.left in let few = c.requires.few in omega (arith, left, few)
+put_head-requires-clause-few g c = let left = c.remaining-len.ensures.left in let few = c.requires.few in omega
+    (arith, left, few)
 
 pub put_head-requires-clause-within : goal.put_head-requires-clause-within
 put_head-requires-clause-within g c =

@@ -46,7 +46,8 @@ attributes-preserved g c =
     let first = size_first (attributes_left c.attributes.ahead) (attributes_left c.next.new.self) a steps.0 in
     let long = anew_long _ a put.0 sound.0 put.1 in
     let content = g.B.AsOctets.content in
-    let now = grown (content c.attributes.builder) (content c.put_attribute.new.builder) (attribute_octets put.0) put.2 in
+    let now = grown (content c.attributes.builder) (content c.put_attribute.new.builder) (attribute_octets put.0)
+    put.2 in
     let few = so_far.few in
     record {
       session = steps.1 ∙ so_far.session;

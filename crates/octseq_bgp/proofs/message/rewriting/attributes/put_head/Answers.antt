@@ -15,7 +15,8 @@ pub returns-then-len-le255-clause-puts : goal.returns-then-len-le255-clause-puts
 returns-then-len-le255-clause-puts g c =
     let is = head_few c.args.flags c.args.type_code c.args.len c.if-len-le255.true (omega arith) (omega arith) in
     let content = g.B.AsOctets.content in
-    subst (λ o. PutsSome g.B.AsOctets.asks c.put_slice.result o (content c.args.builder.now) (content c.put_slice.new.builder)) (sym is)
+    subst (λ o. PutsSome g.B.AsOctets.asks c.put_slice.result o (content c.args.builder.now)
+    (content c.put_slice.new.builder)) (sym is)
     c.put_slice.ensures.some
 
 pub put_slice-requires-2 : goal.put_slice-requires-2
@@ -36,5 +37,6 @@ returns-clause-puts g c =
     ∙ sym (ap (λ o. flags ∷ kind ∷ get_or o 0 0 ∷ get_or o 1 0 ∷ []) c.to_be_bytes-len.ensures
     ∙ ap (λ o. flags ∷ kind ∷ o) (made_be_2 c.args.len)) in
     let content = g.B.AsOctets.content in
-    subst (λ o. PutsSome g.B.AsOctets.asks c.put_slice-2.result o (content c.args.builder.now) (content c.put_slice-2.new.builder)) (sym is)
+    subst (λ o. PutsSome g.B.AsOctets.asks c.put_slice-2.result o (content c.args.builder.now)
+    (content c.put_slice-2.new.builder)) (sym is)
     c.put_slice-2.ensures.some

@@ -34,7 +34,8 @@ capabilities-preserved g c =
     let first = said_first false steps in
     let long = length_parameter false put.ok.0 in
     let content = g.B.AsOctets.content in
-    let now = grown (content c.capabilities.octets) (content c.put_capability.new.octets) (parameter_octets false put.ok.0) put.ok.2 in
+    let now = grown (content c.capabilities.octets) (content c.put_capability.new.octets)
+    (parameter_octets false put.ok.0) put.ok.2 in
     record {
       goes = goes_on so_far.goes steps put.ok.0 put.ok.1 put.ok.2;
       sound = sound.1;

@@ -24,7 +24,8 @@ put_value-requires g c =
     let there = inside_within g.B.AsOctets.limit false _ _ (says_parameter (capability_of c.args.capability.now)) _ _
     c.requires.within c.in_ok-put_head.ensures.puts.ok in
     record {
-      within = subst (λ n. IsWithin g.B.AsOctets.limit (length (g.B.AsOctets.content c.put_head.new.octets) + n)) (sym long)
+      within = subst (λ n. IsWithin g.B.AsOctets.limit (length (g.B.AsOctets.content c.put_head.new.octets) + n))
+          (sym long)
           there;
     }
 

@@ -16,7 +16,8 @@ put_capabilities-requires-clause-sound g c =
 pub put_capabilities-requires-clause-within : goal.put_capabilities-requires-clause-within
 put_capabilities-requires-clause-within g c =
     subst (λ o. IsWithin g.B.AsOctets.limit (length (g.B.AsOctets.content c.args.octets.now) + length o))
-    (items_back false (window c.args.parameter.now.value) _ c.requires.sound c.in-Capabilities.ensures.1).0 c.requires.within
+    (items_back false (window c.args.parameter.now.value) _ c.requires.sound c.in-Capabilities.ensures.1).0
+    c.requires.within
 
 pub put_slice-requires : goal.put_slice-requires
 put_slice-requires g c =

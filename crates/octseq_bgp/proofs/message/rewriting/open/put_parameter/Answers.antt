@@ -15,7 +15,8 @@ put_head-requires-clause-fit g c =
 
 pub put_head-requires-clause-within : goal.put_head-requires-clause-within
 put_head-requires-clause-within g c =
-    head_within g.B.AsOctets.limit c.args.long _ (says_parameter (parameter_of c.args.parameter.now)) _ _ c.requires.within
+    head_within g.B.AsOctets.limit c.args.long _ (says_parameter (parameter_of c.args.parameter.now)) _ _
+    c.requires.within
 
 pub put_inside-requires-clause-within : goal.put_inside-requires-clause-within
 put_inside-requires-clause-within g c =
@@ -28,6 +29,7 @@ returns-clause-ok g c = if_ok c.put_inside.result (λ put.
       put.0,
       put.1,
       both_put c.args.long _ _ _ put.0 c.args.parameter.now.kind _ _ c.in_ok-put_head.ensures.puts.ok put.2
-          (sym kept.kind) (ap (octets_be (length_octets c.args.long)) (c.remaining-len.ensures.rest ∙ sym kept.octets.long))
+          (sym kept.kind) (ap (octets_be (length_octets c.args.long)) (c.remaining-len.ensures.rest
+          ∙ sym kept.octets.long))
           refl,
     )) c.put_inside.ensures.ok

@@ -47,7 +47,8 @@ parameters-preserved g c =
     let first = said_first c.args.long steps in
     let long = length_parameter c.args.long put.ok.0 in
     let content = g.B.AsOctets.content in
-    let now = grown (content c.parameters.octets) (content c.put_parameter.new.octets) (parameter_octets c.args.long put.ok.0) put.ok.2 in
+    let now = grown (content c.parameters.octets) (content c.put_parameter.new.octets)
+    (parameter_octets c.args.long put.ok.0) put.ok.2 in
     let fit = so_far.fit in
     record {
       goes = goes_on so_far.goes steps put.ok.0 put.ok.1 put.ok.2;

@@ -37,7 +37,8 @@ returns-in-Err-clause-short g c =
     let o = open_of c.args.message.now in
     let ready = open_ready c.requires.0 o c.requires.2 c.requires.1 in
     let form = c.form_of-form.ensures in
-    not_short g.B.AsOctets.limit _ (open_long o _ _ ready.0 form.long form.len c.front_len.result c.front_len.ensures.is)
+    not_short g.B.AsOctets.limit _ (open_long o _ _ ready.0 form.long form.len c.front_len.result
+    c.front_len.ensures.is)
     (λ past. true≢false (sym (c.if-is_past.ensures.1 past)))
 
 pub put_parameters-requires-clause-sound : goal.put_parameters-requires-clause-sound
@@ -54,7 +55,8 @@ put_parameters-requires-clause-within g c =
     let none = ap length c.truncate.ensures.content in
     let size = c.front_len.ensures.is in
     let len = c.form_of-form.ensures.len in
-    let put = grown _ (g.B.AsOctets.content c.put_front.new.octets) (open_front (open_of c.args.message.now) form.long form.len)
+    let put = grown _ (g.B.AsOctets.content c.put_front.new.octets)
+    (open_front (open_of c.args.message.now) form.long form.len)
     c.in_default.ensures.puts.ok in
     within_less g.B.AsOctets.limit _ _ (omega (arith, front, none, size, len, put))
     (within_if_not_past g.B.AsOctets.limit _ (λ past. true≢false (sym (c.if-is_past.ensures.1 past))))
@@ -64,7 +66,8 @@ returns-in-Err-put_parameters-clause-short g c =
     let o = open_of c.args.message.now in
     let ready = open_ready c.requires.0 o c.requires.2 c.requires.1 in
     let form = c.form_of-form.ensures in
-    not_short g.B.AsOctets.limit _ (open_long o _ _ ready.0 form.long form.len c.front_len.result c.front_len.ensures.is)
+    not_short g.B.AsOctets.limit _ (open_long o _ _ ready.0 form.long form.len c.front_len.result
+    c.front_len.ensures.is)
     (λ past. true≢false (sym (c.if-is_past.ensures.1 past)))
 
 pub returns-clause-rewritten : goal.returns-clause-rewritten
@@ -80,5 +83,6 @@ returns-clause-short g c =
     let o = open_of c.args.message.now in
     let ready = open_ready c.requires.0 o c.requires.2 c.requires.1 in
     let form = c.form_of-form.ensures in
-    not_short g.B.AsOctets.limit _ (open_long o _ _ ready.0 form.long form.len c.front_len.result c.front_len.ensures.is)
+    not_short g.B.AsOctets.limit _ (open_long o _ _ ready.0 form.long form.len c.front_len.result
+    c.front_len.ensures.is)
     (λ past. true≢false (sym (c.if-is_past.ensures.1 past)))

@@ -19,5 +19,6 @@ returns-clause-puts g c =
     let is = c.as_slice.ensures ∙ c.new-octets.ensures.octets
     ∙ written_again (nlri_of c.args.nlri.now) prefix.result c.requires.bits prefix.ensures.len prefix.ensures.address in
     let content = g.B.AsOctets.content in
-    subst (λ o. PutsSome g.B.AsOctets.asks c.put_slice.result o (content c.args.builder.now) (content c.put_slice.new.builder)) is
+    subst (λ o. PutsSome g.B.AsOctets.asks c.put_slice.result o (content c.args.builder.now)
+    (content c.put_slice.new.builder)) is
     c.put_slice.ensures.some

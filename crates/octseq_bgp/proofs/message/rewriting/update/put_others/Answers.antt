@@ -17,7 +17,8 @@ pub put_attributes-requires-clause-within : goal.put_attributes-requires-clause-
 put_attributes-requires-clause-within g c =
     let two = length_be 2 c.args.sizes.now.attributes in
     let content = g.B.AsOctets.content in
-    let one = grown (content c.args.builder.now) (content c.put_u16.new.builder) (octets_be 2 c.args.sizes.now.attributes)
+    let one = grown (content c.args.builder.now) (content c.put_u16.new.builder)
+    (octets_be 2 c.args.sizes.now.attributes)
     c.in_ok-put_u16.ensures.puts.ok in
     within_less g.B.AsOctets.limit _ _ (omega (arith, one, two)) c.requires.within
 
@@ -25,10 +26,12 @@ pub put_prefixes-requires-clause-within : goal.put_prefixes-requires-clause-with
 put_prefixes-requires-clause-within g c =
     let two = length_be 2 c.args.sizes.now.attributes in
     let content = g.B.AsOctets.content in
-    let one = grown (content c.args.builder.now) (content c.put_u16.new.builder) (octets_be 2 c.args.sizes.now.attributes)
+    let one = grown (content c.args.builder.now) (content c.put_u16.new.builder)
+    (octets_be 2 c.args.sizes.now.attributes)
     c.in_ok-put_u16.ensures.puts.ok in
     let row = c.in_ok-put_attributes.ensures.ok in
-    let more = grown (content c.put_u16.new.builder) (content c.put_attributes.new.builder) (attributes_octets row.0) row.2 in
+    let more = grown (content c.put_u16.new.builder) (content c.put_attributes.new.builder) (attributes_octets row.0)
+    row.2 in
     let long = row_long _ _ row.0 c.requires.sound row.1 in
     within_less g.B.AsOctets.limit _ _ (omega (arith, one, two, more, long)) c.requires.within
 
@@ -37,7 +40,8 @@ returns-clause-ok g c =
     let u = c.args.update.now in
     let old = g.B.AsOctets.content c.args.builder.now in
     let row = c.in_ok-put_attributes.ensures.ok in
-    let long = row_long (attributes_session u.path_attributes) (attributes_left u.path_attributes) row.0 c.requires.sound row.1 in
+    let long = row_long (attributes_session u.path_attributes) (attributes_left u.path_attributes) row.0
+    c.requires.sound row.1 in
     let len = c.requires.attributes ∙ sym long in
     if_ok c.put_prefixes.result (λ put. (
       row.0,

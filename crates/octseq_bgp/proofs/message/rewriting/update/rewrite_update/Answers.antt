@@ -19,7 +19,8 @@ returns-then-is_past-clause-short g c =
     let ready = update_ready c.requires.0 c.requires.1 u c.requires.2 c.requires.3 c.requires.4 in
     let row = c.read_values.ensures in (
       (λ _. is_short g.B.AsOctets.limit c.sizes_of-sizes.result.total
-          (λ out is. update_anew_long u out ready is ∙ sym c.sizes_of-sizes.ensures.total) (c.if-is_past.ensures.0 refl) _
+          (λ out is. update_anew_long u out ready is ∙ sym c.sizes_of-sizes.ensures.total)
+          (c.if-is_past.ensures.0 refl) _
           (row.0, row.1, refl)),
       (λ _. tt),
     )
