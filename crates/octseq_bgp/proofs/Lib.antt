@@ -1,3 +1,8 @@
+pub mod Anew
+pub mod AnewMessages
+pub mod AnewOpens
+pub mod AnewUpdates
+pub mod Appending
 pub mod Attributes
 pub mod Bodies
 pub mod Chunks
@@ -43,5 +48,6 @@ pub mod Values
 pub mod ValuesBack
 pub mod Wholes
 pub mod WholesBack
+pub mod WrittenBack
 pub mod WrittenMessages
 pub mod WrittenOpens

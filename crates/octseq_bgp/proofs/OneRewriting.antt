@@ -1,16 +1,14 @@
 -- A message is written anew in one way.
-use Rattle.std.proofs.Common.{◌≡◌, ℕ, ◌+◌, List, length, sym, ap, ◌∙◌, subst, arith}
-use Rattle.octseq_bgp.specs.Message.{IsMessage, Message}
+use Rattle.std.proofs.Common.{◌≡◌, ℕ, List, sym, ap, ◌∙◌, subst}
+use Rattle.octseq_bgp.specs.Message.{Message}
 use Rattle.octseq_bgp.specs.Parts.{Attribute, type_of, inside_of}
 use Rattle.octseq_bgp.specs.Rewritten.{AreAttributesAnew, IsMessageRewritten, IsRewritten, IsUpdateRewritten}
 use Rattle.octseq_bgp.specs.Rewritten.{IsAttributeAnew, attribute_anew, prefixes_anew}
 use Rattle.octseq_bgp.specs.Update.{Update}
-use Rattle.octseq_bgp.specs.Value.{Value}
-use Rattle.octseq_bgp.specs.Written.{WrittenAttribute, attributes_octets, prefixes_octets, update_octets}
+use Rattle.octseq_bgp.specs.Written.{WrittenAttribute, update_octets}
 use Rattle.octseq_bgp.specs.declared.session.SessionConfig.{SessionConfig}
 use Rattle.octseq_bgp.proofs.OneMessage.{one_message}
 use Rattle.octseq_bgp.proofs.RewrittenOpens.{one_each, one_rewritten}
-use Rattle.octseq_bgp.proofs.Updates.{update_long}
 use Rattle.octseq_bgp.proofs.Values.{one_value}
 
 one_attribute : (s : SessionConfig) (it : Attribute) (a b : WrittenAttribute) → IsAttributeAnew s it a
@@ -40,19 +38,3 @@ pub one_rewriting : (s : SessionConfig) (octets x y : List ℕ) → IsRewritten 
 one_rewriting s octets x y a b =
     let same = one_message s octets a.0 b.0 a.1 b.1 in
     one_message_rewritten octets b.0 x y (subst (λ m. IsMessageRewritten octets m x) same a.2) b.2
-
--- the number of octets of an UPDATE anew
-pub long_update : (u : Update) (out : List ℕ) (row : List WrittenAttribute) (n : ℕ) → IsUpdateRewritten u out
-    → AreAttributesAnew u.session u.attributes row → length (attributes_octets row) ≡ n
-    → length out ≡ 23 + length (prefixes_octets (prefixes_anew u.withdrawn)) + n
-    + length (prefixes_octets (prefixes_anew u.announced))
-long_update u out row n is are size =
-    let same = one_attributes u.session u.attributes is.0 row is.1 are in
-    let octets = ap length is.2 in
-    let all = update_long (record {
-      withdrawn = prefixes_anew u.withdrawn;
-      attributes = is.0;
-      announced = prefixes_anew u.announced;
-    }) in
-    let attributes = ap (λ row. length (attributes_octets row)) same in
-    omega (arith, octets, all, attributes, size)

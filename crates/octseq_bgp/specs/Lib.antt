@@ -22,6 +22,7 @@ pub mod Message
 pub mod MessageReader
 pub mod MessageText
 pub mod MessageType
+pub mod Minimal
 pub mod Negotiated
 pub mod NewCapability
 pub mod NextHop

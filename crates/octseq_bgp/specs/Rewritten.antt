@@ -1,8 +1,9 @@
 -- Messages written anew: RFC 4271, 4, and RFC 4760, 3 and 4. What has a meaning stays as it was, in its order. What has
 -- none is 0, and a length has two octets only where one can't say it.
-use Rattle.std.specs.Prelude.{◌≡◌, ℕ, ◌+◌, ◌*◌, ◌/◌, List, ◌++◌, length, map, nat_le, if◌then◌else◌}
-use Rattle.std.specs.List.{sum_by}
+use Rattle.std.specs.Prelude.{◌≡◌, ℕ, ◌+◌, ◌*◌, ◌/◌, ◌≤◌, List, ◌++◌, length, map, nat_le, if◌then◌else◌}
+use Rattle.std.specs.List.{AllByRecursion, sum_by}
 use Rattle.octseq.specs.Window.{Window, left, rest}
+use Rattle.octseq_format.specs.Canonical.{IsSound}
 use Rattle.octseq_bgp.specs.Message.{Message, IsMessage}
 use Rattle.octseq_bgp.specs.Parts.{Attribute, flags_of, type_of, inside_of, octets_of_bits}
 use Rattle.octseq_bgp.specs.Prefix.{Nlri}
@@ -86,7 +87,30 @@ attribute_size n = n + (if nat_le n 255 then 3 else 4)
 abbrev pub attributes_size : List Attribute → ℕ
 attributes_size row = sum_by (λ a. attribute_size (left (inside_of a))) row
 
--- a value that may be written: next hops are those of their family
-abbrev pub FitsHop : Value → Type 0
-FitsHop (Value.reach r) = IsHopOf r.family r.next_hop
-FitsHop _ = Unit {0}
+-- an UPDATE
+abbrev pub update_size : Update → ℕ
+update_size u = 23 + length (prefixes_octets (prefixes_anew u.withdrawn)) + attributes_size u.attributes
+    + length (prefixes_octets (prefixes_anew u.announced))
+
+-- ---- what may be written
+
+-- prefixes of at most 128 bits
+abbrev pub AreFew : List Nlri → Type 0
+AreFew row = AllByRecursion (λ n. n.bits ≤ 128) row
+
+-- a value: so are its prefixes, and its next hops are those of its family
+abbrev pub IsWritable : Value → Type 0
+IsWritable (Value.reach r) = IsHopOf r.family r.next_hop × AreFew r.prefixes
+IsWritable (Value.unreach r) = AreFew r.prefixes
+IsWritable _ = Unit {0}
+
+-- attributes whose windows are sound
+abbrev pub AreSound : List Attribute → Type 0
+AreSound row = AllByRecursion (λ a. IsSound (inside_of a)) row
+
+-- An UPDATE of such prefixes and attributes.
+pub record IsReady (u : Update) : Type 0 where
+  pub withdrawn : AreFew u.withdrawn
+  pub attributes : AreSound u.attributes
+  pub announced : AreFew u.announced
+  pub size : update_size u ≤ 65535

@@ -1,12 +1,15 @@
 -- An OPEN written anew: RFC 4271, 4.2, and RFC 9072, 2. It says what it said, and what has no meaning is 0.
 use Rattle.std.specs.Prelude.{◌≡◌, ℕ, ◌+◌, ◌*◌, ◌/◌, ◌%◌, Bool, false, not, ◌||◌, nat_le, List, [], ◌∷◌, ◌++◌, length}
 use Rattle.std.specs.Prelude.{map}
+use Rattle.std.specs.List.{AllByRecursion, flat_map}
 use Rattle.octseq.specs.Integer.{octets_be}
-use Rattle.octseq.specs.Window.{Window, left, rest}
+use Rattle.octseq.specs.Window.{Window, rest}
+use Rattle.octseq_format.specs.Canonical.{IsSound}
 use Rattle.octseq_format.specs.Row.{row_octets}
 use Rattle.octseq_bgp.specs.Capability.{CapabilityValue, IsCapabilityValue, IsParameterValue, ParameterValue, Restart}
 use Rattle.octseq_bgp.specs.Composed.{header_octets}
 use Rattle.octseq_bgp.specs.ItemOctets.{tuple_octets}
+use Rattle.octseq_bgp.specs.OneOpen.{says_parameter}
 use Rattle.octseq_bgp.specs.Open.{Open}
 use Rattle.octseq_bgp.specs.WrittenOpen.{WrittenParameter, front_len, is_apart, lengths, parameters_octets}
 
@@ -45,6 +48,11 @@ Each Is [] written = written ≡ []
 Each {B = B} Is (a ∷ row) written =
     (b : B) × (more : List B) × Is a b × Each Is row more × (written ≡ b ∷ more)
 
+-- octets, and then those of what each of a row is written as
+abbrev pub Appended : {A B : Type 0} → (A → B → Type 0) → (B → List ℕ) → List A → List ℕ → List ℕ → Type 0
+Appended {B = B} Is octets row old new = (written : List B) × Each Is row written
+    × (new ≡ old ++ flat_map octets written)
+
 -- the value of a parameter: its capabilities, each with a code and a length of one octet; or its octets as they were
 abbrev pub IsValueAnew : ParameterValue → List ℕ → Type 0
 IsValueAnew (ParameterValue.capabilities row) octets = (written : List (ℕ × List ℕ))
@@ -60,13 +68,6 @@ IsParameterAnew p written = (v : ParameterValue) × (octets : List ℕ) × IsPar
 -- 255 itself; or the first is of type 255, and they would be read as the long form.
 abbrev pub needs_long : List WrittenParameter → Bool
 needs_long row = not (is_apart false row) || nat_le 256 (length (parameters_octets false row))
-
--- Parameters that were read are written as `row`, in the form that they need, in which they have so many octets.
-pub record HasForm (read : List (ℕ × Window)) (long : Bool) (len : ℕ) : Type 0 where
-  pub row : List WrittenParameter
-  pub each : Each IsParameterAnew read row
-  pub form : long ≡ needs_long row
-  pub many : len ≡ length (parameters_octets long row)
 
 -- ---- an OPEN
 
@@ -89,9 +90,12 @@ abbrev pub IsOpenRewritten : Open → List ℕ → Type 0
 IsOpenRewritten o out = (row : List WrittenParameter) × Each IsParameterAnew o.parameters row
     × (out ≡ open_form o (needs_long row) row)
 
--- ---- the octets that were read
+-- ---- what was read
 
--- how many octets a row of parameters or capabilities had, with lengths of k octets
-abbrev pub read_len : ℕ → List (ℕ × Window) → ℕ
-read_len k [] = 0
-read_len k (p ∷ row) = 1 + k + left p.1 + read_len k row
+-- the octets of parameters or capabilities as they were, in the long form or the short one
+abbrev pub said_octets : Bool → List (ℕ × Window) → List ℕ
+said_octets long row = parameters_octets long (map says_parameter row)
+
+-- their windows are sound
+abbrev pub AreItemsSound : List (ℕ × Window) → Type 0
+AreItemsSound row = AllByRecursion (λ p. IsSound p.1) row

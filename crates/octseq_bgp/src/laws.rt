@@ -13,6 +13,7 @@ ghost use Rattle.octseq_bgp.specs.Handling.{IsHandling};
 ghost use Rattle.octseq_bgp.specs.Message as said;
 ghost use Rattle.octseq_bgp.specs.Message.{IsMessage};
 ghost use Rattle.octseq_bgp.specs.MessageText.{IsMessageText};
+ghost use Rattle.octseq_bgp.specs.Minimal.{IsMinimal};
 ghost use Rattle.octseq_bgp.specs.OneOpen.{open_says};
 ghost use Rattle.octseq_bgp.specs.Open.{Open};
 ghost use Rattle.octseq_bgp.specs.Parts.{octets_of_bits};
@@ -190,4 +191,17 @@ pub fn filled_messages_have_prefixes()
 pub fn one_rewriting()
     ensures { (session : Session) (octets x y : List ℕ)
         → IsRewritten session octets x → IsRewritten session octets y → x ≡ y }
+{}
+
+/// A message that is written anew has no more octets than it had.
+pub fn rewritten_messages_are_no_longer()
+    ensures { (session : Session) (octets out : List ℕ) → AreOctets octets
+        → IsRewritten session octets out → length out ≤ length octets }
+{}
+
+/// A minimal message, in which what has no meaning is 0 and each length is as short as it can be, is written anew as the
+/// octets that it was.
+pub fn minimal_messages_stay()
+    ensures { (session : Session) (octets out : List ℕ) → AreOctets octets
+        → IsMinimal session octets → IsRewritten session octets out → out ≡ octets }
 {}

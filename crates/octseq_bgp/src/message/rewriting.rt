@@ -56,14 +56,22 @@ fn rewrite_message<R: AsOctets + Copy, B: OctetsBuilder + Truncate>(
 }
 
 /// Writes a message of the session anew, in place of what the builder holds. All that has a meaning stays as it was, in
-/// its order. Bits after a prefix, the reserved octet of an MP_REACH_NLRI and the four lower flags of a path attribute are
-/// written as 0. The length of a path attribute has two octets, and its flag 0x10 is set, exactly if it has more than 255.
-/// The parameters of an OPEN have the long form exactly if they have more than 255 octets. Each other octet stays.
+/// its order.
+///
+/// Of an UPDATE, bits after a prefix, the reserved octet of an MP_REACH_NLRI and the four lower flags of a path
+/// attribute are written as 0. The length of a path attribute has two octets, and its flag 0x10 is set, exactly if it
+/// has more than 255.
+///
+/// Of an OPEN, the reserved octet of a multiprotocol capability, the reserved bits of a graceful restart and all but
+/// the first of the flags of its families are written as 0. Its parameters have the long form exactly if they have more
+/// than 255 octets in the short one, or the first of them is of type 255. The octet without meaning is then 255.
+///
+/// Each other octet stays.
 ///
 /// # Errors
 ///
-/// `Malformed` exactly if the octets aren't a message of the session. Otherwise `Short` exactly if the message exceeds the
-/// limit of the builder's type, and `Memory` if a request for memory was refused.
+/// `Malformed` exactly if the octets aren't a message of the session. Otherwise `Short` exactly if the message exceeds
+/// the limit of the builder's type, and `Memory` if a request for memory was refused.
 pub fn rewrite<R: AsOctets + Copy, B: OctetsBuilder + Truncate>(
     octets: R,
     session: SessionConfig,

@@ -1,16 +1,17 @@
 //! Path attributes that are written anew: RFC 4271, 4.3, and RFC 4760, 3 and 4.
-ghost use Rattle.std.specs.Prelude.{◌≡◌, ◌≤◌, ◌+◌, ◌++◌, ℕ, List, length, true, IsErr, OnOk};
+ghost use Rattle.std.specs.Prelude.{◌≡◌, ◌≤◌, ◌+◌, ◌++◌, List, length, true, IsErr, OnOk};
 ghost use Rattle.octseq.specs.Limit.{IsWithin};
 ghost use Rattle.octseq.specs.Parser.{window};
 ghost use Rattle.octseq.specs.Window.{left};
+ghost use Rattle.octseq_format.specs.Canonical.{IsSound};
 ghost use Rattle.octseq_bgp.specs.Lists.{attribute_of, attributes_left, attributes_session, prefixes_left};
-ghost use Rattle.octseq_bgp.specs.Rewritten.{AreAttributesAnew, attribute_size, attributes_size};
-ghost use Rattle.octseq_bgp.specs.Rewritten.{FitsHop, attribute_anew, flags_anew, value_anew};
-ghost use Rattle.octseq_bgp.specs.Rewritten.{prefixes_anew};
-ghost use Rattle.octseq_bgp.specs.Value.{Value, IsValue};
-ghost use Rattle.octseq_bgp.specs.ValueOf.{reach_of, unreach_of, value_of};
-ghost use Rattle.octseq_bgp.specs.Written.{IsHopOf, WrittenAttribute, attribute_octets, attributes_octets};
-ghost use Rattle.octseq_bgp.specs.Written.{head_octets, prefixes_octets, reach_front, unreach_front};
+ghost use Rattle.octseq_bgp.specs.Puts.{PutsSome};
+ghost use Rattle.octseq_bgp.specs.Rewritten.{AreAttributesAnew, AreFew, AreSound, IsAttributeAnew, IsWritable};
+ghost use Rattle.octseq_bgp.specs.Rewritten.{attribute_size, attributes_size, flags_anew, prefixes_anew, value_anew};
+ghost use Rattle.octseq_bgp.specs.RewrittenOpen.{Appended};
+ghost use Rattle.octseq_bgp.specs.ValueOf.{value_of};
+ghost use Rattle.octseq_bgp.specs.Written.{IsHopOf, WrittenAttribute, attribute_octets, head_octets, prefixes_octets};
+ghost use Rattle.octseq_bgp.specs.Written.{reach_front, unreach_front};
 
 use super::prefixes::put_prefixes;
 use crate::attribute::{AttributeValue, MpReachNlri, MpUnreachNlri, PathAttribute, PathAttributes};
@@ -31,18 +32,25 @@ fn attribute_len(len: usize) -> usize
 /// Returns the number of octets of attributes. A value keeps its length.
 pub(super) fn attributes_len<R: AsOctets + Copy>(attributes: PathAttributes<R>) -> usize
     requires { attributes_size (attributes_left attributes) ≤ 65535 }
-    ensures size { result ≡ attributes_size (attributes_left attributes) }
-    ensures are { (row : List WrittenAttribute)
-        × AreAttributesAnew (attributes_session attributes) (attributes_left attributes) row
-        × (length (attributes_octets row) ≡ result) }
+    ensures { result ≡ attributes_size (attributes_left attributes) }
 {
     let mut len = 0;
     let mut ahead = attributes;
     'attributes: while let Some(attribute) = ahead.next() {
-        let _value = attribute.value();
         len += attribute_len(attribute.value.remaining());
     }
     len
+}
+
+/// Reads the value of each attribute: it has one.
+pub(super) fn read_values<R: AsOctets + Copy>(attributes: PathAttributes<R>)
+    ensures { (row : List WrittenAttribute)
+        × AreAttributesAnew (attributes_session attributes) (attributes_left attributes) row }
+{
+    let mut ahead = attributes;
+    'attributes: while let Some(attribute) = ahead.next() {
+        let _value = attribute.value();
+    }
 }
 
 /// Appends what an attribute has before a value of `len` octets.
@@ -55,9 +63,8 @@ fn put_head<B: OctetsBuilder>(
     requires few { len ≤ 65535 }
     requires within { IsWithin B.limit (length (B.content builder.old)
         + length (head_octets (flags_anew flags len) type_code len)) }
-    ensures ok { OnOk result (B.content builder.new
-        ≡ B.content builder.old ++ head_octets (flags_anew flags len) type_code len) }
-    ensures memory { IsErr result → B.asks ≡ true }
+    ensures puts { PutsSome B.asks result (head_octets (flags_anew flags len) type_code len)
+        (B.content builder.old) (B.content builder.new) }
     ensures borrows { B.borrows builder.new ≡ B.borrows builder.old }
 {
     let flags = flags / 32 * 32;
@@ -74,13 +81,13 @@ fn put_reach<R: AsOctets + Copy, B: OctetsBuilder>(
     reach: &MpReachNlri<R>,
 ) -> Result<(), AllocError>
     requires hop { IsHopOf reach.now.family reach.now.next_hop }
+    requires few { AreFew (prefixes_left reach.now.prefixes) }
     requires within { IsWithin B.limit (length (B.content builder.old)
         + length (reach_front reach.now.family reach.now.next_hop
         ++ prefixes_octets (prefixes_anew (prefixes_left reach.now.prefixes)))) }
-    ensures ok { OnOk result (B.content builder.new
-        ≡ B.content builder.old ++ (reach_front reach.now.family reach.now.next_hop
-        ++ prefixes_octets (prefixes_anew (prefixes_left reach.now.prefixes)))) }
-    ensures memory { IsErr result → B.asks ≡ true }
+    ensures puts { PutsSome B.asks result (reach_front reach.now.family reach.now.next_hop
+        ++ prefixes_octets (prefixes_anew (prefixes_left reach.now.prefixes)))
+        (B.content builder.old) (B.content builder.new) }
     ensures borrows { B.borrows builder.new ≡ B.borrows builder.old }
 {
     let Some(front) = Front::reach(reach.family, &reach.next_hop) else {
@@ -103,11 +110,12 @@ fn put_unreach<R: AsOctets + Copy, B: OctetsBuilder>(
     builder: &mut B,
     unreach: &MpUnreachNlri<R>,
 ) -> Result<(), AllocError>
+    requires few { AreFew (prefixes_left unreach.now.prefixes) }
     requires within { IsWithin B.limit (length (B.content builder.old) + length (unreach_front unreach.now.family
         ++ prefixes_octets (prefixes_anew (prefixes_left unreach.now.prefixes)))) }
-    ensures ok { OnOk result (B.content builder.new ≡ B.content builder.old ++ (unreach_front unreach.now.family
-        ++ prefixes_octets (prefixes_anew (prefixes_left unreach.now.prefixes)))) }
-    ensures memory { IsErr result → B.asks ≡ true }
+    ensures puts { PutsSome B.asks result (unreach_front unreach.now.family
+        ++ prefixes_octets (prefixes_anew (prefixes_left unreach.now.prefixes)))
+        (B.content builder.old) (B.content builder.new) }
     ensures borrows { B.borrows builder.new ≡ B.borrows builder.old }
 {
     let front = front_of(unreach.family);
@@ -121,12 +129,11 @@ fn put_value<R: AsOctets + Copy, B: OctetsBuilder>(
     octets: Parser<R>,
     value: &AttributeValue<R>,
 ) -> Result<(), AllocError>
-    requires fits { FitsHop (value_of value.now) }
+    requires fits { IsWritable (value_of value.now) }
     requires within { IsWithin B.limit (length (B.content builder.old)
         + length (value_anew (window octets) (value_of value.now))) }
-    ensures ok { OnOk result (B.content builder.new
-        ≡ B.content builder.old ++ value_anew (window octets) (value_of value.now)) }
-    ensures memory { IsErr result → B.asks ≡ true }
+    ensures puts { PutsSome B.asks result (value_anew (window octets) (value_of value.now))
+        (B.content builder.old) (B.content builder.new) }
     ensures borrows { B.borrows builder.new ≡ B.borrows builder.old }
 {
     match value {
@@ -142,14 +149,12 @@ fn put_attribute<R: AsOctets + Copy, B: OctetsBuilder>(
     attribute: &PathAttribute<R>,
 ) -> Result<(), AllocError>
     requires few { left (window attribute.now.value) ≤ 65535 }
+    requires sound { IsSound (window attribute.now.value) }
     requires within { IsWithin B.limit (length (B.content builder.old)
         + attribute_size (left (window attribute.now.value))) }
-    ensures ok { OnOk result ((v : Value)
-        × IsValue attribute.now.session attribute.now.type_code (window attribute.now.value) v
-        × (B.content builder.new ≡ B.content builder.old
-        ++ attribute_octets (attribute_anew (attribute_of attribute.now) v))
-        × (length (attribute_octets (attribute_anew (attribute_of attribute.now) v))
-        ≡ attribute_size (left (window attribute.now.value)))) }
+    ensures ok { OnOk result ((anew : WrittenAttribute)
+        × IsAttributeAnew attribute.now.session (attribute_of attribute.now) anew
+        × (B.content builder.new ≡ B.content builder.old ++ attribute_octets anew)) }
     ensures memory { IsErr result → B.asks ≡ true }
     ensures borrows { B.borrows builder.new ≡ B.borrows builder.old }
 {
@@ -165,12 +170,11 @@ pub(super) fn put_attributes<R: AsOctets + Copy, B: OctetsBuilder>(
     attributes: PathAttributes<R>,
 ) -> Result<(), AllocError>
     requires few { attributes_size (attributes_left attributes) ≤ 65535 }
+    requires sound { AreSound (attributes_left attributes) }
     requires within { IsWithin B.limit (length (B.content builder.old)
         + attributes_size (attributes_left attributes)) }
-    ensures ok { OnOk result ((row : List WrittenAttribute)
-        × AreAttributesAnew (attributes_session attributes) (attributes_left attributes) row
-        × (B.content builder.new ≡ B.content builder.old ++ attributes_octets row)
-        × (length (attributes_octets row) ≡ attributes_size (attributes_left attributes))) }
+    ensures ok { OnOk result (Appended (IsAttributeAnew (attributes_session attributes)) attribute_octets
+        (attributes_left attributes) (B.content builder.old) (B.content builder.new)) }
     ensures memory { IsErr result → B.asks ≡ true }
     ensures borrows { B.borrows builder.new ≡ B.borrows builder.old }
 {

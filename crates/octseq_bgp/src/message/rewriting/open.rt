@@ -1,24 +1,26 @@
 //! OPENs written anew: RFC 4271, 4.2, and RFC 9072, 2.
 ghost use Rattle.std.specs.Prelude.{◌≡◌, ◌≤◌, ◌<◌, ◌+◌, ◌^◌, ◌++◌, ◌↔◌, ℕ, List, length, map, true, false};
-ghost use Rattle.std.specs.Prelude.{IsTrue, IsErr, IfOk, OnOk};
+ghost use Rattle.std.specs.Prelude.{IsErr, IfOk, OnOk};
 ghost use Rattle.octseq.specs.Integer.{octets_be};
 ghost use Rattle.octseq.specs.Limit.{IsPast, IsWithin};
 ghost use Rattle.octseq.specs.Parser.{window};
 ghost use Rattle.octseq.specs.Refusal.{IsShort, IsMemory, append_error};
-ghost use Rattle.octseq.specs.Window.{Window, left};
+ghost use Rattle.octseq.specs.Window.{Window, left, rest};
+ghost use Rattle.octseq_format.specs.Canonical.{IsSound};
 ghost use Rattle.octseq_format.specs.Row.{row_octets};
 ghost use Rattle.octseq_bgp.specs.CapabilityOf.{capabilities_left, capability_of, capability_value_of, restart_of};
 ghost use Rattle.octseq_bgp.specs.ItemOctets.{tuple_octets};
 ghost use Rattle.octseq_bgp.specs.Items.{items_left};
 ghost use Rattle.octseq_bgp.specs.Lists.{parameter_of, parameters_left};
+ghost use Rattle.octseq_bgp.specs.OneOpen.{says_parameter};
 ghost use Rattle.octseq_bgp.specs.Open.{IsOpen, length_octets};
 ghost use Rattle.octseq_bgp.specs.Parsed.{open_of};
 ghost use Rattle.octseq_bgp.specs.Puts.{PutsSome};
-ghost use Rattle.octseq_bgp.specs.RewrittenOpen.{Each, HasForm, IsCapabilityAnew, IsOpenRewritten, IsParameterAnew};
-ghost use Rattle.octseq_bgp.specs.RewrittenOpen.{capability_anew, family_anew, needs_long, open_front, open_numbers};
-ghost use Rattle.octseq_bgp.specs.RewrittenOpen.{read_len, restart_anew};
+ghost use Rattle.octseq_bgp.specs.RewrittenOpen.{Appended, AreItemsSound, Each, IsCapabilityAnew, IsOpenRewritten};
+ghost use Rattle.octseq_bgp.specs.RewrittenOpen.{IsParameterAnew, capability_anew, family_anew, needs_long, open_front};
+ghost use Rattle.octseq_bgp.specs.RewrittenOpen.{open_numbers, restart_anew, said_octets};
 ghost use Rattle.octseq_bgp.specs.WrittenOpen.{WrittenParameter, front_len, is_apart, lengths, most_parameters};
-ghost use Rattle.octseq_bgp.specs.WrittenOpen.{parameter_octets, parameters_octets};
+ghost use Rattle.octseq_bgp.specs.WrittenOpen.{parameter_octets};
 
 use crate::capability::{
     Capabilities, Capability, CapabilityValue, FamilyTuple, GracefulRestart, ParameterValue,
@@ -33,64 +35,22 @@ use crate::put::{put_slice, put_u8, put_u16, put_u32};
 use octseq::{AppendError, AsOctets, OctetsBuilder, ShortBuf, Truncate};
 use std::alloc::AllocError;
 
-/// Returns the number of octets of a capability written anew: as many as it had.
-fn capability_len<R: AsOctets + Copy>(capability: &Capability<R>) -> usize
-    requires few { left (window capability.now.octets) ≤ 4096 }
-    ensures anew { (c : WrittenParameter) × IsCapabilityAnew (capability_of capability.now) c
-        × (result ≡ length (parameter_octets false c)) }
-    ensures same { result ≡ 2 + left (window capability.now.octets) }
-{
-    let _value = capability.value();
-    2 + capability.octets.remaining()
-}
-
-/// Returns the number of octets of capabilities written anew.
-fn capabilities_len<R: AsOctets + Copy>(capabilities: Capabilities<R>) -> usize
-    requires few { read_len 1 (capabilities_left capabilities) ≤ 4096 }
-    ensures anew { (row : List WrittenParameter) × Each IsCapabilityAnew (capabilities_left capabilities) row
-        × (result ≡ length (parameters_octets false row)) }
-    ensures same { result ≡ read_len 1 (capabilities_left capabilities) }
-{
-    let mut len = 0;
-    let mut ahead = capabilities;
-    'capabilities: while let Some(capability) = ahead.next() {
-        len += capability_len(&capability);
-    }
-    len
-}
-
-/// Returns the number of octets of a parameter's value written anew.
-fn value_len<R: AsOctets + Copy>(parameter: &Parameter<R>) -> usize
-    requires few { left (window parameter.now.value) ≤ 4096 }
-    ensures anew { (p : WrittenParameter) × IsParameterAnew (parameter_of parameter.now) p
-        × (result ≡ length p.1) }
-    ensures same { result ≡ left (window parameter.now.value) }
-{
-    match parameter.value() {
-        ParameterValue::Capabilities(capabilities) => capabilities_len(capabilities),
-        ParameterValue::Opaque(octets) => octets.remaining(),
-    }
-}
-
-/// Returns the number of octets of parameters written anew, in the short form.
+/// Returns how many octets parameters have in the short form. A value keeps its length.
 fn parameters_len<R: AsOctets + Copy>(parameters: Parameters<R>) -> usize
-    requires few { read_len 1 (parameters_left parameters) ≤ 4096 }
-    ensures anew { (row : List WrittenParameter) × Each IsParameterAnew (parameters_left parameters) row
-        × (result ≡ length (parameters_octets false row)) }
-    ensures same { result ≡ read_len 1 (parameters_left parameters) }
+    requires { length (said_octets false (parameters_left parameters)) ≤ 4096 }
+    ensures { result ≡ length (said_octets false (parameters_left parameters)) }
 {
     let mut len = 0;
     let mut ahead = parameters;
     'parameters: while let Some(parameter) = ahead.next() {
-        len += 2 + value_len(&parameter);
+        len += 2 + parameter.value.remaining();
     }
     len
 }
 
 /// Whether the first parameter, if there is one, isn't of type 255.
 fn is_apart<R: AsOctets + Copy>(parameters: Parameters<R>) -> bool
-    ensures { (row : List WrittenParameter) → Each IsParameterAnew (parameters_left parameters) row
-        → result ≡ is_apart false row }
+    ensures { result ≡ is_apart false (map says_parameter (parameters_left parameters)) }
 {
     let mut ahead = parameters;
     match ahead.next() {
@@ -101,8 +61,8 @@ fn is_apart<R: AsOctets + Copy>(parameters: Parameters<R>) -> bool
 
 /// Whether parameters of `len` octets in the short form need the long one.
 fn needs_long<R: AsOctets + Copy>(parameters: Parameters<R>, len: usize) -> bool
-    ensures is { (row : List WrittenParameter) → Each IsParameterAnew (parameters_left parameters) row
-        → len ≡ length (parameters_octets false row) → result ≡ needs_long row }
+    requires { len ≡ length (said_octets false (parameters_left parameters)) }
+    ensures is { result ≡ needs_long (map says_parameter (parameters_left parameters)) }
     ensures few { result ≡ false → len ≤ 255 }
 {
     if len > 255 {
@@ -122,8 +82,9 @@ struct Form {
 
 /// Returns the form that parameters need.
 fn form_of<R: AsOctets + Copy>(parameters: Parameters<R>) -> Form
-    requires few { read_len 1 (parameters_left parameters) ≤ 4096 }
-    ensures has { HasForm (parameters_left parameters) result.long result.len }
+    requires few { length (said_octets false (parameters_left parameters)) ≤ 4096 }
+    ensures long { result.long ≡ needs_long (map says_parameter (parameters_left parameters)) }
+    ensures len { result.len ≡ length (said_octets result.long (parameters_left parameters)) }
     ensures most { result.len ≤ 8192 }
     ensures fit { result.len ≤ most_parameters result.long }
 {
@@ -133,6 +94,36 @@ fn form_of<R: AsOctets + Copy>(parameters: Parameters<R>) -> Form
         return Form { long: true, len };
     }
     Form { long: false, len }
+}
+
+/// Reads the value of each capability: it has one.
+fn read_capabilities<R: AsOctets + Copy>(capabilities: Capabilities<R>)
+    ensures { (row : List WrittenParameter) × Each IsCapabilityAnew (capabilities_left capabilities) row }
+{
+    let mut ahead = capabilities;
+    'capabilities: while let Some(capability) = ahead.next() {
+        let _value = capability.value();
+    }
+}
+
+/// Reads the value of a parameter, and those of its capabilities.
+fn read_parameter<R: AsOctets + Copy>(parameter: &Parameter<R>)
+    ensures { (p : WrittenParameter) × IsParameterAnew (parameter_of parameter.now) p }
+{
+    match parameter.value() {
+        ParameterValue::Capabilities(capabilities) => read_capabilities(capabilities),
+        ParameterValue::Opaque(_) => {}
+    }
+}
+
+/// Does so for each parameter.
+fn read_parameters<R: AsOctets + Copy>(parameters: Parameters<R>)
+    ensures { (row : List WrittenParameter) × Each IsParameterAnew (parameters_left parameters) row }
+{
+    let mut ahead = parameters;
+    'parameters: while let Some(parameter) = ahead.next() {
+        read_parameter(&parameter);
+    }
 }
 
 /// Appends families of a graceful restart, whose flags keep only their first bit.
@@ -222,8 +213,9 @@ fn put_capability<R: AsOctets + Copy, B: OctetsBuilder>(
     octets: &mut B,
     capability: &Capability<R>,
 ) -> Result<(), AllocError>
-    requires anew { (c : WrittenParameter) × IsCapabilityAnew (capability_of capability.now) c
-        × IsWithin B.limit (length (B.content octets.old) + length (parameter_octets false c)) }
+    requires sound { IsSound (window capability.now.octets) }
+    requires within { IsWithin B.limit (length (B.content octets.old)
+        + length (parameter_octets false (says_parameter (capability_of capability.now)))) }
     ensures ok { OnOk result ((c : WrittenParameter) × IsCapabilityAnew (capability_of capability.now) c
         × (B.content octets.new ≡ B.content octets.old ++ parameter_octets false c)) }
     ensures memory { IsErr result → B.asks ≡ true }
@@ -240,11 +232,11 @@ fn put_capabilities<R: AsOctets + Copy, B: OctetsBuilder>(
     octets: &mut B,
     capabilities: Capabilities<R>,
 ) -> Result<(), AllocError>
-    requires anew { (row : List WrittenParameter) × Each IsCapabilityAnew (capabilities_left capabilities) row
-        × IsWithin B.limit (length (B.content octets.old) + length (parameters_octets false row)) }
-    ensures ok { OnOk result ((row : List WrittenParameter)
-        × Each IsCapabilityAnew (capabilities_left capabilities) row
-        × (B.content octets.new ≡ B.content octets.old ++ parameters_octets false row)) }
+    requires sound { AreItemsSound (capabilities_left capabilities) }
+    requires within { IsWithin B.limit (length (B.content octets.old)
+        + length (said_octets false (capabilities_left capabilities))) }
+    ensures ok { OnOk result (Appended IsCapabilityAnew (parameter_octets false) (capabilities_left capabilities)
+        (B.content octets.old) (B.content octets.new)) }
     ensures memory { IsErr result → B.asks ≡ true }
     ensures borrows { B.borrows octets.new ≡ B.borrows octets.old }
 {
@@ -260,8 +252,9 @@ fn put_inside<R: AsOctets + Copy, B: OctetsBuilder>(
     octets: &mut B,
     parameter: &Parameter<R>,
 ) -> Result<(), AllocError>
-    requires anew { (p : WrittenParameter) × IsParameterAnew (parameter_of parameter.now) p
-        × IsWithin B.limit (length (B.content octets.old) + length p.1) }
+    requires sound { IsSound (window parameter.now.value) }
+    requires within { IsWithin B.limit (length (B.content octets.old)
+        + length (rest (window parameter.now.value))) }
     ensures ok { OnOk result ((p : WrittenParameter) × IsParameterAnew (parameter_of parameter.now) p
         × (B.content octets.new ≡ B.content octets.old ++ p.1)) }
     ensures memory { IsErr result → B.asks ≡ true }
@@ -279,16 +272,16 @@ fn put_parameter<R: AsOctets + Copy, B: OctetsBuilder>(
     long: bool,
     parameter: &Parameter<R>,
 ) -> Result<(), AllocError>
-    requires few { left (window parameter.now.value) ≤ 4096 }
-    requires anew { (p : WrittenParameter) × IsParameterAnew (parameter_of parameter.now) p
-        × (length (parameter_octets long p) ≤ most_parameters long)
-        × IsWithin B.limit (length (B.content octets.old) + length (parameter_octets long p)) }
+    requires sound { IsSound (window parameter.now.value) }
+    requires fit { length (rest (window parameter.now.value)) < 256 ^ length_octets long }
+    requires within { IsWithin B.limit (length (B.content octets.old)
+        + length (parameter_octets long (says_parameter (parameter_of parameter.now)))) }
     ensures ok { OnOk result ((p : WrittenParameter) × IsParameterAnew (parameter_of parameter.now) p
         × (B.content octets.new ≡ B.content octets.old ++ parameter_octets long p)) }
     ensures memory { IsErr result → B.asks ≡ true }
     ensures borrows { B.borrows octets.new ≡ B.borrows octets.old }
 {
-    let len = value_len(parameter);
+    let len = parameter.value.remaining();
     put_head(octets, long, parameter.kind, len)?;
     put_inside(octets, parameter)
 }
@@ -299,12 +292,12 @@ fn put_parameters<R: AsOctets + Copy, B: OctetsBuilder>(
     long: bool,
     parameters: Parameters<R>,
 ) -> Result<(), AllocError>
-    requires few { read_len 1 (parameters_left parameters) ≤ 4096 }
-    requires anew { (row : List WrittenParameter) × Each IsParameterAnew (parameters_left parameters) row
-        × (length (parameters_octets long row) ≤ most_parameters long)
-        × IsWithin B.limit (length (B.content octets.old) + length (parameters_octets long row)) }
-    ensures ok { OnOk result ((row : List WrittenParameter) × Each IsParameterAnew (parameters_left parameters) row
-        × (B.content octets.new ≡ B.content octets.old ++ parameters_octets long row)) }
+    requires sound { AreItemsSound (parameters_left parameters) }
+    requires fit { length (said_octets long (parameters_left parameters)) ≤ most_parameters long }
+    requires within { IsWithin B.limit (length (B.content octets.old)
+        + length (said_octets long (parameters_left parameters))) }
+    ensures ok { OnOk result (Appended IsParameterAnew (parameter_octets long) (parameters_left parameters)
+        (B.content octets.old) (B.content octets.new)) }
     ensures memory { IsErr result → B.asks ≡ true }
     ensures borrows { B.borrows octets.new ≡ B.borrows octets.old }
 {
@@ -387,7 +380,7 @@ pub(super) fn rewrite_open<R: AsOctets + Copy, B: OctetsBuilder + Truncate>(
     message: &OpenMessage<R>,
     mut octets: B,
 ) -> Result<B, AppendError>
-    requires { (w : Window) × IsOpen w (open_of message.now) × (left w ≤ 4077) }
+    requires { (w : Window) × IsOpen w (open_of message.now) × IsSound w × (left w ≤ 4077) }
     ensures rewritten { IfOk result (λ b. IsOpenRewritten (open_of message.now) (B.content b)) }
     ensures short { IsShort append_error result ↔ (out : List ℕ) × IsOpenRewritten (open_of message.now) out
         × IsPast B.limit (length out) }
@@ -397,6 +390,7 @@ pub(super) fn rewrite_open<R: AsOctets + Copy, B: OctetsBuilder + Truncate>(
     let form = form_of(message.parameters);
     octets.truncate(0);
     if is_past(&octets, front_len(form.long) + form.len) {
+        read_parameters(message.parameters);
         return Err(AppendError::Short(ShortBuf));
     }
     if let Err(AllocError) = put_front(&mut octets, message, form.long, form.len) {

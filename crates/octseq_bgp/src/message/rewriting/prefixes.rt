@@ -1,8 +1,9 @@
 //! Prefixes that are written anew: RFC 4271, 4.3.
-ghost use Rattle.std.specs.Prelude.{◌≡◌, ◌≤◌, ◌+◌, ◌++◌, length, true, IsErr, OnOk};
+ghost use Rattle.std.specs.Prelude.{◌≡◌, ◌≤◌, ◌+◌, length};
 ghost use Rattle.octseq.specs.Limit.{IsWithin};
 ghost use Rattle.octseq_bgp.specs.Lists.{nlri_of, prefixes_left};
-ghost use Rattle.octseq_bgp.specs.Rewritten.{prefix_anew, prefixes_anew};
+ghost use Rattle.octseq_bgp.specs.Puts.{PutsSome};
+ghost use Rattle.octseq_bgp.specs.Rewritten.{AreFew, prefix_anew, prefixes_anew};
 ghost use Rattle.octseq_bgp.specs.Written.{prefix_octets, prefixes_octets};
 
 use crate::message::update_builder::prefix_octets::{PrefixOctets, octets_of_bits};
@@ -42,9 +43,8 @@ fn put_prefix<R: AsOctets + Copy, B: OctetsBuilder>(
     requires bits { nlri.now.len ≤ 128 }
     requires within { IsWithin B.limit (length (B.content builder.old)
         + length (prefix_octets (prefix_anew (nlri_of nlri.now)))) }
-    ensures ok { OnOk result (B.content builder.new
-        ≡ B.content builder.old ++ prefix_octets (prefix_anew (nlri_of nlri.now))) }
-    ensures memory { IsErr result → B.asks ≡ true }
+    ensures puts { PutsSome B.asks result (prefix_octets (prefix_anew (nlri_of nlri.now)))
+        (B.content builder.old) (B.content builder.new) }
     ensures borrows { B.borrows builder.new ≡ B.borrows builder.old }
 {
     let prefix = nlri.prefix();
@@ -57,14 +57,15 @@ pub(super) fn put_prefixes<R: AsOctets + Copy, B: OctetsBuilder>(
     builder: &mut B,
     prefixes: Prefixes<R>,
 ) -> Result<(), AllocError>
-    requires { IsWithin B.limit (length (B.content builder.old)
+    requires few { AreFew (prefixes_left prefixes) }
+    requires within { IsWithin B.limit (length (B.content builder.old)
         + length (prefixes_octets (prefixes_anew (prefixes_left prefixes)))) }
-    ensures ok { OnOk result (B.content builder.new
-        ≡ B.content builder.old ++ prefixes_octets (prefixes_anew (prefixes_left prefixes))) }
-    ensures memory { IsErr result → B.asks ≡ true }
+    ensures puts { PutsSome B.asks result (prefixes_octets (prefixes_anew (prefixes_left prefixes)))
+        (B.content builder.old) (B.content builder.new) }
     ensures borrows { B.borrows builder.new ≡ B.borrows builder.old }
 {
-    for nlri in prefixes {
+    let mut ahead = prefixes;
+    'prefixes: while let Some(nlri) = ahead.next() {
         put_prefix(builder, &nlri)?;
     }
     Ok(())

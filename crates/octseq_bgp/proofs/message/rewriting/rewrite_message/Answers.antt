@@ -8,7 +8,7 @@ pub rewrite_open-requires : goal.rewrite_open-requires
 rewrite_open-requires g c =
     let s = c.args.session.now in
     let octets = c.args.octets.now in
-    open_in s octets (open_of c.in-Open.it)
+    open_in s octets (open_of c.in-Open.it) c.are_octets.ensures
     (subst (λ m. IsMessage s octets (message_of m)) c.in-Open.is c.requires)
 
 pub rewrite_update-requires : goal.rewrite_update-requires

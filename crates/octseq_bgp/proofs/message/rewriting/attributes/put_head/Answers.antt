@@ -1,7 +1,7 @@
-use Rattle.std.proofs.Common.{◌≡◌, ◌+◌, ◌*◌, ◌/◌, ◌++◌, ◌∷◌, [], get_or, length, sym, ap, ◌∙◌, subst, arith}
-use Rattle.std.specs.Prelude.{OnOk}
+use Rattle.std.proofs.Common.{◌+◌, ◌*◌, ◌/◌, ◌∷◌, [], get_or, length, sym, ap, ◌∙◌, subst, arith}
 use Rattle.octseq.specs.Limit.{IsWithin}
 use Rattle.octseq.proofs.Written.{made_be_2}
+use Rattle.octseq_bgp.specs.Puts.{PutsSome}
 use Rattle.octseq_bgp.proofs.Rewriting.{head_few, head_many}
 use Rattle.octseq_bgp.proofs.message.rewriting.attributes.put_head.Goals as goal
 
@@ -11,12 +11,13 @@ put_slice-requires g c =
     let content = g.B.AsOctets.content in
     subst (λ o. IsWithin g.B.AsOctets.limit (length (content c.args.builder.now) + length o)) is c.requires.within
 
-pub returns-then-len-le255-clause-ok : goal.returns-then-len-le255-clause-ok
-returns-then-len-le255-clause-ok g c =
+pub returns-then-len-le255-clause-puts : goal.returns-then-len-le255-clause-puts
+returns-then-len-le255-clause-puts g c =
     let is = head_few c.args.flags c.args.type_code c.args.len c.if-len-le255.true (omega arith) (omega arith) in
     let content = g.B.AsOctets.content in
-    subst (λ o. OnOk c.put_slice.result (content c.put_slice.new.builder ≡ content c.args.builder.now ++ o))
-    (sym is) c.put_slice.ensures.puts.ok
+    subst (λ o. PutsSome g.B.AsOctets.asks c.put_slice.result o (content c.args.builder.now)
+    (content c.put_slice.new.builder)) (sym is)
+    c.put_slice.ensures.some
 
 pub put_slice-requires-2 : goal.put_slice-requires-2
 put_slice-requires-2 g c =
@@ -28,13 +29,14 @@ put_slice-requires-2 g c =
     let content = g.B.AsOctets.content in
     subst (λ o. IsWithin g.B.AsOctets.limit (length (content c.args.builder.now) + length o)) is c.requires.within
 
-pub returns-clause-ok : goal.returns-clause-ok
-returns-clause-ok g c =
+pub returns-clause-puts : goal.returns-clause-puts
+returns-clause-puts g c =
     let flags = c.args.flags / 32 * 32 + 16 in
     let kind = c.args.type_code in
     let is = head_many c.args.flags kind c.args.len (omega arith) (omega arith) (omega arith)
     ∙ sym (ap (λ o. flags ∷ kind ∷ get_or o 0 0 ∷ get_or o 1 0 ∷ []) c.to_be_bytes-len.ensures
     ∙ ap (λ o. flags ∷ kind ∷ o) (made_be_2 c.args.len)) in
     let content = g.B.AsOctets.content in
-    subst (λ o. OnOk c.put_slice-2.result (content c.put_slice-2.new.builder ≡ content c.args.builder.now ++ o))
-    (sym is) c.put_slice-2.ensures.puts.ok
+    subst (λ o. PutsSome g.B.AsOctets.asks c.put_slice-2.result o (content c.args.builder.now)
+    (content c.put_slice-2.new.builder)) (sym is)
+    c.put_slice-2.ensures.some

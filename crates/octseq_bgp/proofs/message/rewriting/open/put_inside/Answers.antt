@@ -1,50 +1,48 @@
-use Rattle.std.proofs.Common.{◌+◌, ◌++◌, false, length, sym, ap, ◌∙◌, subst}
+use Rattle.std.proofs.Common.{◌+◌, ◌++◌, false, length, refl, sym, ap, ◌∙◌, subst}
 use Rattle.octseq.specs.Limit.{IsWithin}
+use Rattle.octseq.specs.Parser.{window}
+use Rattle.octseq.specs.Window.{rest}
+use Rattle.octseq_bgp.specs.Capability.{ParameterValue}
 use Rattle.octseq_bgp.specs.CapabilityOf.{capabilities_left}
-use Rattle.octseq_bgp.specs.Lists.{parameter_of}
 use Rattle.octseq_bgp.specs.WrittenOpen.{parameters_octets}
-use Rattle.octseq_bgp.proofs.RewrittenOpens.{inside_rest, inside_row, ok_map, one_each, one_capability}
+use Rattle.octseq_bgp.proofs.Appending.{if_ok}
+use Rattle.octseq_bgp.proofs.WrittenBack.{items_back}
 use Rattle.octseq_bgp.proofs.message.rewriting.open.put_inside.Goals as goal
 
-pub put_capabilities-requires : goal.put_capabilities-requires
-put_capabilities-requires g c =
-    let it = c.requires.anew in
-    let inside = inside_row (parameter_of c.args.parameter.now) it.0 _ it.1 c.in-Capabilities.ensures in
-    record {
-      anew = (
-        inside.0,
-        inside.1,
-        subst (λ o. IsWithin g.B.AsOctets.limit (length (g.B.AsOctets.content c.args.octets.now) + length o)) inside.2
-            it.2,
-      );
-    }
+pub put_capabilities-requires-clause-sound : goal.put_capabilities-requires-clause-sound
+put_capabilities-requires-clause-sound g c =
+    (items_back false (window c.args.parameter.now.value) _ c.requires.sound c.in-Capabilities.ensures.1).1
+
+pub put_capabilities-requires-clause-within : goal.put_capabilities-requires-clause-within
+put_capabilities-requires-clause-within g c =
+    subst (λ o. IsWithin g.B.AsOctets.limit (length (g.B.AsOctets.content c.args.octets.now) + length o))
+    (items_back false (window c.args.parameter.now.value) _ c.requires.sound c.in-Capabilities.ensures.1).0
+    c.requires.within
 
 pub put_slice-requires : goal.put_slice-requires
 put_slice-requires g c =
-    let it = c.requires.anew in
-    let inside = inside_rest (parameter_of c.args.parameter.now) it.0 _ it.1 c.in-Opaque.ensures in
     subst (λ o. IsWithin g.B.AsOctets.limit (length (g.B.AsOctets.content c.args.octets.now) + length o))
-    (inside ∙ sym c.peek_all.ensures.content) it.2
+    (sym (c.peek_all.ensures.content ∙ ap rest c.in-Opaque.ensures.0)) c.requires.within
 
 pub returns-in-Capabilities-clause-ok : goal.returns-in-Capabilities-clause-ok
-returns-in-Capabilities-clause-ok g c =
-    let it = c.requires.anew in
-    let row = capabilities_left c.in-Capabilities.capabilities in
-    let inside = inside_row (parameter_of c.args.parameter.now) it.0 row it.1 c.in-Capabilities.ensures in
-    ok_map c.put_capabilities.result (λ put. (
-      it.0,
-      it.1,
-      put.2 ∙ ap (λ row. g.B.AsOctets.content c.args.octets.now ++ parameters_octets false row)
-          (one_each one_capability row put.0 inside.0 put.1 inside.1)
-          ∙ ap (λ o. g.B.AsOctets.content c.args.octets.now ++ o) (sym inside.2),
+returns-in-Capabilities-clause-ok g c = if_ok c.put_capabilities.result (λ put.
+    let octets = parameters_octets false put.0 in (
+      (c.args.parameter.now.kind, octets),
+      (
+        ParameterValue.capabilities (capabilities_left c.in-Capabilities.capabilities),
+        octets,
+        c.in-Capabilities.ensures,
+        (put.0, put.1, refl),
+        refl,
+      ),
+      put.2,
     )) c.put_capabilities.ensures.ok
 
 pub returns-in-Opaque-clause-ok : goal.returns-in-Opaque-clause-ok
 returns-in-Opaque-clause-ok g c =
-    let it = c.requires.anew in
-    let inside = inside_rest (parameter_of c.args.parameter.now) it.0 _ it.1 c.in-Opaque.ensures in
-    ok_map c.put_slice.result (λ put. (
-      it.0,
-      it.1,
-      put ∙ ap (λ o. g.B.AsOctets.content c.args.octets.now ++ o) (c.peek_all.ensures.content ∙ sym inside),
+    let w = window c.in-Opaque.read in
+    if_ok c.put_slice.result (λ put. (
+      (c.args.parameter.now.kind, rest w),
+      (ParameterValue.opaque w, rest w, c.in-Opaque.ensures, refl, refl),
+      put ∙ ap (λ o. g.B.AsOctets.content c.args.octets.now ++ o) c.peek_all.ensures.content,
     )) c.put_slice.ensures.puts.ok

@@ -1,19 +1,21 @@
--- The parameters that aren't ahead were appended.
-use Rattle.std.proofs.Common.{◌≡◌, ◌≤◌, length}
+-- If those ahead are appended to what there is, all are to what there was. Those ahead may be.
+use Rattle.std.proofs.Common.{◌≡◌, ◌+◌, ◌≤◌, length}
+use Rattle.octseq.specs.Limit.{IsWithin}
 use Rattle.octseq_bgp.specs.Lists.{parameters_left}
-use Rattle.octseq_bgp.specs.RewrittenOpen.{IsParameterAnew, read_len}
-use Rattle.octseq_bgp.specs.WrittenOpen.{most_parameters, parameters_octets}
-use Rattle.octseq_bgp.proofs.RewrittenOpens.{Putting}
+use Rattle.octseq_bgp.specs.RewrittenOpen.{AreItemsSound, IsParameterAnew, said_octets}
+use Rattle.octseq_bgp.specs.WrittenOpen.{most_parameters, parameter_octets}
+use Rattle.octseq_bgp.proofs.Appending.{Goes}
 use Rattle.octseq_bgp.proofs.message.rewriting.open.put_parameters.Given as goal
 
 abbrev pub invariant-parameters : goal.invariant-parameters
 invariant-parameters g l =
     let b = g.B.AsOctets in
     record {
-      putting : Putting IsParameterAnew b.limit l.long (parameters_left l.fn.parameters) (parameters_left l.ahead)
+      goes : Goes IsParameterAnew (parameter_octets l.long) (parameters_left l.fn.parameters) (parameters_left l.ahead)
           (b.content l.fn.octets) (b.content l.octets);
-      short : length (parameters_octets l.long putting.row) ≤ most_parameters l.long;
-      few : read_len 1 (parameters_left l.ahead) ≤ 4096;
+      sound : AreItemsSound (parameters_left l.ahead);
+      fit : length (said_octets l.long (parameters_left l.ahead)) ≤ most_parameters l.long;
+      within : IsWithin b.limit (length (b.content l.octets) + length (said_octets l.long (parameters_left l.ahead)));
       borrows : b.borrows l.octets ≡ b.borrows l.fn.octets;
     }
 

@@ -1,4 +1,4 @@
-use Rattle.std.proofs.Common.{◌≡◌, length, ap, ◌∙◌, arith}
+use Rattle.std.proofs.Common.{length, ap, ◌∙◌, arith}
 use Rattle.octseq.proofs.Written.{length_be}
 use Rattle.octseq_bgp.specs.Lists.{nlri_of}
 use Rattle.octseq_bgp.specs.Written.{path_octets}

@@ -1,7 +1,7 @@
-use Rattle.std.proofs.Common.{◌≡◌, ◌+◌, ◌++◌, length, sym, ◌∙◌, subst}
-use Rattle.std.specs.Prelude.{OnOk}
+use Rattle.std.proofs.Common.{◌+◌, length, sym, ◌∙◌, subst}
 use Rattle.octseq.specs.Limit.{IsWithin}
 use Rattle.octseq_bgp.specs.Lists.{nlri_of}
+use Rattle.octseq_bgp.specs.Puts.{PutsSome}
 use Rattle.octseq_bgp.proofs.Rewriting.{written_again}
 use Rattle.octseq_bgp.proofs.message.rewriting.prefixes.put_prefix.Goals as goal
 
@@ -13,11 +13,12 @@ put_slice-requires g c =
     let content = g.B.AsOctets.content in
     subst (λ o. IsWithin g.B.AsOctets.limit (length (content c.args.builder.now) + length o)) (sym is) c.requires.within
 
-pub returns-clause-ok : goal.returns-clause-ok
-returns-clause-ok g c =
+pub returns-clause-puts : goal.returns-clause-puts
+returns-clause-puts g c =
     let prefix = c.prefix-prefix in
     let is = c.as_slice.ensures ∙ c.new-octets.ensures.octets
     ∙ written_again (nlri_of c.args.nlri.now) prefix.result c.requires.bits prefix.ensures.len prefix.ensures.address in
     let content = g.B.AsOctets.content in
-    subst (λ o. OnOk c.put_slice.result (content c.put_slice.new.builder ≡ content c.args.builder.now ++ o)) is
-    c.put_slice.ensures.puts.ok
+    subst (λ o. PutsSome g.B.AsOctets.asks c.put_slice.result o (content c.args.builder.now)
+    (content c.put_slice.new.builder)) is
+    c.put_slice.ensures.some
