@@ -1,69 +1,41 @@
-use Rattle.std.proofs.Common.{◌≡◌, true, false, length, length-append, refl, ap, subst, ◌∙◌, arith}
+use Rattle.std.proofs.Common.{◌≡◌, true, false, length, refl, ap, subst, sym, ◌∙◌, arith, length-append}
 use Rattle.std.specs.Prelude.{◌↔◌, IsTrue}
-use Rattle.octseq_bgp.specs.WrittenOpen.{front_len, parameter_octets, parameters_octets, with_lengths}
-use Rattle.octseq_bgp.proofs.WrittenOpens.{appended, can_follow, has_more, length_open, refused_malformed, refused_memory}
-use Rattle.octseq_bgp.proofs.WrittenOpens.{refused_short, written_more}
+use Rattle.octseq_bgp.specs.Composed.{long_after, message_octets}
+use Rattle.octseq_bgp.specs.OneOpen.{same_open}
+use Rattle.octseq_bgp.specs.WrittenOpen.{HoldsOpen, IsOpenWritten, front_len, with_parameter}
+use Rattle.octseq_bgp.proofs.WrittenOpens.{can_follow, open_more, open_within, pushed, written_more}
 use Rattle.octseq_bgp.proofs.message.open_builder.append_parameter.Goals as goal
 
-pub returns-in_default-clause-appends : goal.returns-in_default-clause-appends
-returns-in_default-clause-appends g c = λ o was.
+pub returns-in_default-clause-pushes : goal.returns-in_default-clause-pushes
+returns-in_default-clause-pushes g c o now was is =
     let p = g.P.ComposeParameter.says c.args.parameter.now in
-    let old = g.B.AsOctets.content c.args.octets.now in
     let first = subst (λ n. IsTrue c.has_none-is_first.result ↔ (n ≡ front_len c.args.long)) c.len.ensures.content
     c.has_none-is_first.ensures in
-    refused_malformed p o old
-    (λ can.
-    let fits = (can_follow c.args.long old o p c.has_none-is_first.result was first).0 can.1 in
-    let some : false ≡ true = c.in_default.ensures.fit.1 (can.0, fits.0, fits.1) in
-    absurd (cc))
+    let can = can_follow c.args.long _ o p c.has_none-is_first.result was first in
+    let fit = c.in_default.ensures.fit in
+    record {
+      ok = tt;
+      err = same_open c.args.long _ now o is was;
+      malformed = (λ _ good. let fits = can.0 good.1 in absurd (fit.1 (good.0, fits.0, fits.1)), λ _. tt);
+      short = (λ none. absurd none, λ has. let fits = can.0 has.0.1 in absurd (fit.1 (has.0.0, fits.0, fits.1)));
+      memory = λ none. absurd none;
+    }
 
-pub returns-then-not-has_room-clause-appends : goal.returns-then-not-has_room-clause-appends
-returns-then-not-has_room-clause-appends g c = λ o was.
-    let p = g.P.ComposeParameter.says c.args.parameter.now in
-    let old = g.B.AsOctets.content c.args.octets.now in
-    let first = subst (λ n. IsTrue c.has_none-is_first.result ↔ (n ≡ front_len c.args.long)) c.len.ensures.content
-    c.has_none-is_first.ensures in
-    let fit = c.in-Some.ensures.fit.0 refl in
-    let can = (can_follow c.args.long old o p c.has_none-is_first.result was first).1 (fit.1, fit.2) in
-    let room = has_more g.B.AsOctets.limit c.args.long old o p c.in-Some.more was c.in-Some.ensures.some in
-    refused_short p o old (fit.0, can)
-    (λ has. let there : false ≡ true = c.if-not-has_room.ensures.1 (room.0 has) in absurd (cc))
+pub write-requires-clause-some : goal.write-requires-clause-some
+write-requires-clause-some g c = (open_within c.args.long c.requires.0 c.requires.1).0
 
-pub returns-in-Err-clause-appends : goal.returns-in-Err-clause-appends
-returns-in-Err-clause-appends g c = λ o was.
+pub write-requires-clause-now : goal.write-requires-clause-now
+write-requires-clause-now g c = (open_within c.args.long c.requires.0 c.requires.1).1
+
+pub returns-in-Ok-clause-pushes : goal.returns-in-Ok-clause-pushes
+returns-in-Ok-clause-pushes g c o now was is =
     let p = g.P.ComposeParameter.says c.args.parameter.now in
-    let old = g.B.AsOctets.content c.args.octets.now in
     let first = subst (λ n. IsTrue c.has_none-is_first.result ↔ (n ≡ front_len c.args.long)) c.len.ensures.content
     c.has_none-is_first.ensures in
     let fit = c.in-Some.ensures.fit.0 refl in
-    let can = (can_follow c.args.long old o p c.has_none-is_first.result was first).1 (fit.1, fit.2) in
-    let room = has_more g.B.AsOctets.limit c.args.long old o p c.in-Some.more was c.in-Some.ensures.some in
-    refused_memory p o old _ (fit.0, can) (room.1 (c.if-not-has_room.ensures.0 refl)) (c.in-Err.ensures.puts.memory refl)
-    c.in-Err.ensures.puts.err
-
-pub set_lengths-requires-clause-some : goal.set_lengths-requires-clause-some
-set_lengths-requires-clause-some g c =
-    let p = g.P.ComposeParameter.says c.args.parameter.now in
-    let old = g.B.AsOctets.content c.args.octets.now in
-    let o = c.requires.0 in
-    let long = length_open o (parameters_octets o.long o.parameters) in
-    let form = ap front_len c.requires.1.form in
-    let are = ap length c.requires.1.are in
-    let put = ap length c.in_default-put_parameter.ensures.puts.ok in
-    let both = length-append old (parameter_octets c.args.long p) in
-    omega (arith, long, form, are, put, both)
-
-pub returns-clause-appends : goal.returns-clause-appends
-returns-clause-appends g c = λ o was.
-    let p = g.P.ComposeParameter.says c.args.parameter.now in
-    let old = g.B.AsOctets.content c.args.octets.now in
-    let first = subst (λ n. IsTrue c.has_none-is_first.result ↔ (n ≡ front_len c.args.long)) c.len.ensures.content
-    c.has_none-is_first.ensures in
-    let fit = c.in-Some.ensures.fit.0 refl in
-    let can = (can_follow c.args.long old o p c.has_none-is_first.result was first).1 (fit.1, fit.2) in
-    let room = has_more g.B.AsOctets.limit c.args.long old o p c.in-Some.more was c.in-Some.ensures.some in
-    let there = room.1 (c.if-not-has_room.ensures.0 refl) in
-    let put = c.in_default-put_parameter.ensures.puts.ok in
-    appended p o old _ (fit.0, can) there
-    (written_more g.B.AsOctets.limit c.args.long old _ o p was can there
-    (c.set_lengths.ensures.content ∙ ap (with_lengths c.args.long) put))
+    let can = (can_follow c.args.long _ o p c.has_none-is_first.result was first).1 (fit.1, fit.2) in
+    let done = c.in-Ok.ensures.extends 1 _ was.are in
+    let more = open_more c.args.long o p was (λ kind body e. (c.in-Ok.ensures.extends kind body e).ok)
+    c.count_parameters.ensures.content in
+    pushed c.args.long o p was done now (fit.0, can)
+    (same_open c.args.long _ now (with_parameter o p) is (written_more c.args.long o p was can done.short.1 more)) tt

@@ -1,7 +1,8 @@
-use Rattle.std.proofs.Common.{[], refl, ◌∙◌, arith}
-use Rattle.octseq_bgp.proofs.UpdateParts.{empty_body, known}
+use Rattle.std.proofs.Common.{[], refl, ◌∙◌, ap, length, arith}
+use Rattle.octseq_bgp.proofs.UpdateParts.{empty_octets, known}
 use Rattle.octseq_bgp.proofs.message.update_builder.octets.UpdateOctets.begin.Goals as goal
 
 pub invariant_of-result : goal.invariant_of-result
 invariant_of-result g c =
-    (known _ _ 0 0 [] [] [] c.in-Ok.ensures.kind (c.in-Ok.ensures.body ∙ empty_body) refl refl (omega arith)).are
+    known c.in-Ok.octets [] [] [] (c.in-Ok.ensures.ok ∙ empty_octets) refl refl
+    (omega (arith, ap length c.in-Ok.ensures.ok))
