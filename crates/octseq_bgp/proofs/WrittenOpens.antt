@@ -32,6 +32,12 @@ unfolding octets_be
 body_long true o ps = omega arith
 body_long false o ps = omega arith
 
+-- what follows its header
+abbrev pub open_body : WrittenOpen → List ℕ
+open_body o =
+    let ps = parameters_octets o.long o.parameters in
+    numbers_octets o ++ (lengths o.long (length ps) ++ ps)
+
 -- an OPEN has so many octets more than its parameters
 pub length_open : (o : WrittenOpen) (ps : List ℕ) → length (open_with o ps) ≡ front_len o.long + length ps
 length_open o ps =
@@ -180,14 +186,12 @@ can_follow long old o p first was is =
 pub open_within : (long : Bool) (o : WrittenOpen) {old : List ℕ} → IsOpenWritten long old o
     → (19 ≤ length old) × (front_len long ≤ length old) × (length old ≤ open_max long)
 open_within long o was =
-    let ps = parameters_octets o.long o.parameters in
-    let body = numbers_octets o ++ (lengths o.long (length ps) ++ ps) in
     let all = ap length was.are in
-    let many = length_open o ps in
+    let many = length_open o (parameters_octets o.long o.parameters) in
     let form = ap front_len was.form in
     let most = ap most_parameters was.form in
     (
-      omega (arith, all, long_after (19 + length body) 1 body),
+      omega (arith, all, long_after (19 + length (open_body o)) 1 (open_body o)),
       omega (arith, all, many, form),
       omega (arith, all, many, form, most, was.fits.few, was.fits.short),
     )
@@ -195,18 +199,15 @@ open_within long o was =
 module _ (long : Bool) (o : WrittenOpen) (p : WrittenParameter) {old : List ℕ} (was : IsOpenWritten long old o) where
   -- its body, and the octets of a parameter
   abbrev extended : List ℕ
-  extended =
-      let ps = parameters_octets o.long o.parameters in
-      (numbers_octets o ++ (lengths o.long (length ps) ++ ps)) ++ parameter_octets long p
+  extended = open_body o ++ parameter_octets long p
 
   extended_long : length (message_octets 1 extended)
       ≡ front_len long + length (parameters_octets o.long (o.parameters ++ p ∷ []))
   extended_long =
       let ps = parameters_octets o.long o.parameters in
-      let body = numbers_octets o ++ (lengths o.long (length ps) ++ ps) in
       let row = ap length (row_more o.long o.parameters p) in
       let both = length-append ps (parameter_octets o.long p) in
-      let all = length-append body (parameter_octets long p) in
+      let all = length-append (open_body o) (parameter_octets long p) in
       let form = ap (λ l. length (parameter_octets l p)) was.form in
       omega (arith, long_after (19 + length extended) 1 extended, body_long o.long o ps, row, both, all, form,
       ap front_len was.form)
@@ -217,7 +218,7 @@ module _ (long : Bool) (o : WrittenOpen) (p : WrittenParameter) {old : List ℕ}
       let ps = parameters_octets o.long (o.parameters ++ p ∷ []) in
       length_open (with_parameter o p) ps ∙ ap (λ l. front_len l + length ps) was.form
 
-  module _ {limit : Option ℕ} {asks : Bool} {result : Result (Unit {0}) WriteError} {new : List ℕ}
+  module _ (limit : Option ℕ) {asks : Bool} {result : Result (Unit {0}) WriteError} {new : List ℕ}
       (done : Extends write_error (least (open_max long) limit) asks result (message_octets 1 extended) old new) where
     -- it was too long for the call exactly if it has no room
     pub no_room : IsShort write_error result ↔ ¬ HasRoom limit (with_parameter o p)
@@ -241,11 +242,19 @@ module _ (long : Bool) (o : WrittenOpen) (p : WrittenParameter) {old : List ℕ}
       memory = done.memory;
     }
 
+  pub extended_within : (limit : Option ℕ) {between : List ℕ} → between ≡ message_octets 1 extended
+      → ¬ (least (open_max long) limit < length (message_octets 1 extended))
+      → (front_len long ≤ length between) × (length between ≤ open_max long)
+  extended_within limit is fits =
+      let within = lt_of_not-le fits in
+      let same = ap length is in
+      (omega (arith, same, extended_long), omega (arith, same, within, least_most (open_max long) limit))
+
   -- octets that were an OPEN are one with another parameter
-  pub written_more : {limit : Option ℕ} {now : List ℕ} → CanFollow o p
+  pub written_more : (limit : Option ℕ) {now : List ℕ} → CanFollow o p
       → ¬ (least (open_max long) limit < length (message_octets 1 extended)) → now ≡ open_octets (with_parameter o p)
       → IsOpenWritten long now (with_parameter o p)
-  written_more {limit} can fits is =
+  written_more limit can fits is =
       let within = lt_of_not-le fits in
       let most = ap most_parameters was.form in
       let fewer = least_most (open_max long) limit in

@@ -123,10 +123,11 @@ fn parameter_len<P: ComposeParameter>(parameter: &P, long: bool, is_first: bool)
     Some(2 + len)
 }
 
-/// Whether an OPEN of so many octets has no parameters.
-fn has_none(len: usize, long: bool) -> bool
-    ensures { IsTrue result ↔ (len ≡ front_len long) }
+/// Whether an OPEN has no parameters.
+fn has_none<B: AsOctets>(octets: &B, long: bool) -> bool
+    ensures { IsTrue result ↔ (length (B.content octets.now) ≡ front_len long) }
 {
+    let len = octets.len();
     if long { len == 32 } else { len == 29 }
 }
 
@@ -230,7 +231,7 @@ fn append_parameter<B: OctetsBuilder + Truncate + AsOctetsMut, P: ComposeParamet
         (P.has parameter.now × CanFollow o (P.says parameter.now)) result (P.says parameter.now) o now }
     ensures borrows { B.borrows octets.new ≡ B.borrows octets.old }
 {
-    let is_first = has_none(octets.len(), long);
+    let is_first = has_none(octets, long);
     let Some(len) = parameter_len(parameter, long, is_first) else {
         return Err(WriteError::Malformed);
     };
@@ -239,13 +240,11 @@ fn append_parameter<B: OctetsBuilder + Truncate + AsOctetsMut, P: ComposeParamet
         long,
         len,
     };
-    match write(octets, open_max(long), &formed) {
-        Ok(()) => {
-            count_parameters(octets, long);
-            Ok(())
-        }
-        Err(error) => Err(error),
+    if let Err(error) = write(octets, open_max(long), &formed) {
+        return Err(error);
     }
+    count_parameters(octets, long);
+    Ok(())
 }
 
 /// An OPEN that is written. Its octets are a message at all times.

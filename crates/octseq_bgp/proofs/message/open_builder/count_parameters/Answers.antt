@@ -1,4 +1,4 @@
-use Rattle.std.proofs.Common.{◌≡◌, ◌-◌, [], ◌∷◌, ◌++◌, length, ap, sym, ◌∙◌, Fits, w8, arith, append_assoc, length-append}
+use Rattle.std.proofs.Common.{◌≡◌, ℕ, ◌-◌, List, [], ◌∷◌, ◌++◌, length, ap, sym, ◌∙◌, Fits, w8, arith, append_assoc, length-append}
 use Rattle.octseq.specs.Integer.{octets_be}
 use Rattle.octseq.proofs.Written.{length_be, made_be_1, made_be_2}
 use Rattle.octseq_bgp.proofs.message.open_builder.count_parameters.Goals as goal
@@ -6,7 +6,7 @@ use Rattle.octseq_bgp.proofs.message.open_builder.count_parameters.Goals as goal
 pub returns-then-long-clause-content : goal.returns-then-long-clause-content
 returns-then-long-clause-content g c a ps n content front =
     let now = rw c.if-long.true at content in
-    let mark = 255 ∷ 255 ∷ [] in
+    let mark : List ℕ = 255 ∷ 255 ∷ [] in
     let old = octets_be 2 n in
     let all = ap length now ∙ length-append a (255 ∷ 255 ∷ (old ++ ps)) in
     let many : c.len-len.result - 32 ≡ length ps =
