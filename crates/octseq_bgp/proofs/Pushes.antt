@@ -163,6 +163,16 @@ module _ {B : Type 0} {Reaches : WrittenUpdate → Type 0} {s : SessionConfig} {
   pushes (Err e) puts wanted good session same first begun held update opens =
       pushes_err puts wanted good session same first begun held update opens
 
+-- a call of what is known to be good
+pub pushes_good : {B : Type 0} {limit : Option ℕ} {asks : Bool} {Good : Type 0} {wanted : WrittenUpdate}
+    {open_list : Option MpList} {before after : Writing B} (result : Result (Unit {0}) WriteError)
+    → Pushes limit asks Good result wanted open_list before after → Good
+    → Pushes limit asks (Unit {0}) result wanted open_list before after
+pushes_good result pushed good =
+    good_pushes result tt pushed.ok pushed.opens pushed.err pushed.kept pushed.session
+    (λ bad. pushed.malformed.0 bad good) (λ short. (pushed.short.0 short).1, λ past. pushed.short.1 (good, past))
+    pushed.memory
+
 -- a call that pushed, and then opened a list
 pub pushes_opened : {B : Type 0} {limit : Option ℕ} {asks : Bool} {Good Other : Type 0} {wanted : WrittenUpdate}
     {open_list other_list : Option MpList} {before between after : Writing B}

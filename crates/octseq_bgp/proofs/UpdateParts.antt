@@ -68,8 +68,7 @@ pub arranged_long : (W A N w a n : List ℕ) {slice : List ℕ} {at k x y : ℕ}
 arranged_long W A N w a n g =
     let two = length_be 2 (length A) in
     let was = simp length-append at (ap length g.was) in
-    let is = simp length-append at (ap length g.is) in
-    (
+    let is = simp length-append at (ap length g.is) in (
       omega (arith, two, was, is, g.over_is, g.between_is),
       omega (arith, g.over_is, g.old_is),
       omega (arith, two, was, g.at_is, g.over_is, g.old_is),
@@ -152,8 +151,7 @@ appended o {most} {parts = parts} tail (Ok done) are extends few =
     let is = done.ok ∙ ap (message_octets 2) same in
     let long = ap (λ b. length (message_octets 2 b)) same ∙ all_long w a (n ++ tail) in
     let made = found o w a (n ++ tail) is are.withdrawn_is are.attributes_is in
-    let within = lt_of_not-le done.short.1 in
-    (
+    let within = lt_of_not-le done.short.1 in (
       known o w a (n ++ tail) is are.withdrawn_is are.attributes_is (omega (arith, within, few, ap length done.ok)),
       record {
         withdrawn_is = ap (λ p. p.withdrawn) made;
@@ -173,8 +171,7 @@ appended o {most} {parts = parts} tail (Err e) are extends few =
     let same : body_octets w a n ++ tail ≡ body_octets w a (n ++ tail) = simp append_assoc in
     let long = ap (λ b. length (message_octets 2 b)) same ∙ all_long w a (n ++ tail) in
     let is = done.err ∙ are.is in
-    let made = found o w a n is are.withdrawn_is are.attributes_is in
-    (
+    let made = found o w a n is are.withdrawn_is are.attributes_is in (
       known o w a n is are.withdrawn_is are.attributes_is (omega (arith, ap length done.err, are.most)),
       record {
         withdrawn_is = tt;

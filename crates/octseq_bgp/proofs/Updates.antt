@@ -9,8 +9,8 @@ use Rattle.octseq_bgp.specs.Composed.{long_after}
 use Rattle.octseq_bgp.specs.Held.{Held, held_is, attribute_code, prefix_code, update_code}
 use Rattle.octseq_bgp.specs.PartOctets.{PartOctets}
 use Rattle.octseq_bgp.specs.Writing.{IsHeld, IsOpen, UpToWithdrawn, UpToAttributes, empty_update}
-use Rattle.octseq_bgp.specs.Written.{WrittenPrefix, WrittenAttribute, WrittenUpdate, body_octets, update_octets, UpdateFits}
-use Rattle.octseq_bgp.specs.Written.{prefixes_octets, attributes_octets, update_body, longest, PathFits, PrefixFits}
+use Rattle.octseq_bgp.specs.Written.{WrittenAttribute, WrittenUpdate, body_octets, update_octets, UpdateFits}
+use Rattle.octseq_bgp.specs.Written.{prefixes_octets, attributes_octets, update_body, longest, PathFits}
 use Rattle.octseq_bgp.specs.Written.{AttributeFits}
 use Rattle.octseq_bgp.specs.declared.message.update_builder.part.MpList.{MpList}
 use Rattle.octseq_bgp.specs.declared.prefix.PathId.{PathId}

@@ -11,10 +11,9 @@ use Rattle.octseq.specs.Integer.{octets_be}
 use Rattle.octseq.specs.Refusal.{IsShort, write_error}
 use Rattle.octseq.specs.declared.error.WriteError.{WriteError}
 use Rattle.octseq_bgp.specs.Composed.{Extends, header_octets, header_long, least, long_after, message_octets}
-use Rattle.octseq_bgp.specs.OneOpen.{same_open}
 use Rattle.octseq_bgp.specs.Open.{length_octets}
 use Rattle.octseq_bgp.specs.WrittenCapability.{WrittenCapability, capability_octets, written_code, written_value}
-use Rattle.octseq_bgp.specs.WrittenOpen.{CanFollow, FitsOpen, FitsParameter, HasRoom, HoldsOpen, IsOpenWritten}
+use Rattle.octseq_bgp.specs.WrittenOpen.{CanFollow, FitsOpen, FitsParameter, HasRoom, IsOpenWritten}
 use Rattle.octseq_bgp.specs.WrittenOpen.{PushesParameter, WrittenOpen, WrittenParameter, apart_at, bare_open, front_len}
 use Rattle.octseq_bgp.specs.WrittenOpen.{is_apart, lengths, most_parameters, numbers_octets, open_max, open_octets}
 use Rattle.octseq_bgp.specs.WrittenOpen.{open_with, parameter_octets, parameters_octets, with_parameter}
@@ -189,8 +188,7 @@ open_within long o was =
     let all = ap length was.are in
     let many = length_open o (parameters_octets o.long o.parameters) in
     let form = ap front_len was.form in
-    let most = ap most_parameters was.form in
-    (
+    let most = ap most_parameters was.form in (
       omega (arith, all, long_after (19 + length (open_body o)) 1 (open_body o)),
       omega (arith, all, many, form),
       omega (arith, all, many, form, most, was.fits.few, was.fits.short),
@@ -209,8 +207,16 @@ module _ (long : Bool) (o : WrittenOpen) (p : WrittenParameter) {old : List ℕ}
       let both = length-append ps (parameter_octets o.long p) in
       let all = length-append (open_body o) (parameter_octets long p) in
       let form = ap (λ l. length (parameter_octets l p)) was.form in
-      omega (arith, long_after (19 + length extended) 1 extended, body_long o.long o ps, row, both, all, form,
-      ap front_len was.form)
+      omega (
+        arith,
+        long_after (19 + length extended) 1 extended,
+        body_long o.long o ps,
+        row,
+        both,
+        all,
+        form,
+        ap front_len was.form,
+      )
 
   more_long : length (open_octets (with_parameter o p))
       ≡ front_len long + length (parameters_octets o.long (o.parameters ++ p ∷ []))

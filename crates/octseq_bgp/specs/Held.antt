@@ -1,6 +1,6 @@
 -- The UPDATE that a builder holds. There is only one.
-use Rattle.std.specs.Prelude.{◌≡◌, ℕ, Option, List, refl}
-use Rattle.std.proofs.Common.{sym, ap, ◌∙◌, arith}
+use Rattle.std.specs.Prelude.{◌≡◌, ℕ, Option}
+use Rattle.std.proofs.Common.{sym, ◌∙◌, arith}
 use Rattle.std.proofs.Math.Logic.{∥∥₁_prop, ∥∥₁_elim}
 use Rattle.std.specs.Coded.{Coded, Coded-set, codes}
 use mathlib.Core.HLevel.{Σ_prop_path}

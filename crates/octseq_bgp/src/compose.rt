@@ -154,11 +154,30 @@ impl<'a> Tail for Slices<'a> {
     }
 }
 
+/// A slice before other octets.
+#[derive(Drop)]
+pub(crate) struct Headed<'a, T> {
+    pub(crate) head: &'a [u8],
+    pub(crate) tail: &'a T,
+}
+
+impl<'a, T: Tail> Tail for Headed<'a, T> {
+    ghost octets = { λ h. h.head.now ++ T.octets h.tail.now };
+
+    ghost fits = { λ h. T.fits h.tail.now × (length (T.octets h.tail.now) ≤ 65535) };
+
+    fn len(&self) -> usize {
+        self.head.len() + self.tail.len()
+    }
+
+    fn put<B: OctetsBuilder>(&self, builder: &mut B) -> Result<(), AllocError> {
+        put_few(builder, self.head)?;
+        self.tail.put(builder)
+    }
+}
+
 /// Appends octets for which there is room, all or none.
-fn put_all<B: OctetsBuilder + Truncate, T: Tail>(
-    octets: &mut B,
-    tail: &T,
-) -> Result<(), AllocError>
+fn put_all<B: OctetsBuilder + Truncate, T: Tail>(octets: &mut B, tail: &T) -> Result<(), AllocError>
     requires fit { T.fits tail.now }
     requires within { IsWithin B.limit (length (B.content octets.old) + length (T.octets tail.now)) }
     ensures puts { Puts B.asks result (T.octets tail.now) (B.content octets.old) (B.content octets.new) }

@@ -1,35 +1,32 @@
 //! The values of path attributes in a message.
-ghost use Rattle.std.specs.Prelude.{◌≡◌, ◌++◌, length};
+ghost use Rattle.std.specs.Prelude.{◌≡◌, length};
 ghost use Rattle.octseq_bgp.specs.WrittenValue.{FitsValue, value_octets};
 
 use crate::attribute::ComposeAttribute;
 use crate::compose::Tail;
-use crate::put::put_few;
 use crate::session::SessionConfig;
 use octseq::OctetsBuilder;
 use std::alloc::AllocError;
 
-/// A value after the head of its attribute. Its octets are known to be `len`.
+/// A value, whose octets are known to be `len`.
 #[derive(Drop)]
 pub(crate) struct Valued<'a, A> {
-    pub(crate) head: &'a [u8],
     pub(crate) len: usize,
     pub(crate) session: &'a SessionConfig,
     pub(crate) value: &'a A,
 }
 
 impl<'a, A: ComposeAttribute> Tail for Valued<'a, A> {
-    ghost octets = { λ v. v.head.now ++ value_octets v.session.now (A.says v.value.now) };
+    ghost octets = { λ v. value_octets v.session.now (A.says v.value.now) };
 
     ghost fits = { λ v. FitsValue v.session.now (A.says v.value.now)
         × (v.len ≡ length (value_octets v.session.now (A.says v.value.now))) };
 
     fn len(&self) -> usize {
-        self.head.len() + self.len
+        self.len
     }
 
     fn put<B: OctetsBuilder>(&self, builder: &mut B) -> Result<(), AllocError> {
-        put_few(builder, self.head)?;
         self.value.put_some(self.session, builder)
     }
 }

@@ -5,12 +5,9 @@ ghost use Rattle.octseq.specs.Refusal.{IsShort, IsMemory, append_error};
 ghost use Rattle.octseq_bgp.specs.Composed.{least};
 ghost use Rattle.octseq_bgp.specs.PartOctets.{Arranges, Puts, after_length, parts_octets};
 ghost use Rattle.octseq_bgp.specs.Written.{body_octets};
-ghost use Rattle.octseq_bgp.specs.WrittenValue.{FitsValue, value_octets};
 
-use crate::attribute::ComposeAttribute;
-use crate::compose::{Slice, Slices, Tail, Valued, replace_over, write, write_over};
+use crate::compose::{Headed, Slice, Slices, Tail, replace_over, write, write_over};
 use crate::message::written::begin;
-use crate::session::SessionConfig;
 use octseq::builder::AsOctetsMut;
 use octseq::{AppendError, AsOctets, OctetsBuilder, Truncate, WriteError};
 use std::marker::Model;
@@ -117,14 +114,7 @@ impl<B: OctetsBuilder + Truncate + AsOctetsMut> UpdateOctets<B> {
 
     /// Writes a slice in place of the `old` octets at `at` after the length of the withdrawn routes, moves what follows
     /// over as many octets at the end, and divides all into parts.
-    fn arrange(
-        &mut self,
-        at: usize,
-        old: usize,
-        slice: &[u8],
-        withdrawn: usize,
-        attributes: usize,
-    )
+    fn arrange(&mut self, at: usize, old: usize, slice: &[u8], withdrawn: usize, attributes: usize)
         requires { (w a n : List ℕ)
             × Arranges (after_length self.old.withdrawn self.old.attributes self.old.announced) at old slice.now
             withdrawn attributes w a n }
@@ -186,65 +176,24 @@ impl<B: OctetsBuilder + Truncate + AsOctetsMut> UpdateOctets<B> {
         self.push(most, &Slice(slice), at, 0, slice, slice.len(), 0)
     }
 
-    /// Appends octets to the attributes.
-    fn append_last<T: Tail>(&mut self, most: usize, tail: &T) -> Result<(), WriteError>
+    /// Appends a slice, and other octets, to the attributes.
+    pub(super) fn append_attribute<T: Tail>(
+        &mut self,
+        most: usize,
+        head: &[u8],
+        tail: &T,
+    ) -> Result<(), WriteError>
         requires fit { T.fits tail.now }
+        requires few { length (T.octets tail.now) ≤ 65535 }
         requires announced { self.old.announced ≡ [] }
         requires now { 23 + length self.old.withdrawn + length self.old.attributes ≤ most }
         requires most { most ≤ 65535 }
         ensures puts { Puts (least most B.limit) B.asks result self.old.withdrawn
-            (self.old.attributes ++ T.octets tail.now) [] self.old self.new }
+            (self.old.attributes ++ (head.now ++ T.octets tail.now)) [] self.old self.new }
         ensures borrows { B.borrows self.new.octets ≡ B.borrows self.old.octets }
     {
-        self.push(most, tail, 0, 0, &[], 0, tail.len())
-    }
-
-    /// Appends two slices to the attributes.
-    pub(super) fn append_attribute(
-        &mut self,
-        most: usize,
-        head: &[u8],
-        octets: &[u8],
-    ) -> Result<(), WriteError>
-        requires announced { self.old.announced ≡ [] }
-        requires now { 23 + length self.old.withdrawn + length self.old.attributes ≤ most }
-        requires most { most ≤ 65535 }
-        ensures puts { Puts (least most B.limit) B.asks result self.old.withdrawn
-            (self.old.attributes ++ (head.now ++ octets.now)) [] self.old self.new }
-        ensures borrows { B.borrows self.new.octets ≡ B.borrows self.old.octets }
-    {
-        let tail = Slices {
-            first: head,
-            second: octets,
-        };
-        self.append_last(most, &tail)
-    }
-
-    /// Appends a slice, and the `len` octets of a value, to the attributes.
-    pub(super) fn append_value<A: ComposeAttribute>(
-        &mut self,
-        most: usize,
-        head: &[u8],
-        len: usize,
-        session: &SessionConfig,
-        value: &A,
-    ) -> Result<(), WriteError>
-        requires fit { FitsValue session.now (A.says value.now) }
-        requires len { len ≡ length (value_octets session.now (A.says value.now)) }
-        requires announced { self.old.announced ≡ [] }
-        requires now { 23 + length self.old.withdrawn + length self.old.attributes ≤ most }
-        requires most { most ≤ 65535 }
-        ensures puts { Puts (least most B.limit) B.asks result self.old.withdrawn
-            (self.old.attributes ++ (head.now ++ value_octets session.now (A.says value.now))) [] self.old self.new }
-        ensures borrows { B.borrows self.new.octets ≡ B.borrows self.old.octets }
-    {
-        let tail = Valued {
-            head,
-            len,
-            session,
-            value,
-        };
-        self.append_last(most, &tail)
+        let headed = Headed { head, tail };
+        self.push(most, &headed, 0, 0, &[], 0, headed.len())
     }
 
     /// Writes a slice over the `old` octets of the attributes from `at` on, and appends another to the attributes.

@@ -16,8 +16,16 @@ replace_over-requires-clause-inside g c =
 pub put_lengths-requires-clause-inside : goal.put_lengths-requires-clause-inside
 put_lengths-requires-clause-inside g c =
     let (w, a, n, is) = rw (← c.self.view_is) at c.requires in
-    omega (arith, (arranged_long _ _ _ w a n is).0, is.withdrawn_is, is.attributes_is, c.replace_over.ensures.len,
-    c.self.invariant.long, c.self.invariant.withdrawn_is, c.self.invariant.attributes_is)
+    omega (
+      arith,
+      (arranged_long _ _ _ w a n is).0,
+      is.withdrawn_is,
+      is.attributes_is,
+      c.replace_over.ensures.len,
+      c.self.invariant.long,
+      c.self.invariant.withdrawn_is,
+      c.self.invariant.attributes_is,
+    )
 
 pub invariant_of-self : goal.invariant_of-self
 invariant_of-self g c =

@@ -7,23 +7,39 @@ pub overflow_add-withdrawn : goal.overflow_add-withdrawn
 overflow_add-withdrawn g c =
     let puts = c.in-Ok.ensures.puts in
     let (w, a, n, is) = c.requires.arranges in
-    omega (arith, (arranged_long _ _ _ w a n is).0, is.withdrawn_is, puts_within puts, ap length puts.withdrawn_is,
-    least_most c.args.most g.B.AsOctets.limit)
+    omega (
+      arith,
+      (arranged_long _ _ _ w a n is).0,
+      is.withdrawn_is,
+      puts_within puts,
+      ap length puts.withdrawn_is,
+      least_most c.args.most g.B.AsOctets.limit,
+    )
 
 pub overflow_add-attributes : goal.overflow_add-attributes
 overflow_add-attributes g c =
     let puts = c.in-Ok.ensures.puts in
     let (w, a, n, is) = c.requires.arranges in
-    omega (arith, (arranged_long _ _ _ w a n is).0, is.attributes_is, puts_within puts, ap length puts.attributes_is,
-    least_most c.args.most g.B.AsOctets.limit)
+    omega (
+      arith,
+      (arranged_long _ _ _ w a n is).0,
+      is.attributes_is,
+      puts_within puts,
+      ap length puts.attributes_is,
+      least_most c.args.most g.B.AsOctets.limit,
+    )
 
 pub arrange-requires : goal.arrange-requires
 arrange-requires g c =
     let puts = c.in-Ok.ensures.puts in
-    let (w, a, n, is) = c.requires.arranges in
-    (w, a, n, arranges_as puts.withdrawn_is puts.attributes_is puts.announced_is
-    (ap (λ k. k + c.args.withdrawn) (c.withdrawn_len.ensures ∙ ap length puts.withdrawn_is))
-    (ap (λ k. k + c.args.attributes) (c.attributes_len.ensures ∙ ap length puts.attributes_is)) is)
+    let (w, a, n, is) = c.requires.arranges in (
+      w,
+      a,
+      n,
+      arranges_as puts.withdrawn_is puts.attributes_is puts.announced_is
+          (ap (λ k. k + c.args.withdrawn) (c.withdrawn_len.ensures ∙ ap length puts.withdrawn_is))
+          (ap (λ k. k + c.args.attributes) (c.attributes_len.ensures ∙ ap length puts.attributes_is)) is,
+    )
 
 pub returns-in-Ok-clause-puts : goal.returns-in-Ok-clause-puts
 returns-in-Ok-clause-puts g c w a n is =
