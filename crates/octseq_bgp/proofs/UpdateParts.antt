@@ -1,6 +1,6 @@
 -- The parts of an UPDATE in its octets.
-use Rattle.std.proofs.Common.{◌≡◌, ℕ, ◌+◌, ◌<◌, ◌≤◌, List, [], ◌∷◌, ◌++◌, length, take, drop, refl, sym, ap, ◌∙◌, subst, arith}
-use Rattle.std.proofs.Common.{append_assoc, length-append, append-nil, Bool, Ok, Err, Result}
+use Rattle.std.proofs.Common.{◌≡◌, ℕ, ◌+◌, ◌<◌, ◌≤◌, List, [], ◌++◌, length, take, drop, refl, sym, ap, ◌∙◌}
+use Rattle.std.proofs.Common.{subst, arith, append_assoc, length-append, append-nil, Bool, Ok, Err, Result}
 use Rattle.std.specs.Prelude.{OnOk, OnErr}
 use Rattle.std.proofs.Math.Nat.{lt_of_not-le}
 use Rattle.std.proofs.Math.Seq.{take-append_seam, drop-append_seam}
@@ -35,10 +35,10 @@ parts_back : {B : Type 0} (o : B) (w a n : List ℕ) → parts_in o (parts_octet
 unfolding header_octets octets_be
 parts_back {B} o w a n =
     let rest = part_of 2 a ++ n in
-    let with : (x y z : List ℕ) → PartOctets B = λ x y z. record { octets = o; withdrawn = x; attributes = y; announced = z } in
-    ap (λ x. with x (take (length a) (drop 2 (drop (length w) (w ++ rest)))) (drop (length a) (drop 2 (drop (length w) (w ++ rest)))))
-    (take-append_seam w rest)
-    ∙ ap (λ x. with w (take (length a) (drop 2 x)) (drop (length a) (drop 2 x))) (drop-append_seam w rest)
+    let with : (x y z : List ℕ) → PartOctets B =
+    λ x y z. record { octets = o; withdrawn = x; attributes = y; announced = z } in
+    let cut : (x y : List ℕ) → PartOctets B = λ x y. with x (take (length a) (drop 2 y)) (drop (length a) (drop 2 y)) in
+    ap (λ x. cut x (drop (length w) (w ++ rest))) (take-append_seam w rest) ∙ ap (cut w) (drop-append_seam w rest)
     ∙ ap (λ x. with w x (drop (length a) (a ++ n))) (take-append_seam a n) ∙ ap (with w a) (drop-append_seam a n)
 
 pub found : {B : Type 0} (o : B) {content : List ℕ} (w a n : List ℕ) {k m : ℕ} → content ≡ parts_octets w a n
@@ -50,13 +50,13 @@ pub known : {B : Type 0} (o : B) {content : List ℕ} (w a n : List ℕ) {k m : 
     → length w ≡ k → length a ≡ m → length content ≤ 65535 → AreParts content k m (parts_in o content k m)
 known o {content} w a n {k} {m} is first second most =
     let long = ap length is ∙ all_long w a n in
-    subst (AreParts content k m) (sym (found o w a n is first second))
-    (record { is = is; withdrawn_is = first; attributes_is = second; long = omega (arith, long, first, second); most = most })
-
-pub empty_octets : 255 ∷ 255 ∷ 255 ∷ 255 ∷ 255 ∷ 255 ∷ 255 ∷ 255 ∷ 255 ∷ 255 ∷ 255 ∷ 255 ∷ 255 ∷ 255 ∷ 255 ∷ 255 ∷ 0 ∷ 23 ∷ 2
-    ∷ 0 ∷ 0 ∷ 0 ∷ 0 ∷ [] ≡ parts_octets [] [] []
-unfolding header_octets octets_be
-empty_octets = refl
+    subst (AreParts content k m) (sym (found o w a n is first second)) (record {
+      is = is;
+      withdrawn_is = first;
+      attributes_is = second;
+      long = omega (arith, long, first, second);
+      most = most;
+    })
 
 -- ---- octets that are arranged anew
 
@@ -117,7 +117,8 @@ pub puts_as : {B : Type 0} {most : ℕ} {asks : Bool} {result : Result (Unit {0}
     {old between new : PartOctets B} → Puts most asks result w a n old between
     → length w + length a + length n ≡ length x + length y + length z → OnOk result (new.withdrawn ≡ x)
     → OnOk result (new.attributes ≡ y) → OnOk result (new.announced ≡ z)
-    → OnErr result ((new.withdrawn ≡ old.withdrawn) × (new.attributes ≡ old.attributes) × (new.announced ≡ old.announced))
+    → OnErr result ((new.withdrawn ≡ old.withdrawn) × (new.attributes ≡ old.attributes)
+    × (new.announced ≡ old.announced))
     → Puts most asks result x y z old new
 puts_as {most = most} {w = w} {a} {n} {x} {y} {z} puts same first second third kept =
     let long : 23 + length w + length a + length n ≡ 23 + length x + length y + length z = omega (arith, same) in

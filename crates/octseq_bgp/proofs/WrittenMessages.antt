@@ -50,11 +50,11 @@ module _ {M : Type 0} {octets : M → List ℕ} {Fits : M → Type 0} {found : L
       omega (arith, long)
 
   pub pushed : {E : Type 0} {says : E → Refusal} {most : ℕ} {limit : Option ℕ} {asks : Bool} {old new : List ℕ}
-      (slice : List ℕ) (result : Result (Unit {0}) E) → IsWritten octets Fits found most old
+      {slice : List ℕ} {result : Result (Unit {0}) E} → IsWritten octets Fits found most old
       → ((kind : ℕ) (body : List ℕ) → old ≡ message_octets kind body
       → Extends says (least most limit) asks result (message_octets kind (body ++ slice)) old new)
       → Pushed octets Fits found more says most limit asks slice result old new
-  pushed {most = most} {limit} {old = old} {new} slice (Ok done) was extends =
+  pushed {most = most} {limit} {old = old} {new} {slice} {result = Ok done} was extends =
       let m = found old in
       let did = extends grows.kind (grows.body m) (was.are ∙ grows.is m) in
       let all = ap (message_octets grows.kind) (grows.grown m slice) ∙ sym (grows.is (more m slice)) in
@@ -62,13 +62,14 @@ module _ {M : Type 0} {octets : M → List ℕ} {Fits : M → Type 0} {found : L
       let fewer = least_most most limit in
       let within = lt_of_not-le did.short.1 in
       record {
-        now = is_written (more m slice) most new fits (did.ok ∙ all) (omega (arith, ap length did.ok, within, fewer)) was.few;
+        now = is_written (more m slice) most new fits (did.ok ∙ all)
+            (omega (arith, ap length did.ok, within, fewer)) was.few;
         ok = ap found (did.ok ∙ all) ∙ grows.back (more m slice) fits;
         err = tt;
         short = (λ none. absurd none, λ past. did.short.1 (subst (λ o. least most limit < length o) (sym all) past));
         memory = did.memory;
       }
-  pushed {most = most} {limit} {old = old} {new} slice (Err e) was extends =
+  pushed {most = most} {limit} {old = old} {new} {slice} {result = Err e} was extends =
       let m = found old in
       let did = extends grows.kind (grows.body m) (was.are ∙ grows.is m) in
       let all = ap (message_octets grows.kind) (grows.grown m slice) ∙ sym (grows.is (more m slice)) in

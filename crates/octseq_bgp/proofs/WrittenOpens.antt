@@ -157,10 +157,14 @@ next_apart o p first fits is =
 -- so many octets of parameters are too many exactly if the OPEN is too long
 room_of : (limit : Option ℕ) (long : Bool) (n : ℕ) → (least (open_max long) limit < front_len long + n)
     ↔ ¬ ((n ≤ most_parameters long) × (front_len long + n ≤ least 4096 limit))
-room_of None long n =
-    (λ past has. omega (arith, past, has), λ none. lt_of_not-le (λ fits. none (omega (arith, fits), omega (arith, fits))))
-room_of (Some most) long n =
-    (λ past has. omega (arith, past, has), λ none. lt_of_not-le (λ fits. none (omega (arith, fits), omega (arith, fits))))
+room_of None long n = (
+  λ past has. omega (arith, past, has),
+  λ none. lt_of_not-le (λ fits. none (omega (arith, fits), omega (arith, fits))),
+)
+room_of (Some most) long n = (
+  λ past has. omega (arith, past, has),
+  λ none. lt_of_not-le (λ fits. none (omega (arith, fits), omega (arith, fits))),
+)
 
 -- ---- what an append does
 

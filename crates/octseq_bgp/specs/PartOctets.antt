@@ -1,5 +1,6 @@
 -- The octets of an UPDATE while it is written, part by part: RFC 4271, 4.3.
-use Rattle.std.specs.Prelude.{◌≡◌, ℕ, ◌+◌, ◌<◌, ◌≤◌, ◌↔◌, Bool, true, List, ◌++◌, length, take, drop, Result, OnOk, OnErr}
+use Rattle.std.specs.Prelude.{◌≡◌, ℕ, ◌+◌, ◌<◌, ◌≤◌, ◌↔◌, Bool, true, List, ◌++◌, length, take, drop}
+use Rattle.std.specs.Prelude.{Result, OnOk, OnErr}
 use Rattle.octseq.specs.Integer.{octets_be}
 use Rattle.octseq.specs.Refusal.{IsMalformed, IsShort, IsMemory, write_error}
 use Rattle.octseq.specs.declared.error.WriteError.{WriteError}
@@ -19,7 +20,8 @@ parts_octets withdrawn attributes announced = message_octets 2 (body_octets with
 
 -- its octets after the length of the withdrawn routes
 abbrev pub after_length : (withdrawn attributes announced : List ℕ) → List ℕ
-after_length withdrawn attributes announced = withdrawn ++ (octets_be 2 (length attributes) ++ (attributes ++ announced))
+after_length withdrawn attributes announced =
+    withdrawn ++ (octets_be 2 (length attributes) ++ (attributes ++ announced))
 
 -- the parts of a message with so many octets of withdrawn routes and of attributes
 abbrev pub parts_in : {B : Type 0} → B → List ℕ → ℕ → ℕ → PartOctets B
@@ -40,8 +42,8 @@ pub record AreParts {B : Type 0} (content : List ℕ) (withdrawn attributes : �
   pub long : length content ≡ 23 + withdrawn + attributes + length parts.announced
   pub most : length content ≤ 65535
 
--- Octets are written in place of others, and what follows these is moved over as many at the end. All is then divided into
--- parts.
+-- Octets are written in place of others, and what follows these is moved over as many at the end. All is then divided
+-- into parts.
 pub record Arranges (before : List ℕ) (at old : ℕ) (slice : List ℕ) (withdrawn attributes : ℕ) (w a n : List ℕ)
     : Type 0 where
   pub front : List ℕ

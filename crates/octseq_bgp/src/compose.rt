@@ -44,7 +44,7 @@ fn insert_over<B: AsOctetsMut>(octets: &mut B, at: usize, slice: &[u8])
     octets[at..at + slice.len()].copy_from_slice(slice);
 }
 
-/// Writes a slice in place of the `old` octets from `at` on, and moves what follows them over as many octets at the end.
+/// Writes a slice in place of the `old` octets from `at` on, and moves what follows over as many octets at the end.
 pub(crate) fn replace_over<B: AsOctetsMut>(octets: &mut B, at: usize, old: usize, slice: &[u8])
     requires old { old ≤ length slice.now }
     requires inside { at + length slice.now ≤ length (B.content octets.old) }

@@ -36,7 +36,8 @@ pub returns-in-Err-clause-pushes : goal.returns-in-Err-clause-pushes
 returns-in-Err-clause-pushes g c o now was is =
     let p = g.P.ComposeParameter.says c.args.parameter.now in
     let fit = c.in-Some.ensures.fit.0 refl in
-    let can = (can_follow c.args.long _ o p c.has_none-is_first.result was c.has_none-is_first.ensures).1 (fit.1, fit.2) in
+    let follows = can_follow c.args.long _ o p c.has_none-is_first.result was c.has_none-is_first.ensures in
+    let can = follows.1 (fit.1, fit.2) in
     let done = (rw c.open_max.ensures at c.in-Err.ensures.extends) 1 (open_body o) was.are in
     pushed c.args.long o p was g.B.AsOctets.limit done now (fit.0, can) tt
     (same_open c.args.long _ now o is (subst (λ x. IsOpenWritten c.args.long x o) (sym done.err) was))
@@ -60,19 +61,24 @@ returns-clause-holds g c =
     let p = g.P.ComposeParameter.says c.args.parameter.now in
     let (o, was) = c.requires in
     let fit = c.in-Some.ensures.fit.0 refl in
-    let can = (can_follow c.args.long _ o p c.has_none-is_first.result was c.has_none-is_first.ensures).1 (fit.1, fit.2) in
+    let follows = can_follow c.args.long _ o p c.has_none-is_first.result was c.has_none-is_first.ensures in
+    let can = follows.1 (fit.1, fit.2) in
     let extends = rw c.open_max.ensures at c.in_default-write.ensures.extends in
-    let more = open_more c.args.long o p was (λ kind body is. (extends kind body is).ok) c.count_parameters.ensures.content in
-    (with_parameter o p, written_more c.args.long o p was g.B.AsOctets.limit can (extends 1 (open_body o) was.are).short.1 more)
+    let more = open_more c.args.long o p was (λ kind body is. (extends kind body is).ok)
+    c.count_parameters.ensures.content in
+    let done = extends 1 (open_body o) was.are in
+    (with_parameter o p, written_more c.args.long o p was g.B.AsOctets.limit can done.short.1 more)
 
 pub returns-clause-pushes : goal.returns-clause-pushes
 returns-clause-pushes g c o now was is =
     let p = g.P.ComposeParameter.says c.args.parameter.now in
     let fit = c.in-Some.ensures.fit.0 refl in
-    let can = (can_follow c.args.long _ o p c.has_none-is_first.result was c.has_none-is_first.ensures).1 (fit.1, fit.2) in
+    let follows = can_follow c.args.long _ o p c.has_none-is_first.result was c.has_none-is_first.ensures in
+    let can = follows.1 (fit.1, fit.2) in
     let extends = rw c.open_max.ensures at c.in_default-write.ensures.extends in
     let done = extends 1 (open_body o) was.are in
-    let more = open_more c.args.long o p was (λ kind body is. (extends kind body is).ok) c.count_parameters.ensures.content in
+    let more = open_more c.args.long o p was (λ kind body is. (extends kind body is).ok)
+    c.count_parameters.ensures.content in
     pushed c.args.long o p was g.B.AsOctets.limit done now (fit.0, can)
     (same_open c.args.long _ now (with_parameter o p) is
     (written_more c.args.long o p was g.B.AsOctets.limit can done.short.1 more)) tt

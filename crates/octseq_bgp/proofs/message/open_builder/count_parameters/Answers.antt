@@ -1,4 +1,5 @@
-use Rattle.std.proofs.Common.{◌≡◌, ℕ, ◌-◌, List, [], ◌∷◌, ◌++◌, length, ap, sym, ◌∙◌, Fits, w8, arith, append_assoc, length-append}
+use Rattle.std.proofs.Common.{◌≡◌, ℕ, ◌-◌, List, [], ◌∷◌, ◌++◌, length, ap, sym, ◌∙◌, Fits, w8, arith}
+use Rattle.std.proofs.Common.{append_assoc, length-append}
 use Rattle.octseq.specs.Integer.{octets_be}
 use Rattle.octseq.proofs.Written.{length_be, made_be_1, made_be_2}
 use Rattle.octseq_bgp.proofs.message.open_builder.count_parameters.Goals as goal
@@ -25,7 +26,8 @@ returns-clause-content g c a ps n content front =
     let all = ap length now ∙ length-append a (old ++ ps) in
     let many : c.len-len.result - 29 ≡ length ps =
     omega (arith, all, length-append old ps, length_be 1 n, front, c.len-len.ensures.content) in
-    let few : Fits w8 (c.len-len.result - 29) = omega (arith, rw c.if-long.false at c.requires.few, c.len-len.ensures.content) in
+    let most = rw c.if-long.false at c.requires.few in
+    let few : Fits w8 (c.len-len.result - 29) = omega (arith, most, c.len-len.ensures.content) in
     rw c.if-long.false
     (c.write_over-2.ensures.content a old ps now front (length_be 1 n)
     ∙ ap (λ o. a ++ (o ++ ps)) (made_be_1 (c.len-len.result - 29) few ∙ ap (octets_be 1) many))

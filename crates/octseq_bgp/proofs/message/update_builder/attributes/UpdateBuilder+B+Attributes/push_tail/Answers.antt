@@ -19,8 +19,10 @@ pub invariant_of-self-inside : goal.invariant_of-self-inside
 invariant_of-self-inside g c =
     let in' = c.self.inside in
     let made = rw c.len.ensures at c.in-Some.ensures in
-    let a : WrittenAttribute = record { flags = c.args.flags; kind = c.args.type_code; octets = g.T.Tail.octets c.args.tail.now } in
-    let wanted = attribute_after in'.held a (c.as_slice.ensures ∙ made.octets) made.flags made.type_code (made.some refl) in
+    let octets = g.T.Tail.octets c.args.tail.now in
+    let a : WrittenAttribute = record { flags = c.args.flags; kind = c.args.type_code; octets = octets } in
+    let wanted = attribute_after in'.held a (c.as_slice.ensures ∙ made.octets) made.flags made.type_code
+    (made.some refl) in
     let puts = rw c.longest-most.ensures.value at c.in-Ok.ensures.puts in
     ((more_attributes in'.held.0 a, ∣ put_held puts (least_most (longest in'.session) g.B.AsOctets.limit) wanted tt ∣₁), tt)
 
@@ -31,8 +33,10 @@ pub returns-in-Ok-clause-pushed : goal.returns-in-Ok-clause-pushed
 returns-in-Ok-clause-pushed g c =
     let in' = c.self.inside in
     let made = rw c.len.ensures at c.in-Some.ensures in
-    let a : WrittenAttribute = record { flags = c.args.flags; kind = c.args.type_code; octets = g.T.Tail.octets c.args.tail.now } in
-    let wanted = attribute_after in'.held a (c.as_slice.ensures ∙ made.octets) made.flags made.type_code (made.some refl) in
+    let octets = g.T.Tail.octets c.args.tail.now in
+    let a : WrittenAttribute = record { flags = c.args.flags; kind = c.args.type_code; octets = octets } in
+    let wanted = attribute_after in'.held a (c.as_slice.ensures ∙ made.octets) made.flags made.type_code
+    (made.some refl) in
     let puts = rw c.longest-most.ensures.value at c.in-Ok.ensures.puts in
     rw (← c.self.view_is) (pushes_ok puts wanted (made.some refl) refl refl c.self-1.given.0 refl refl)
 
@@ -40,8 +44,10 @@ pub returns-in-Err-clause-pushed : goal.returns-in-Err-clause-pushed
 returns-in-Err-clause-pushed g c =
     let in' = c.self.inside in
     let made = rw c.len.ensures at c.in-Some.ensures in
-    let a : WrittenAttribute = record { flags = c.args.flags; kind = c.args.type_code; octets = g.T.Tail.octets c.args.tail.now } in
-    let wanted = attribute_after in'.held a (c.as_slice.ensures ∙ made.octets) made.flags made.type_code (made.some refl) in
+    let octets = g.T.Tail.octets c.args.tail.now in
+    let a : WrittenAttribute = record { flags = c.args.flags; kind = c.args.type_code; octets = octets } in
+    let wanted = attribute_after in'.held a (c.as_slice.ensures ∙ made.octets) made.flags made.type_code
+    (made.some refl) in
     let puts = rw c.longest-most.ensures.value at c.in-Err.ensures.puts in
     rw (← c.self.view_is)
     (pushes_err puts wanted (made.some refl) refl refl in'.held refl c.in-Err.self-in-Err-1-own.given.0 refl refl)

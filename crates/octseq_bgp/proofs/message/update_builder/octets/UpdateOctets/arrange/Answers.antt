@@ -11,7 +11,13 @@ replace_over-requires-clause-old g c =
 pub replace_over-requires-clause-inside : goal.replace_over-requires-clause-inside
 replace_over-requires-clause-inside g c =
     let (w, a, n, is) = rw (← c.self.view_is) at c.requires in
-    omega (arith, (arranged_long _ _ _ w a n is).2, c.self.invariant.long, c.self.invariant.withdrawn_is, c.self.invariant.attributes_is)
+    omega (
+      arith,
+      (arranged_long _ _ _ w a n is).2,
+      c.self.invariant.long,
+      c.self.invariant.withdrawn_is,
+      c.self.invariant.attributes_is,
+    )
 
 pub put_lengths-requires-clause-inside : goal.put_lengths-requires-clause-inside
 put_lengths-requires-clause-inside g c =
@@ -38,5 +44,8 @@ pub returns-clause-arranged : goal.returns-clause-arranged
 returns-clause-arranged g c w a n arranges =
     let is = rw (← c.self.view_is) at arranges in
     let made = found c.put_lengths.new.octets w a n (arranged _ _ _ w a n c.self.invariant.is is
-    c.replace_over.ensures.content c.put_lengths.ensures.content) is.withdrawn_is is.attributes_is in
-    (ap (λ (p : PartOctets g.row.B.Denot). p.withdrawn) made, ap (λ (p : PartOctets g.row.B.Denot). p.attributes) made, ap (λ (p : PartOctets g.row.B.Denot). p.announced) made)
+    c.replace_over.ensures.content c.put_lengths.ensures.content) is.withdrawn_is is.attributes_is in (
+      ap (λ (p : PartOctets g.row.B.Denot). p.withdrawn) made,
+      ap (λ (p : PartOctets g.row.B.Denot). p.attributes) made,
+      ap (λ (p : PartOctets g.row.B.Denot). p.announced) made,
+    )
