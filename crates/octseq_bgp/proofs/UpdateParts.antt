@@ -1,13 +1,13 @@
 -- The parts of an UPDATE in its octets.
 use Rattle.std.proofs.Common.{◌≡◌, ℕ, ◌+◌, ◌<◌, ◌≤◌, List, [], ◌++◌, length, take, drop, refl, sym, ap, ◌∙◌}
 use Rattle.std.proofs.Common.{subst, arith, append_assoc, length-append, append-nil, Bool, Ok, Err, Result}
-use Rattle.std.specs.Prelude.{OnOk, OnErr}
+use Rattle.std.specs.Prelude.{◌↔◌, true, OnOk, OnErr}
 use Rattle.std.proofs.Math.Nat.{lt_of_not-le}
 use Rattle.std.proofs.Math.Seq.{take-append_seam, drop-append_seam}
 use Rattle.std.proofs.lemmas.List.{take-append-drop, length-take-le, length-drop}
 use Rattle.octseq.specs.Integer.{octets_be}
 use Rattle.octseq.specs.Part.{part_of}
-use Rattle.octseq.specs.Refusal.{write_error}
+use Rattle.octseq.specs.Refusal.{IsMalformed, IsMemory, IsShort, write_error}
 use Rattle.octseq.proofs.Written.{length_be}
 use Rattle.octseq.specs.declared.error.WriteError.{WriteError}
 use Rattle.octseq_bgp.specs.Composed.{Extends, header_octets, header_long, message_octets, long_after}
@@ -112,28 +112,23 @@ pub puts_within : {B : Type 0} {most : ℕ} {asks : Bool} {w a n : List ℕ} {ol
     → Puts most asks (Ok tt) w a n old new → 23 + length w + length a + length n ≤ most
 puts_within puts = let less = lt_of_not-le puts.short.1 in omega (arith, less)
 
--- the same of other parts that are as long in all
-pub puts_as : {B : Type 0} {most : ℕ} {asks : Bool} {result : Result (Unit {0}) WriteError} {w a n x y z : List ℕ}
-    {old between new : PartOctets B} → Puts most asks result w a n old between
-    → length w + length a + length n ≡ length x + length y + length z → OnOk result (new.withdrawn ≡ x)
-    → OnOk result (new.attributes ≡ y) → OnOk result (new.announced ≡ z)
+-- a call that was refused as short exactly if the message with these parts would be too long
+pub puts_by : {B : Type 0} {most long : ℕ} {asks : Bool} {result : Result (Unit {0}) WriteError} {w a n : List ℕ}
+    {old new : PartOctets B} → long ≡ 23 + length w + length a + length n → ¬ IsMalformed write_error result
+    → (IsShort write_error result ↔ (most < long)) → (IsMemory write_error result → asks ≡ true)
+    → OnOk result (new.withdrawn ≡ w) → OnOk result (new.attributes ≡ a) → OnOk result (new.announced ≡ n)
     → OnErr result ((new.withdrawn ≡ old.withdrawn) × (new.attributes ≡ old.attributes)
     × (new.announced ≡ old.announced))
-    → Puts most asks result x y z old new
-puts_as {most = most} {w = w} {a} {n} {x} {y} {z} puts same first second third kept =
-    let long : 23 + length w + length a + length n ≡ 23 + length x + length y + length z = omega (arith, same) in
-    record {
-      withdrawn_is = first;
-      attributes_is = second;
-      announced_is = third;
-      kept = kept;
-      fits = puts.fits;
-      short = (
-        λ short. subst (λ k. most < k) long (puts.short.0 short),
-        λ past. puts.short.1 (subst (λ k. most < k) (sym long) past),
-      );
-      memory = puts.memory;
-    }
+    → Puts most asks result w a n old new
+puts_by {most = most} {result = result} is fits short memory first second third kept = record {
+  withdrawn_is = first;
+  attributes_is = second;
+  announced_is = third;
+  kept = kept;
+  fits = fits;
+  short = subst (λ k. IsShort write_error result ↔ (most < k)) is short;
+  memory = memory;
+}
 
 -- octets that were appended to the message are announced prefixes
 pub appended : {B : Type 0} (o : B) {most : ℕ} {asks : Bool} {old new : List ℕ} {k m : ℕ} {parts : PartOctets B}
@@ -143,49 +138,27 @@ pub appended : {B : Type 0} (o : B) {most : ℕ} {asks : Bool} {old new : List �
     → most ≤ 65535
     → AreParts new k m (parts_in o new k m)
     × Puts most asks result parts.withdrawn parts.attributes (parts.announced ++ tail) parts (parts_in o new k m)
-appended o {most} {parts = parts} tail (Ok done) are extends few =
-    let w = parts.withdrawn in
-    let a = parts.attributes in
-    let n = parts.announced in
+appended o {parts = parts} tail (Ok done) are extends few =
+    let (w, a, n) = (parts.withdrawn, parts.attributes, parts.announced) in
     let done = extends 2 (body_octets w a n) are.is in
-    let same : body_octets w a n ++ tail ≡ body_octets w a (n ++ tail) = simp append_assoc in
-    let is = done.ok ∙ ap (message_octets 2) same in
-    let long = ap (λ b. length (message_octets 2 b)) same ∙ all_long w a (n ++ tail) in
-    let made = found o w a (n ++ tail) is are.withdrawn_is are.attributes_is in
+    let same : message_octets 2 (body_octets w a n ++ tail) ≡ parts_octets w a (n ++ tail) =
+    ap (message_octets 2) (simp append_assoc) in
+    let made = found o w a (n ++ tail) (done.ok ∙ same) are.withdrawn_is are.attributes_is in
     let within = lt_of_not-le done.short.1 in (
-      known o w a (n ++ tail) is are.withdrawn_is are.attributes_is (omega (arith, within, few, ap length done.ok)),
-      record {
-        withdrawn_is = ap (λ p. p.withdrawn) made;
-        attributes_is = ap (λ p. p.attributes) made;
-        announced_is = ap (λ p. p.announced) made;
-        kept = tt;
-        fits = done.fits;
-        short = (λ none. absurd none, λ past. done.short.1 (subst (λ k. most < k) (sym long) past));
-        memory = done.memory;
-      },
+      known o w a (n ++ tail) (done.ok ∙ same) are.withdrawn_is are.attributes_is
+          (omega (arith, within, few, ap length done.ok)),
+      puts_by (ap length same ∙ all_long w a (n ++ tail)) done.fits done.short done.memory
+          (ap (λ p. p.withdrawn) made) (ap (λ p. p.attributes) made) (ap (λ p. p.announced) made) tt,
     )
-appended o {most} {parts = parts} tail (Err e) are extends few =
-    let w = parts.withdrawn in
-    let a = parts.attributes in
-    let n = parts.announced in
+appended o {parts = parts} tail (Err e) are extends few =
+    let (w, a, n) = (parts.withdrawn, parts.attributes, parts.announced) in
     let done = extends 2 (body_octets w a n) are.is in
-    let same : body_octets w a n ++ tail ≡ body_octets w a (n ++ tail) = simp append_assoc in
-    let long = ap (λ b. length (message_octets 2 b)) same ∙ all_long w a (n ++ tail) in
-    let is = done.err ∙ are.is in
-    let made = found o w a n is are.withdrawn_is are.attributes_is in (
-      known o w a n is are.withdrawn_is are.attributes_is (omega (arith, ap length done.err, are.most)),
-      record {
-        withdrawn_is = tt;
-        attributes_is = tt;
-        announced_is = tt;
-        kept = (ap (λ p. p.withdrawn) made, ap (λ p. p.attributes) made, ap (λ p. p.announced) made);
-        fits = done.fits;
-        short = (
-          λ short. subst (λ k. most < k) long (done.short.0 short),
-          λ past. done.short.1 (subst (λ k. most < k) (sym long) past),
-        );
-        memory = done.memory;
-      },
+    let same : message_octets 2 (body_octets w a n ++ tail) ≡ parts_octets w a (n ++ tail) =
+    ap (message_octets 2) (simp append_assoc) in
+    let made = found o w a n (done.err ∙ are.is) are.withdrawn_is are.attributes_is in (
+      known o w a n (done.err ∙ are.is) are.withdrawn_is are.attributes_is (omega (arith, ap length done.err, are.most)),
+      puts_by (ap length same ∙ all_long w a (n ++ tail)) done.fits done.short done.memory tt tt tt
+          (ap (λ p. p.withdrawn) made, ap (λ p. p.attributes) made, ap (λ p. p.announced) made),
     )
 
 -- ---- what each call arranges
