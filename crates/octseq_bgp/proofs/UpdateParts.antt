@@ -139,7 +139,9 @@ pub appended : {B : Type 0} (o : B) {most : ℕ} {asks : Bool} {old new : List �
     → AreParts new k m (parts_in o new k m)
     × Puts most asks result parts.withdrawn parts.attributes (parts.announced ++ tail) parts (parts_in o new k m)
 appended o {parts = parts} tail (Ok done) are extends few =
-    let (w, a, n) = (parts.withdrawn, parts.attributes, parts.announced) in
+    let w = parts.withdrawn in
+    let a = parts.attributes in
+    let n = parts.announced in
     let done = extends 2 (body_octets w a n) are.is in
     let same : message_octets 2 (body_octets w a n ++ tail) ≡ parts_octets w a (n ++ tail) =
     ap (message_octets 2) (simp append_assoc) in
@@ -151,7 +153,9 @@ appended o {parts = parts} tail (Ok done) are extends few =
           (ap (λ p. p.withdrawn) made) (ap (λ p. p.attributes) made) (ap (λ p. p.announced) made) tt,
     )
 appended o {parts = parts} tail (Err e) are extends few =
-    let (w, a, n) = (parts.withdrawn, parts.attributes, parts.announced) in
+    let w = parts.withdrawn in
+    let a = parts.attributes in
+    let n = parts.announced in
     let done = extends 2 (body_octets w a n) are.is in
     let same : message_octets 2 (body_octets w a n ++ tail) ≡ parts_octets w a (n ++ tail) =
     ap (message_octets 2) (simp append_assoc) in

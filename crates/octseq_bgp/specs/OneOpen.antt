@@ -19,7 +19,7 @@ use Rattle.octseq_bgp.specs.Composed.{header_octets, message_octets}
 use Rattle.octseq_bgp.specs.OneParts.{one_tlv}
 use Rattle.octseq_bgp.specs.Parts.{IsTlv}
 use Rattle.octseq_bgp.specs.Open.{Open, length_octets}
-use Rattle.octseq_bgp.specs.WrittenOpen.{FitsOpen, FitsParameter, HoldsOpen, IsOpenWritten, WrittenOpen, WrittenParameter}
+use Rattle.octseq_bgp.specs.WrittenOpen.{FitsParameter, HoldsOpen, IsOpenWritten, WrittenOpen, WrittenParameter}
 use Rattle.octseq_bgp.specs.WrittenOpen.{front_len, lengths, numbers_octets, open_octets}
 use Rattle.octseq_bgp.specs.WrittenOpen.{parameter_octets, parameters_octets}
 
