@@ -6,12 +6,11 @@ use Rattle.std.proofs.Math.Decide.{dec_le}
 use Rattle.std.proofs.Math.Nat.{lt_of_not-le}
 use Rattle.std.proofs.lemmas.Bool.Decides.{nat_tests}
 use Rattle.octseq.specs.Integer.{octets_be}
-use Rattle.octseq_bgp.specs.AttributeType.{type_flags, type_number}
+use Rattle.octseq_bgp.specs.AttributeType.{type_flags}
 use Rattle.octseq_bgp.specs.Held.{Held}
 use Rattle.octseq_bgp.specs.PartOctets.{PartOctets}
 use Rattle.octseq_bgp.specs.Written.{AttributeFits, WrittenAttribute, attribute_octets, flags_for, head_octets, length_width}
-use Rattle.octseq_bgp.specs.Written.{prefixes_octets, attributes_octets, typed_attribute}
-use Rattle.octseq_bgp.specs.WrittenValue.{FitsValue, WrittenValue, value_octets, value_type}
+use Rattle.octseq_bgp.specs.Written.{prefixes_octets, attributes_octets}
 use Rattle.octseq_bgp.specs.Writing.{UpToAttributes, more_attributes}
 use Rattle.octseq_bgp.specs.declared.attribute.attribute_type.AttributeType.{AttributeType}
 use Rattle.octseq_bgp.specs.declared.message.update_builder.part.MpList.{MpList}
@@ -51,6 +50,16 @@ attribute_wanted held a octets fits is =
       announced = now.announced;
       reaches = held_attributes_up held;
     }
+
+-- the same, with the head that was made for it
+pub attribute_after : {B : Type 0} {s : SessionConfig} {parts : PartOctets B} {open_list : Option MpList} {open_at : ℕ}
+    (held : Held UpToAttributes s parts open_list open_at) (a : WrittenAttribute) {head : List ℕ}
+    → head ≡ head_octets a.flags a.kind (length a.octets) → a.flags < 256 → a.kind < 256
+    → length a.octets < 256 ^ length_width a.flags
+    → Wanted UpToAttributes s parts.withdrawn (parts.attributes ++ (head ++ a.octets)) [] (more_attributes held.0 a)
+attribute_after held a {head} made flags kind octets =
+    attribute_wanted held a (head ++ a.octets) (record { flags = flags; kind = kind; octets = octets })
+    (ap (λ h. h ++ a.octets) made ∙ head_and a.flags a.kind a.octets)
 
 -- ---- the flags of a type
 
@@ -101,26 +110,3 @@ typed_many_by t n (no many) most =
 
 pub typed_many : (t : AttributeType) (n : ℕ) → 256 ^ length_width (flags_for t n) ≤ n → 65536 ≤ n
 typed_many t n most = typed_many_by t n (dec_le n 255) most
-
--- the UPDATE with the value of an attribute, after the head that was made for its type
-pub value_wanted : {B : Type 0} {s : SessionConfig} {parts : PartOctets B} {open_list : Option MpList} {open_at : ℕ}
-    (held : Held UpToAttributes s parts open_list open_at) (v : WrittenValue) (len flags number : ℕ) (head : List ℕ)
-    → FitsValue s v → len ≡ length (value_octets s v) → flags ≡ flags_for (value_type v) len
-    → number ≡ type_number (value_type v) → head ≡ head_octets flags number len → flags < 256 → number < 256
-    → Wanted UpToAttributes s parts.withdrawn (parts.attributes ++ (head ++ value_octets s v)) []
-    (more_attributes held.0 (typed_attribute (value_type v) (value_octets s v)))
-value_wanted {s = s} held v len flags number head fits long is kind made byte code =
-    let octets = value_octets s v in
-    let t = value_type v in
-    let most = fits.short in
-    let flags_are : flags ≡ flags_for t (length octets) = is ∙ ap (flags_for t) long in
-    attribute_wanted held (typed_attribute t octets) (head ++ octets)
-    (record {
-      flags = subst (λ f. f < 256) flags_are byte;
-      kind = subst (λ n. n < 256) kind code;
-      octets = typed_fits t (length octets) (omega (arith, most));
-    })
-    (ap (λ h. h ++ octets) (made ∙ ap (λ f. head_octets f number len) flags_are
-    ∙ ap (λ n. head_octets (flags_for t (length octets)) n len) kind
-    ∙ ap (head_octets (flags_for t (length octets)) (type_number t)) long)
-    ∙ head_and (flags_for t (length octets)) (type_number t) octets)

@@ -3,7 +3,6 @@ use Rattle.std.proofs.Common.{◌≡◌, ℕ, ◌+◌, ◌≤◌, true, false, L
 use Rattle.std.proofs.Common.{append_assoc, append-nil, length-append}
 use Rattle.std.specs.List.{sum_by}
 use Rattle.std.specs.Prelude.{if◌then◌else◌}
-use Rattle.std.proofs.Math.Decide.{dec_le}
 use Rattle.std.proofs.lemmas.List.{map-append}
 use Rattle.std.proofs.lemmas.List.Sums.{sum_by-cons}
 use Rattle.octseq.specs.Integer.{octets_be}
@@ -18,7 +17,7 @@ use Rattle.octseq_bgp.specs.Written.{prefix_octets, prefixes_octets, typed_attri
 use Rattle.octseq_bgp.specs.declared.attribute.attribute_type.AttributeType.{AttributeType}
 use Rattle.octseq_bgp.proofs.Attributes.{head_and}
 use Rattle.octseq_bgp.proofs.Filling.{Rises, given_octets}
-use Rattle.octseq_bgp.proofs.Lasts.{head_grows_by, head_long, width_some}
+use Rattle.octseq_bgp.proofs.Lasts.{head_long, head_size}
 use Rattle.octseq_bgp.proofs.Pushes.{one_more}
 use Rattle.octseq_bgp.proofs.Updates.{update_long}
 
@@ -62,12 +61,12 @@ width_most flags =
 typed_rises : (t : AttributeType) (few many : List ℕ) → length few ≤ length many
     → length (attribute_octets (typed_attribute t few)) ≤ length (attribute_octets (typed_attribute t many))
 typed_rises t few many less =
-    let heads = head_grows_by t (length few) (length many) (dec_le (length few) 255) (dec_le (length many) 255) less in
+    let heads = (head_size t (length few), head_size t (length many)) in
     let short = head_long (flags_for t (length few)) (type_number t) (length few) in
     let long = head_long (flags_for t (length many)) (type_number t) (length many) in
     let one = attribute_long (typed_attribute t few) in
     let other = attribute_long (typed_attribute t many) in
-    omega (arith, heads, short, long, one, other, less)
+    omega (arith, heads.0, heads.1, short, long, one, other, less)
 
 grown_rises : (t : AttributeType) (few many : List ℕ) (attributes : List WrittenAttribute) → length few ≤ length many
     → length (attributes_octets (grown t few attributes)) ≤ length (attributes_octets (grown t many attributes))
@@ -94,10 +93,12 @@ grown_longer t more (one ∷ []) some =
     let before = attribute_long one in
     let after = attribute_long (typed_attribute t (one.octets ++ more)) in
     let most = width_most one.flags in
-    let least = width_some t (length (one.octets ++ more)) in
+    let n = length (one.octets ++ more) in
+    let head = head_long (flags_for t n) (type_number t) n in
+    let size = head_size t n in
     let first = length-append (attribute_octets one) [] in
     let second = length-append (attribute_octets (typed_attribute t (one.octets ++ more))) [] in
-    omega (arith, both, before, after, most, least, first, second, some)
+    omega (arith, both, before, after, most, head, size, first, second, some)
 grown_longer t more (one ∷ other ∷ rest) some =
     let longer = grown_longer t more (other ∷ rest) some in
     let first = length-append (attribute_octets one) (attributes_octets (other ∷ rest)) in

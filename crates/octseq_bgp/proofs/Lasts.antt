@@ -1,6 +1,6 @@
 -- The last attribute, while it takes prefixes.
 use Rattle.std.proofs.Common.{◌≡◌, ℕ, ◌+◌, ◌-◌, ◌^◌, ◌<◌, ◌≤◌, Option, Some, List, [], ◌∷◌, ◌++◌}
-use Rattle.std.proofs.Common.{length, take, drop, refl, sym, ap, ◌∙◌, subst, arith, length-append}
+use Rattle.std.proofs.Common.{length, min, take, drop, refl, sym, ap, ◌∙◌, subst, arith, length-append}
 use Rattle.std.proofs.Math.Decide.{dec_le}
 use Rattle.std.proofs.Math.Logic.{∥∥₁_elim, ∥∥₁_map}
 use Rattle.std.proofs.Math.Nat.{lt_of_not-le}
@@ -35,45 +35,16 @@ head_long flags kind n =
 abbrev pub head_of : AttributeType → ℕ → List ℕ
 head_of t n = head_octets (flags_for t n) (type_number t) n
 
-pub head_few : (t : AttributeType) (n : ℕ) → n ≤ 255 → length (head_of t n) ≡ 3
-head_few t n few = head_long (flags_for t n) (type_number t) n ∙ ap (λ k. 2 + k) (width_few t n few)
-
-pub head_many : (t : AttributeType) (n : ℕ) → 256 ≤ n → length (head_of t n) ≡ 4
-head_many t n many = head_long (flags_for t n) (type_number t) n ∙ ap (λ k. 2 + k) (width_many t n many)
-
--- its number of octets, from that of the attribute with it
-head_told_by : (t : AttributeType) (n len old : ℕ) → Dec (n ≤ 255) → len ≡ length (head_of t n) + n
-    → (len ≤ 258 → old ≡ 3) → (258 < len → old ≡ 4) → old ≡ length (head_of t n)
-head_told_by t n len old (yes few) is short long =
-    let three = head_few t n few in
-    short (omega (arith, is, three, few)) ∙ sym three
-head_told_by t n len old (no apart) is short long =
+-- has three octets, or four before more than 255 octets
+head_size_by : (t : AttributeType) (n : ℕ) → Dec (n ≤ 255) → length (head_of t n) ≡ 3 + min 1 (n - 255)
+head_size_by t n (yes few) =
+    omega (arith, few, head_long (flags_for t n) (type_number t) n, width_few t n few)
+head_size_by t n (no apart) =
     let many = lt_of_not-le apart in
-    let four = head_many t n (omega (arith, many)) in
-    long (omega (arith, is, four, many)) ∙ sym four
+    omega (arith, many, head_long (flags_for t n) (type_number t) n, width_many t n (omega (arith, many)))
 
--- it grows with the attribute
-pub head_grows_by : (t : AttributeType) (m n : ℕ) → Dec (m ≤ 255) → Dec (n ≤ 255) → m ≤ n
-    → length (head_of t m) ≤ length (head_of t n)
-head_grows_by t m n (yes few) (yes less) fits = omega (arith, head_few t m few, head_few t n less)
-head_grows_by t m n (yes few) (no apart) fits =
-    let many = lt_of_not-le apart in
-    omega (arith, head_few t m few, head_many t n (omega (arith, many)))
-head_grows_by t m n (no apart) (yes less) fits = let many = lt_of_not-le apart in absurd (omega (arith, many, less, fits))
-head_grows_by t m n (no apart) (no other) fits =
-    let many = lt_of_not-le apart in
-    let more = lt_of_not-le other in
-    omega (arith, head_many t m (omega (arith, many)), head_many t n (omega (arith, more)))
-
-width_some_by : (t : AttributeType) (n : ℕ) → Dec (n ≤ 255) → 1 ≤ length_width (flags_for t n)
-width_some_by t n (yes few) = let one = width_few t n few in omega (arith, one)
-width_some_by t n (no apart) =
-    let many = lt_of_not-le apart in
-    let two = width_many t n (omega (arith, many)) in
-    omega (arith, two)
-
-pub width_some : (t : AttributeType) (n : ℕ) → 1 ≤ length_width (flags_for t n)
-width_some t n = width_some_by t n (dec_le n 255)
+pub head_size : (t : AttributeType) (n : ℕ) → length (head_of t n) ≡ 3 + min 1 (n - 255)
+head_size t n = head_size_by t n (dec_le n 255)
 
 -- ---- a list that grows at its end
 
@@ -103,6 +74,11 @@ last_is t at attributes last =
     ∙ ap (λ o. attributes_octets last.front ++ o)
     (sym (head_and (flags_for t (length last.octets)) (type_number t) last.octets))
 
+-- Its head has so many octets, by how many it has in all.
+pub record Heads (t : AttributeType) (at total old : ℕ) : Type 0 where
+  pub short : total - at ≤ 258 → old ≡ 3
+  pub long : 258 < total - at → old ≡ 4
+
 module _ {t : AttributeType} {at : ℕ} {octets : List ℕ} (last : Last t at octets) where
   pub last_long : length octets ≡ at + length (head_of t (length last.own)) + length last.own
   last_long =
@@ -111,11 +87,11 @@ module _ {t : AttributeType} {at : ℕ} {octets : List ℕ} (last : Last t at oc
       omega (arith, one, two, last.place)
 
   -- the octets of its head
-  pub last_head : (len old : ℕ) → len ≡ length octets - at → (len ≤ 258 → old ≡ 3) → (258 < len → old ≡ 4)
-      → old ≡ length (head_of t (length last.own))
-  last_head len old is short long =
+  pub last_head : (old : ℕ) → Heads t at (length octets) old → old ≡ length (head_of t (length last.own))
+  last_head old heads =
       let all = last_long in
-      head_told_by t (length last.own) len old (dec_le (length last.own) 255) (omega (arith, is, all)) short long
+      let size = head_size t (length last.own) in
+      grind (arith, all, size, heads.short, heads.long)
 
   -- and what is after them
   pub last_own : (old : ℕ) → old ≡ length (head_of t (length last.own)) → drop old (drop at octets) ≡ last.own
@@ -139,11 +115,6 @@ pub last_held : {B : Type 0} {s : SessionConfig} {parts : PartOctets B} {open_li
 last_held {open_at = open_at} held l is =
     ∥∥₁_map held.1 (λ x. subst (λ o. IsOpen o open_at held.0.attributes) is x.opened)
 
--- How many octets it has, with a head of so many.
-pub record Heads (t : AttributeType) (at total old : ℕ) : Type 0 where
-  pub short : total - at ≤ 258 → old ≡ 3
-  pub long : 258 < total - at → old ≡ 4
-
 module _ {B : Type 0} {s : SessionConfig} {parts : PartOctets B} {open_list : Option MpList} {at : ℕ}
     (held : Held UpToAttributes s parts open_list at) (l : MpList) (is : open_list ≡ Some l) where
   abbrev last_in : IsLast (list_type l) at held.0.attributes → Last (list_type l) at parts.attributes
@@ -159,9 +130,7 @@ module _ {B : Type 0} {s : SessionConfig} {parts : PartOctets B} {open_list : Op
   place_fits = ∥∥₁_elim (last_held held l is) (λ a b. le_prop a b) (λ last.
       let now = last_in last in
       let all = last_long now in
-      let least = head_long (flags_for (list_type l) (length now.own)) (type_number (list_type l)) (length now.own) in
-      let some = width_some (list_type l) (length now.own) in
-      omega (arith, all, least, some))
+      omega (arith, all, head_size (list_type l) (length now.own)))
 
   module _ (old : ℕ) (heads : Heads (list_type l) at (length parts.attributes) old) where
     -- the place of its octets
@@ -169,7 +138,7 @@ module _ {B : Type 0} {s : SessionConfig} {parts : PartOctets B} {open_list : Op
     head_fits = ∥∥₁_elim (last_held held l is) (λ a b. le_prop a b) (λ last.
         let now = last_in last in
         let all = last_long now in
-        let head = last_head now (length parts.attributes - at) old refl heads.short heads.long in
+        let head = last_head now old heads in
         omega (arith, all, head))
 
     -- a head of more octets isn't shorter
@@ -177,17 +146,15 @@ module _ {B : Type 0} {s : SessionConfig} {parts : PartOctets B} {open_list : Op
     head_grows n more = ∥∥₁_elim (last_held held l is) (λ a b. le_prop a b) (λ last.
         let now = last_in last in
         let all = last_long now in
-        let head = last_head now (length parts.attributes - at) old refl heads.short heads.long in
-        let grows = head_grows_by (list_type l) (length now.own) n (dec_le (length now.own) 255) (dec_le n 255)
-        (omega (arith, all, head, more)) in
-        omega (arith, head, grows))
+        let head = last_head now old heads in
+        omega (arith, all, head, more, head_size (list_type l) (length now.own), head_size (list_type l) n))
 
     own_long : (last : IsLast (list_type l) at held.0.attributes) (more : List ℕ) (n : ℕ)
         → n ≡ length parts.attributes - at - old + length more → length (last.octets ++ more) ≡ n
     own_long last more n count =
         let now = last_in last in
         let all = last_long now in
-        let head = last_head now (length parts.attributes - at) old refl heads.short heads.long in
+        let head = last_head now old heads in
         let both = length-append last.octets more in
         omega (arith, all, head, both, count)
 
@@ -203,7 +170,7 @@ module _ {B : Type 0} {s : SessionConfig} {parts : PartOctets B} {open_list : Op
     grown_octets more n count = ∥∥₁_elim (last_held held l is) (Coded-set (coded_list coded_ℕ) _ _) (λ last.
         let t = list_type l in
         let now = last_in last in
-        let head = last_head now (length parts.attributes - at) old refl heads.short heads.long in
+        let head = last_head now old heads in
         let front = attributes_octets last.front in
         let all = last.octets ++ more in
         ap (λ f. f ++ (head_of t n ++ (drop old (drop at parts.attributes) ++ more))) (last_front now)

@@ -1,12 +1,14 @@
 -- What a builder's UPDATE is after a push.
-use Rattle.std.proofs.Common.{◌≡◌, ℕ, ◌+◌, ◌<◌, ◌≤◌, Bool, Option, None, Result, Ok, Err, List, [], ◌∷◌}
+use Rattle.std.proofs.Common.{◌≡◌, ℕ, ◌+◌, ◌<◌, ◌≤◌, Bool, true, Option, None, Result, Ok, Err, List, [], ◌∷◌}
 use Rattle.std.proofs.Common.{◌++◌, length, sym, ap, ◌∙◌, subst, arith}
 use Rattle.std.specs.List.{AllByRecursion, flat_map}
+use Rattle.std.specs.Prelude.{◌↔◌, OnOk, OnErr}
 use Rattle.std.proofs.lemmas.List.{flat_map_more}
 use Rattle.std.proofs.Math.Logic.{∥∥₁_map}
-use Rattle.std.proofs.Math.Nat.{lt_of_not-le}
+use Rattle.octseq.proofs.Repeats.{each_snoc}
+use Rattle.octseq.specs.Refusal.{IsMalformed, IsShort, IsMemory, write_error}
 use Rattle.octseq.specs.declared.error.WriteError.{WriteError}
-use Rattle.octseq.specs.declared.error.WriteError.TheVariants.{Malformed, Short}
+use Rattle.octseq.specs.declared.error.WriteError.TheVariants.{Short}
 use Rattle.octseq_bgp.specs.Composed.{least}
 use Rattle.octseq_bgp.specs.Held.{Held, held_is}
 use Rattle.octseq_bgp.specs.PartOctets.{PartOctets, Puts}
@@ -16,14 +18,14 @@ use Rattle.octseq_bgp.specs.Written.{prefixes_octets, attributes_octets}
 use Rattle.octseq_bgp.specs.declared.message.update_builder.part.MpList.{MpList}
 use Rattle.octseq_bgp.specs.declared.session.SessionConfig.{SessionConfig}
 use Rattle.octseq_bgp.proofs.Composing.{least_most}
+use Rattle.octseq_bgp.proofs.UpdateParts.{puts_within}
 use Rattle.octseq_bgp.proofs.Updates.{held_same, update_long}
 
 -- ---- one more
 
 pub all_more : {A : Type 0} (P : A → Type 0) (xs : List A) {x : A} → AllByRecursion P xs → P x
     → AllByRecursion P (xs ++ x ∷ [])
-all_more P [] all one = (one, tt)
-all_more P (y ∷ xs) all one = (all.0, all_more P xs all.1 one)
+all_more P xs {x} all one = each_snoc P xs x all one
 
 pub one_more : {A : Type 0} (f : A → List ℕ) (xs : List A) (x : A) → flat_map f (xs ++ x ∷ []) ≡ flat_map f xs ++ f x
 one_more f xs x = sym (flat_map_more f [] xs x)
@@ -65,11 +67,6 @@ module _ {Reaches : WrittenUpdate → Type 0} {s : SessionConfig} {w a n : List 
     opened = opened;
   }
 
--- a call that put octets stayed within its limit
-pub puts_within : {B : Type 0} {most : ℕ} {asks : Bool} {w a n : List ℕ} {old new : PartOctets B}
-    → Puts most asks (Ok tt) w a n old new → 23 + length w + length a + length n ≤ most
-puts_within puts = let less = lt_of_not-le puts.short.1 in omega (arith, less)
-
 module _ {B : Type 0} {Reaches : WrittenUpdate → Type 0} {s : SessionConfig} {w a n : List ℕ} {most : ℕ} {asks : Bool}
     {old new : PartOctets B} {open_list : Option MpList} {open_at : ℕ} where
   -- a call that put the octets that a push wants
@@ -102,28 +99,49 @@ module _ {B : Type 0} {Reaches : WrittenUpdate → Type 0} {s : SessionConfig} {
   push_held {u} (Ok done) puts most wanted held opens = (u, ∥∥₁_map held.1 (λ x. put_held puts most wanted (opens x.opened)))
   push_held (Err e) puts most wanted held opens = none_held puts held
 
+-- ---- what a push ensures
+
+on_ok : {E P : Type 0} (result : Result (Unit {0}) E) → P → OnOk result P
+on_ok (Ok done) p = p
+on_ok (Err e) p = tt
+
+-- of what is good
+good_pushes : {B : Type 0} {limit : Option ℕ} {asks : Bool} {Good : Type 0} {wanted : WrittenUpdate}
+    {open_list : Option MpList} {before after : Writing B} (result : Result (Unit {0}) WriteError) → Good
+    → OnOk result (after.update ≡ wanted) → OnOk result (after.open_list ≡ open_list)
+    → OnErr result (after.update ≡ before.update) → OnErr result (after.open_list ≡ before.open_list)
+    → after.session ≡ before.session → ¬ IsMalformed write_error result
+    → (IsShort write_error result ↔ (least (longest before.session) limit < length (update_octets wanted)))
+    → (IsMemory write_error result → asks ≡ true) → Pushes limit asks Good result wanted open_list before after
+good_pushes result good ok opens err kept session fits short memory = record {
+  ok = ok;
+  opens = opens;
+  good = on_ok result good;
+  err = err;
+  kept = kept;
+  session = session;
+  malformed = (λ bad. absurd (fits bad), λ bad. absurd (bad good));
+  short = (λ is. (good, short.0 is), λ past. short.1 past.1);
+  memory = memory;
+}
+
+put_short : {Asks : Type 0} {Reaches : WrittenUpdate → Type 0} {s : SessionConfig} {w a n : List ℕ} {u : WrittenUpdate}
+    (limit : Option ℕ) (t : SessionConfig) → Wanted Reaches s w a n u → t ≡ s
+    → (Asks ↔ (least (longest s) limit < 23 + length w + length a + length n))
+    → (Asks ↔ (least (longest t) limit < length (update_octets u)))
+put_short {Asks = Asks} {s = s} limit t wanted same short =
+    rw same (subst (λ k. Asks ↔ (least (longest s) limit < k)) (wanted_long wanted) short)
+
 module _ {B : Type 0} {Reaches : WrittenUpdate → Type 0} {s : SessionConfig} {w a n : List ℕ} {u : WrittenUpdate}
     {limit : Option ℕ} {asks : Bool} {old new : PartOctets B} where
-  -- what the push ensures
   pub pushes_ok : {Good : Type 0} {open_list other_list : Option MpList} {open_at : ℕ} {before after : Writing B}
       → Puts (least (longest s) limit) asks (Ok tt) w a n old new → Wanted Reaches s w a n u → Good
       → before.session ≡ s → after.session ≡ before.session → (held : Held Reaches s new other_list open_at)
       → after.update ≡ held.0 → after.open_list ≡ open_list → Pushes limit asks Good (Ok tt) u open_list before after
-  pushes_ok puts wanted good session same held update opens = record {
-    ok = update ∙ held_is held (put_held {open_list = None} {open_at = 0} puts (least_most (longest s) limit) wanted tt);
-    opens = opens;
-    good = good;
-    err = tt;
-    kept = tt;
-    session = same;
-    malformed = (λ none. absurd none, λ bad. bad good);
-    short = (
-      λ none. absurd none,
-      λ past. puts.short.1 (subst (λ k. least (longest s) limit < k) (sym (wanted_long wanted))
-          (subst (λ x. least (longest x) limit < length (update_octets u)) session past.1)),
-    );
-    memory = λ none. absurd none;
-  }
+  pushes_ok puts wanted good session same held update opens =
+      good_pushes (Ok tt) good
+      (update ∙ held_is held (put_held {open_list = None} {open_at = 0} puts (least_most (longest s) limit) wanted tt))
+      opens tt tt same puts.fits (put_short limit _ wanted session puts.short) puts.memory
 
   pub pushes_err : {e : WriteError} {Good : Type 0} {wanted_list open_list : Option MpList} {open_at : ℕ}
       {before after : Writing B} → Puts (least (longest s) limit) asks (Err e) w a n old new → Wanted Reaches s w a n u
@@ -131,25 +149,9 @@ module _ {B : Type 0} {Reaches : WrittenUpdate → Type 0} {s : SessionConfig} {
       → before.update ≡ first.0 → (held : Held Reaches s new open_list open_at) → after.update ≡ held.0
       → after.open_list ≡ before.open_list → Pushes limit asks Good (Err e) u wanted_list before after
   unfolding none_held
-  pushes_err puts wanted good session same first begun held update opens = record {
-    ok = tt;
-    opens = tt;
-    good = tt;
-    err = update ∙ held_same held (none_held puts first) ∙ sym begun;
-    kept = opens;
-    session = same;
-    malformed = (λ bad. absurd (puts.fits bad), λ bad. absurd (bad good));
-    short = (
-      λ short. (
-        good,
-        subst (λ x. least (longest x) limit < length (update_octets u)) (sym session)
-            (subst (λ k. least (longest s) limit < k) (wanted_long wanted) (puts.short.0 short)),
-      ),
-      λ past. puts.short.1 (subst (λ k. least (longest s) limit < k) (sym (wanted_long wanted))
-          (subst (λ x. least (longest x) limit < length (update_octets u)) session past.1)),
-    );
-    memory = puts.memory;
-  }
+  pushes_err {e = e} puts wanted good session same first begun held update opens =
+      good_pushes (Err e) good tt tt (update ∙ held_same held (none_held puts first) ∙ sym begun) opens same puts.fits
+      (put_short limit _ wanted session puts.short) puts.memory
 
   pub pushes : (result : Result (Unit {0}) WriteError) {Good : Type 0} {open_list : Option MpList} {open_at : ℕ}
       {before after : Writing B} → Puts (least (longest s) limit) asks result w a n old new → Wanted Reaches s w a n u
@@ -161,22 +163,15 @@ module _ {B : Type 0} {Reaches : WrittenUpdate → Type 0} {s : SessionConfig} {
   pushes (Err e) puts wanted good session same first begun held update opens =
       pushes_err puts wanted good session same first begun held update opens
 
--- a call that refused what isn't good
-pub refused : {B : Type 0} {limit : Option ℕ} {asks : Bool} {Good : Type 0} {wanted : WrittenUpdate}
-    {open_list : Option MpList} {before after : Writing B} → ¬ Good → after.update ≡ before.update
-    → after.open_list ≡ before.open_list → after.session ≡ before.session
-    → Pushes limit asks Good (Err Malformed) wanted open_list before after
-refused bad update opens session = record {
-  ok = tt;
-  opens = tt;
-  good = tt;
-  err = update;
-  kept = opens;
-  session = session;
-  malformed = (λ _. bad, λ _. tt);
-  short = (λ none. absurd none, λ past. absurd (bad past.0));
-  memory = λ none. absurd none;
-}
+-- a call of what is known to be good
+pub pushes_good : {B : Type 0} {limit : Option ℕ} {asks : Bool} {Good : Type 0} {wanted : WrittenUpdate}
+    {open_list : Option MpList} {before after : Writing B} (result : Result (Unit {0}) WriteError)
+    → Pushes limit asks Good result wanted open_list before after → Good
+    → Pushes limit asks (Unit {0}) result wanted open_list before after
+pushes_good result pushed good =
+    good_pushes result tt pushed.ok pushed.opens pushed.err pushed.kept pushed.session
+    (λ bad. pushed.malformed.0 bad good) (λ short. (pushed.short.0 short).1, λ past. pushed.short.1 (good, past))
+    pushed.memory
 
 -- a call that pushed, and then opened a list
 pub pushes_opened : {B : Type 0} {limit : Option ℕ} {asks : Bool} {Good Other : Type 0} {wanted : WrittenUpdate}
@@ -184,17 +179,9 @@ pub pushes_opened : {B : Type 0} {limit : Option ℕ} {asks : Bool} {Good Other 
     → Pushes limit asks Good (Ok tt) wanted open_list before between → Other → after.update ≡ between.update
     → after.open_list ≡ other_list → after.session ≡ between.session
     → Pushes limit asks Other (Ok tt) wanted other_list before after
-pushes_opened pushed good update opens session = record {
-  ok = update ∙ pushed.ok;
-  opens = opens;
-  good = good;
-  err = tt;
-  kept = tt;
-  session = session ∙ pushed.session;
-  malformed = (λ none. absurd none, λ bad. bad good);
-  short = (λ none. absurd none, λ past. pushed.short.1 (pushed.good, past.1));
-  memory = λ none. absurd none;
-}
+pushes_opened pushed good update opens session =
+    good_pushes (Ok tt) good (update ∙ pushed.ok) opens tt tt (session ∙ pushed.session) (λ none. none)
+    (λ none. absurd none, λ past. pushed.short.1 (pushed.good, past)) (λ none. absurd none)
 
 -- a call that refused what doesn't fit
 pub too_long : {B : Type 0} {limit : Option ℕ} {asks : Bool} {Good : Type 0} {wanted : WrittenUpdate}
@@ -202,14 +189,5 @@ pub too_long : {B : Type 0} {limit : Option ℕ} {asks : Bool} {Good : Type 0} {
     → least (longest before.session) limit < length (update_octets wanted) → after.update ≡ before.update
     → after.open_list ≡ before.open_list → after.session ≡ before.session
     → Pushes limit asks Good (Err Short) wanted open_list before after
-too_long good past update opens session = record {
-  ok = tt;
-  opens = tt;
-  good = tt;
-  err = update;
-  kept = opens;
-  session = session;
-  malformed = (λ none. absurd none, λ bad. absurd (bad good));
-  short = (λ _. (good, past), λ _. tt);
-  memory = λ none. absurd none;
-}
+too_long good past update opens session =
+    good_pushes (Err Short) good tt tt update opens session (λ none. none) (λ _. past, λ _. tt) (λ none. absurd none)

@@ -3,18 +3,15 @@ use Rattle.std.proofs.Common.{◌≡◌, ℕ, ◌+◌, ◌^◌, ◌≤◌, suc, 
 use Rattle.std.proofs.Common.{refl, ap, ◌∙◌, arith}
 use Rattle.std.specs.Prelude.{if◌then◌else◌}
 use Rattle.std.proofs.Math.Logic.{∥∥₁_elim, ∥∥₁_map}
-use Rattle.std.specs.Coded.{Coded-set, coded_list, coded_ℕ, le_prop, Unit-prop, ×_prop}
-use Rattle.octseq_format.specs.Row.{each_once}
+use Rattle.std.proofs.Props.{props}
+use Rattle.std.specs.Coded.{Coded-set, codes, coded_list, le_prop, Unit-prop}
 use Rattle.octseq_bgp.specs.Composed.{long_after}
 use Rattle.octseq_bgp.specs.Held.{Held, held_is, attribute_code, prefix_code, update_code}
-use Rattle.octseq_bgp.specs.Parts.{octets_of_bits}
 use Rattle.octseq_bgp.specs.PartOctets.{PartOctets}
-use Rattle.octseq_bgp.specs.Session.{adds_path}
 use Rattle.octseq_bgp.specs.Writing.{IsHeld, IsOpen, UpToWithdrawn, UpToAttributes, empty_update}
-use Rattle.octseq_bgp.specs.Written.{WrittenPrefix, WrittenAttribute, WrittenUpdate, body_octets, update_octets, UpdateFits}
-use Rattle.octseq_bgp.specs.Written.{prefixes_octets, attributes_octets, update_body, longest, PathFits, PrefixFits}
+use Rattle.octseq_bgp.specs.Written.{WrittenAttribute, WrittenUpdate, body_octets, update_octets, UpdateFits}
+use Rattle.octseq_bgp.specs.Written.{prefixes_octets, attributes_octets, update_body, longest, PathFits}
 use Rattle.octseq_bgp.specs.Written.{AttributeFits}
-use Rattle.octseq_bgp.specs.declared.family.AfiSafiType.TheVariants as family
 use Rattle.octseq_bgp.specs.declared.message.update_builder.part.MpList.{MpList}
 use Rattle.octseq_bgp.specs.declared.prefix.PathId.{PathId}
 use Rattle.octseq_bgp.specs.declared.session.SessionConfig.{SessionConfig}
@@ -39,50 +36,30 @@ path_once true None = λ a. absurd a
 path_once false (Some id) = λ a. absurd a
 path_once false None = Unit-prop
 
-prefix_once : (most : ℕ) (paths : Bool) (p : WrittenPrefix) → IsProp (PrefixFits most paths p)
-prefix_once most paths p a b =
-    ap (λ x. record { path_id = x; bits = a.bits; octets = a.octets }) (path_once paths p.path_id a.path_id b.path_id)
-    ∙ ap (λ x. record { path_id = b.path_id; bits = x; octets = a.octets }) (le_prop a.bits b.bits)
-    ∙ ap (λ x. record { path_id = b.path_id; bits = b.bits; octets = x })
-    (Coded-set coded_ℕ (length p.octets) (octets_of_bits p.bits) a.octets b.octets)
-
 pub attribute_once : (a : WrittenAttribute) → IsProp (AttributeFits a)
-attribute_once it a b =
-    ap (λ x. record { flags = x; kind = a.kind; octets = a.octets }) (le_prop a.flags b.flags)
-    ∙ ap (λ x. record { flags = b.flags; kind = x; octets = a.octets }) (le_prop a.kind b.kind)
-    ∙ ap (λ x. record { flags = b.flags; kind = b.kind; octets = x }) (le_prop a.octets b.octets)
-
-fits_once : (s : SessionConfig) (u : WrittenUpdate) → IsProp (UpdateFits s u)
-fits_once s u a b =
-    let prefixes = each_once (prefix_once 32 (adds_path s.add_path family.Ipv4Unicast)) in
-    ap (λ x. record { withdrawn = x; attributes = a.attributes; announced = a.announced; short = a.short })
-    (prefixes u.withdrawn a.withdrawn b.withdrawn)
-    ∙ ap (λ x. record { withdrawn = b.withdrawn; attributes = x; announced = a.announced; short = a.short })
-    (each_once attribute_once u.attributes a.attributes b.attributes)
-    ∙ ap (λ x. record { withdrawn = b.withdrawn; attributes = b.attributes; announced = x; short = a.short })
-    (prefixes u.announced a.announced b.announced)
-    ∙ ap (λ x. record { withdrawn = b.withdrawn; attributes = b.attributes; announced = b.announced; short = x })
-    (le_prop a.short b.short)
+attribute_once a = hlevel props
 
 -- ---- what a builder holds
 
 module _ {B : Type 0} {Reaches : WrittenUpdate → Type 0} {s : SessionConfig} {parts : PartOctets B}
     {open_list : Option MpList} {open_at : ℕ} (held : Held Reaches s parts open_list open_at) where
+  held_all : (UpdateFits s held.0) × (parts.withdrawn ≡ prefixes_octets held.0.withdrawn)
+      × (parts.attributes ≡ attributes_octets held.0.attributes) × (parts.announced ≡ prefixes_octets held.0.announced)
+  held_all = ∥∥₁_elim held.1 (hlevel (props, path_once))
+      (λ x. (x.fits, x.withdrawn_is, x.attributes_is, x.announced_is))
+
   pub held_fits : UpdateFits s held.0
-  held_fits = ∥∥₁_elim held.1 (fits_once s held.0) (λ x. x.fits)
+  held_fits = held_all.0
 
   -- the octets of its parts
   pub held_withdrawn : parts.withdrawn ≡ prefixes_octets held.0.withdrawn
-  held_withdrawn = ∥∥₁_elim held.1 (Coded-set (coded_list coded_ℕ) parts.withdrawn (prefixes_octets held.0.withdrawn))
-      (λ x. x.withdrawn_is)
+  held_withdrawn = held_all.1
 
   pub held_attributes : parts.attributes ≡ attributes_octets held.0.attributes
-  held_attributes = ∥∥₁_elim held.1 (Coded-set (coded_list coded_ℕ) parts.attributes (attributes_octets held.0.attributes))
-      (λ x. x.attributes_is)
+  held_attributes = held_all.2
 
   pub held_announced : parts.announced ≡ prefixes_octets held.0.announced
-  held_announced = ∥∥₁_elim held.1 (Coded-set (coded_list coded_ℕ) parts.announced (prefixes_octets held.0.announced))
-      (λ x. x.announced_is)
+  held_announced = held_all.3
 
   -- and of all
   pub held_octets : body_octets parts.withdrawn parts.attributes parts.announced ≡ update_body held.0
@@ -152,9 +129,7 @@ held_long held =
 -- it has nothing after its part
 pub held_withdrawn_up : {B : Type 0} {s : SessionConfig} {parts : PartOctets B} {open_list : Option MpList} {open_at : ℕ}
     (held : Held UpToWithdrawn s parts open_list open_at) → UpToWithdrawn held.0
-held_withdrawn_up held = ∥∥₁_elim held.1
-    (×_prop (Coded-set (coded_list attribute_code) held.0.attributes []) (Coded-set (coded_list prefix_code) held.0.announced []))
-    (λ x. x.reaches)
+held_withdrawn_up held = ∥∥₁_elim held.1 (hlevel (codes, attribute_code, prefix_code, Coded-set)) (λ x. x.reaches)
 
 pub held_attributes_up : {B : Type 0} {s : SessionConfig} {parts : PartOctets B} {open_list : Option MpList} {open_at : ℕ}
     (held : Held UpToAttributes s parts open_list open_at) → UpToAttributes held.0

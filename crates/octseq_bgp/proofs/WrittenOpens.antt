@@ -1,62 +1,47 @@
 -- OPENs that get another parameter.
-use Rattle.std.proofs.Common.{◌≡◌, ℕ, ◌+◌, ◌-◌, ◌<◌, ◌≤◌, Bool, true, false, Option, Some, None, List, [], ◌∷◌, ◌++◌}
-use Rattle.std.proofs.Common.{Fits, w8, length, take, drop, refl, ap, sym, ◌∙◌, subst, arith, length-append, append-nil}
+use Rattle.std.proofs.Common.{◌≡◌, ℕ, ◌+◌, ◌<◌, ◌≤◌, Bool, true, false, Option, Some, None, List, [], ◌∷◌, ◌++◌}
+use Rattle.std.proofs.Common.{length, refl, ap, sym, ◌∙◌, subst, arith, append_assoc, length-append, append-nil}
 use Rattle.std.proofs.lemmas.Grind.{flat_map-append}
 use Rattle.std.proofs.lemmas.List.Concat.{flat_map-cons}
-use Rattle.std.specs.List.{AllByRecursion}
-use Rattle.std.specs.Prelude.{◌↔◌, Result, Ok, Err}
-use Rattle.octseq.proofs.Written.{length_be, made_be_1}
+use Rattle.std.proofs.Math.Nat.{lt_of_not-le}
+use Rattle.std.specs.Prelude.{◌↔◌, Result, OnOk, OnErr}
+use Rattle.octseq.proofs.Repeats.{each_snoc}
+use Rattle.octseq.proofs.Written.{length_be}
 use Rattle.octseq.specs.Integer.{octets_be}
-use Rattle.octseq.specs.Limit.{IsWithin}
+use Rattle.octseq.specs.Refusal.{IsShort, write_error}
 use Rattle.octseq.specs.declared.error.WriteError.{WriteError}
-use Rattle.octseq_bgp.specs.Composed.{header_octets, message_octets}
-use Rattle.octseq_bgp.specs.OneOpen.{same_open}
+use Rattle.octseq_bgp.specs.Composed.{Extends, header_octets, header_long, least, long_after, message_octets}
 use Rattle.octseq_bgp.specs.Open.{length_octets}
 use Rattle.octseq_bgp.specs.WrittenCapability.{WrittenCapability, capability_octets, written_code, written_value}
-use Rattle.octseq_bgp.specs.WrittenMessage.{limit_of, with_length}
-use Rattle.octseq_bgp.specs.WrittenOpen.{AppendsParameter, CanFollow, FitsOpen, FitsParameter, HasRoom, HoldsOpen, IsOpenWritten}
-use Rattle.octseq_bgp.specs.WrittenOpen.{PushesParameter, WrittenOpen}
-use Rattle.octseq_bgp.specs.WrittenOpen.{Room, WrittenParameter, apart_at, bare_open, front_len, is_apart, lengths}
-use Rattle.octseq_bgp.specs.WrittenOpen.{numbers_octets, open_octets, open_with, parameter_octets, parameters_octets}
-use Rattle.octseq_bgp.specs.WrittenOpen.{with_lengths, with_parameter}
-use Rattle.octseq_bgp.proofs.WrittenMessages.{message_more}
+use Rattle.octseq_bgp.specs.WrittenOpen.{CanFollow, FitsOpen, FitsParameter, HasRoom, IsOpenWritten}
+use Rattle.octseq_bgp.specs.WrittenOpen.{PushesParameter, WrittenOpen, WrittenParameter, apart_at, bare_open, front_len}
+use Rattle.octseq_bgp.specs.WrittenOpen.{is_apart, lengths, most_parameters, numbers_octets, open_max, open_octets}
+use Rattle.octseq_bgp.specs.WrittenOpen.{open_with, parameter_octets, parameters_octets, with_parameter}
+use Rattle.octseq_bgp.proofs.Composing.{least_most}
 
 -- ---- octets
 
-abbrev body_of : Bool → WrittenOpen → List ℕ → List ℕ
-body_of long o ps = numbers_octets o ++ (lengths long (length ps) ++ ps)
+numbers_long : (o : WrittenOpen) → length (numbers_octets o) ≡ 9
+unfolding octets_be
+numbers_long o = refl
+
+body_long : (long : Bool) (o : WrittenOpen) (ps : List ℕ)
+    → 19 + length (numbers_octets o ++ (lengths long (length ps) ++ ps)) ≡ front_len long + length ps
+unfolding octets_be
+body_long true o ps = omega arith
+body_long false o ps = omega arith
+
+-- what follows its header
+abbrev pub open_body : WrittenOpen → List ℕ
+open_body o =
+    let ps = parameters_octets o.long o.parameters in
+    numbers_octets o ++ (lengths o.long (length ps) ++ ps)
 
 -- an OPEN has so many octets more than its parameters
-long_body : (long : Bool) (o : WrittenOpen) (ps : List ℕ)
-    → length (message_octets 1 (body_of long o ps)) ≡ front_len long + length ps
-unfolding header_octets octets_be
-long_body true o ps = omega arith
-long_body false o ps = omega arith
-
 pub length_open : (o : WrittenOpen) (ps : List ℕ) → length (open_with o ps) ≡ front_len o.long + length ps
-length_open o ps = long_body o.long o ps
-
-body_more : (long : Bool) (o : WrittenOpen) (ps more : List ℕ)
-    → with_lengths long (message_octets 1 (body_of long o ps) ++ more) ≡ message_octets 1 (body_of long o (ps ++ more))
-unfolding with_lengths header_octets octets_be
-body_more true o ps more =
-    let old = message_octets 1 (body_of true o ps) in
-    let long = long_body true o ps in
-    let both = length-append old more in
-    let all = length-append ps more in
-    let many : length (old ++ more) - 32 ≡ length (ps ++ more) = omega (arith, long, both, all) in
-    let n = length (old ++ more) - 32 in
-    ap (λ s. take 30 s ++ (octets_be 2 n ++ drop 32 s)) (message_more 1 (body_of true o ps) more)
-    ∙ ap (λ m. let s = message_octets 1 (body_of true o ps ++ more) in take 30 s ++ (octets_be 2 m ++ drop 32 s)) many
-body_more false o ps more =
-    let old = message_octets 1 (body_of false o ps) in
-    let long = long_body false o ps in
-    let both = length-append old more in
-    let all = length-append ps more in
-    let many : length (old ++ more) - 29 ≡ length (ps ++ more) = omega (arith, long, both, all) in
-    let n = length (old ++ more) - 29 in
-    ap (λ s. take 28 s ++ (octets_be 1 n ++ drop 29 s)) (message_more 1 (body_of false o ps) more)
-    ∙ ap (λ m. let s = message_octets 1 (body_of false o ps ++ more) in take 28 s ++ (octets_be 1 m ++ drop 29 s)) many
+length_open o ps =
+    let body = numbers_octets o ++ (lengths o.long (length ps) ++ ps) in
+    long_after (19 + length body) 1 body ∙ body_long o.long o ps
 
 pub row_more : (long : Bool) (row : List WrittenParameter) (p : WrittenParameter)
     → parameters_octets long (row ++ p ∷ []) ≡ parameters_octets long row ++ parameter_octets long p
@@ -65,30 +50,31 @@ row_more long row p =
     ∙ ap (λ o. parameters_octets long row ++ o)
     (flat_map-cons (parameter_octets long) p [] ∙ append-nil (parameter_octets long p))
 
--- octets of a parameter after an OPEN are a part of it, once its lengths are written
-pub open_more : (o : WrittenOpen) (p : WrittenParameter)
-    → with_lengths o.long (open_octets o ++ parameter_octets o.long p) ≡ open_octets (with_parameter o p)
-open_more o p =
-    body_more o.long o (parameters_octets o.long o.parameters) (parameter_octets o.long p)
-    ∙ ap (λ ps. message_octets 1 (body_of o.long o ps)) (sym (row_more o.long o.parameters p))
-
--- the lengths are written one after the other
-pub over_long : (old sized new bytes : List ℕ) (n : ℕ) → sized ≡ with_length old → bytes ≡ octets_be 2 n
-    → n ≡ length old - 32 → new ≡ take 30 sized ++ (bytes ++ drop (30 + length bytes) sized)
-    → new ≡ with_lengths true old
-unfolding with_lengths
-over_long old sized new bytes n is count many over =
-    let two : 30 + length bytes ≡ 32 = (let b = ap length count in let l = length_be 2 n in omega (arith, b, l)) in
-    over ∙ ap (λ k. take 30 sized ++ (bytes ++ drop k sized)) two
-    ∙ ap (λ b. take 30 sized ++ (b ++ drop 32 sized)) (count ∙ ap (octets_be 2) many)
-    ∙ ap (λ s. take 30 s ++ (octets_be 2 (length old - 32) ++ drop 32 s)) is
-
-pub over_short : (old sized new : List ℕ) (n : ℕ) → sized ≡ with_length old → Fits w8 n
-    → n ≡ length old - 29 → new ≡ take 28 sized ++ ((n ∷ []) ++ drop 29 sized) → new ≡ with_lengths false old
-unfolding with_lengths
-over_short old sized new n is fits many over =
-    over ∙ ap (λ b. take 28 sized ++ (b ++ drop 29 sized)) (made_be_1 n fits ∙ ap (octets_be 1) many)
-    ∙ ap (λ s. take 28 s ++ (octets_be 1 (length old - 29) ++ drop 29 s)) is
+-- an OPEN and the octets of a parameter after it, whose length was then written
+pub open_more : (long : Bool) (o : WrittenOpen) (p : WrittenParameter) {old between new : List ℕ}
+    → IsOpenWritten long old o
+    → ((kind : ℕ) (body : List ℕ) → old ≡ message_octets kind body
+    → between ≡ message_octets kind (body ++ parameter_octets long p))
+    → ((a ps : List ℕ) (n : ℕ) → between ≡ a ++ (lengths long n ++ ps) → length a ≡ 28
+    → new ≡ a ++ (lengths long (length ps) ++ ps))
+    → new ≡ open_octets (with_parameter o p)
+open_more long o p was extends count =
+    let here : WrittenOpen = record o { long = long } in
+    let same : here ≡ o = ap (λ l. record o { long = l }) (sym was.form) in
+    let ps = parameters_octets long o.parameters in
+    let more = parameter_octets long p in
+    let n = numbers_octets o in
+    let body = n ++ (lengths long (length ps) ++ ps) in
+    let h = header_octets (19 + length (body ++ more)) 1 in
+    let rest = lengths long (length (ps ++ more)) ++ (ps ++ more) in
+    let extended = extends 1 body (was.are ∙ ap open_octets (sym same)) in
+    let front = length-append h n in
+    let counted = count (h ++ n) (ps ++ more) (length ps) (extended ∙ simp append_assoc)
+    (omega (arith, front, header_long (19 + length (body ++ more)) 1, numbers_long o)) in
+    let all : 19 + length (body ++ more) ≡ 19 + length (n ++ rest) =
+    omega (arith, length-append body more, length-append ps more, body_long long o ps, body_long long o (ps ++ more)) in
+    counted ∙ append_assoc h n rest ∙ ap (λ k. header_octets k 1 ++ (n ++ rest)) all
+    ∙ ap (open_with here) (sym (row_more long o.parameters p)) ∙ ap (λ x. open_octets (with_parameter x p)) same
 
 -- ---- numbers
 
@@ -124,17 +110,15 @@ length_capability c =
     let many = length_parameter false (written_code c, written_value c) in
     omega (arith, many)
 
--- the number of octets of an OPEN with another parameter
-pub length_more : (o : WrittenOpen) (p : WrittenParameter)
-    → length (open_octets (with_parameter o p)) ≡ length (open_octets o) + length (parameter_octets o.long p)
-length_more o p =
-    let old = length_open o (parameters_octets o.long o.parameters) in
-    let new = length_open (with_parameter o p) (parameters_octets o.long (o.parameters ++ p ∷ [])) in
-    let both = ap length (row_more o.long o.parameters p) in
-    let all = length-append (parameters_octets o.long o.parameters) (parameter_octets o.long p) in
-    omega (arith, old, new, both, all)
-
 -- ---- the first parameter
+
+front_few : (long : Bool) → front_len long ≤ 32
+front_few true = omega arith
+front_few false = omega arith
+
+none_apart : (long : Bool) → is_apart long [] ≡ true
+none_apart true = refl
+none_apart false = refl
 
 -- parameters have octets if there are some
 some_octets : (long : Bool) (p : WrittenParameter) (row : List WrittenParameter)
@@ -170,45 +154,17 @@ next_apart o p first fits is =
 
 -- ---- room
 
-pub room_of : (limit : Option ℕ) (o : WrittenOpen) → HasRoom limit o ↔ Room limit o.long (length (open_octets o))
-room_of limit o =
-    let long = length_open o (parameters_octets o.long o.parameters) in (
-      (λ has. let few = has.0 in (omega (arith, long, few), has.1)),
-      (λ room. let few = room.0 in (omega (arith, long, few), room.1)),
-    )
-
-short_of : (limit : Option ℕ) (n : ℕ) → IsWithin (limit_of 4096 limit) n → n ≤ 4096
-short_of None n within = within
-short_of (Some limit) n within = omega (arith, within)
-
-each_more : {A : Type 0} (Fits : A → Type 0) (row : List A) (one : A) → AllByRecursion Fits row → Fits one
-    → AllByRecursion Fits (row ++ one ∷ [])
-each_more Fits [] one each fits = (fits, tt)
-each_more Fits (x ∷ row) one each fits = (each.0, each_more Fits row one each.1 fits)
-
--- an OPEN with another parameter fits
-fits_more : (limit : Option ℕ) (o : WrittenOpen) (p : WrittenParameter) → FitsOpen o → CanFollow o p
-    → HasRoom limit (with_parameter o p) → FitsOpen (with_parameter o p)
-fits_more limit o p fits can room = record {
-  my_asn = fits.my_asn;
-  holdtime = fits.holdtime;
-  identifier = fits.identifier;
-  parameters = each_more (FitsParameter o.long) o.parameters p fits.parameters can.0;
-  apart = can.1;
-  few = room.0;
-  short = short_of limit (length (open_octets (with_parameter o p))) room.1;
-}
-
--- octets that were an OPEN are one with another parameter
-pub written_more : (limit : Option ℕ) (long : Bool) (old new : List ℕ) (o : WrittenOpen) (p : WrittenParameter)
-    → IsOpenWritten long old o → CanFollow o p → HasRoom limit (with_parameter o p)
-    → new ≡ with_lengths long (old ++ parameter_octets long p) → IsOpenWritten o.long new (with_parameter o p)
-written_more limit long old new o p was can room is = record {
-  form = refl;
-  are = is ∙ ap (λ l. with_lengths l (old ++ parameter_octets l p)) (sym was.form)
-      ∙ ap (λ c. with_lengths o.long (c ++ parameter_octets o.long p)) was.are ∙ open_more o p;
-  fits = fits_more limit o p was.fits can room;
-}
+-- so many octets of parameters are too many exactly if the OPEN is too long
+room_of : (limit : Option ℕ) (long : Bool) (n : ℕ) → (least (open_max long) limit < front_len long + n)
+    ↔ ¬ ((n ≤ most_parameters long) × (front_len long + n ≤ least 4096 limit))
+room_of None long n = (
+  λ past has. omega (arith, past, has),
+  λ none. lt_of_not-le (λ fits. none (omega (arith, fits), omega (arith, fits))),
+)
+room_of (Some most) long n = (
+  λ past has. omega (arith, past, has),
+  λ none. lt_of_not-le (λ fits. none (omega (arith, fits), omega (arith, fits))),
+)
 
 -- ---- what an append does
 
@@ -227,97 +183,113 @@ can_follow long old o p first was is =
       (λ fits. (subst (λ l. FitsParameter l p) (sym was.form) fits.0, next ∙ fits.1)),
     )
 
--- there is room exactly if there is for so many octets more
-pub has_more : (limit : Option ℕ) (long : Bool) (old : List ℕ) (o : WrittenOpen) (p : WrittenParameter) (more : ℕ)
-    → IsOpenWritten long old o → more ≡ length (parameter_octets long p)
-    → HasRoom limit (with_parameter o p) ↔ Room limit long (length old + more)
-has_more limit long old o p more was many =
-    let n = length (open_octets (with_parameter o p)) in
-    let same = length_more o p in
-    let was_many = ap length was.are in
-    let form = ap (λ l. length (parameter_octets l p)) was.form in
-    let all : n ≡ length old + more = omega (arith, same, was_many, form, many) in
-    let room = room_of limit (with_parameter o p) in (
-      (λ has. subst (Room limit long) all (subst (λ l. Room limit l n) was.form (room.0 has))),
-      (λ there. room.1 (subst (λ l. Room limit l n) (sym was.form) (subst (Room limit long) (sym all) there))),
+-- ---- an OPEN that is extended
+
+-- it has the octets of a header, and not too many
+pub open_within : (long : Bool) (o : WrittenOpen) {old : List ℕ} → IsOpenWritten long old o
+    → (19 ≤ length old) × (front_len long ≤ length old) × (length old ≤ open_max long)
+open_within long o was =
+    let all = ap length was.are in
+    let many = length_open o (parameters_octets o.long o.parameters) in
+    let form = ap front_len was.form in
+    let most = ap most_parameters was.form in (
+      omega (arith, all, long_after (19 + length (open_body o)) 1 (open_body o)),
+      omega (arith, all, many, form),
+      omega (arith, all, many, form, most, was.fits.few, was.fits.short),
     )
 
-module _ {limit : Option ℕ} {asks : Bool} {Can : Type 0} (p : WrittenParameter) (o : WrittenOpen) where
-  pub refused_malformed : (old : List ℕ) → ¬ Can
-      → AppendsParameter limit asks Can (Err WriteError.Malformed) p o old old
-  refused_malformed old cannot = record {
-    ok = tt;
-    err = refl;
-    malformed = (λ _. cannot, λ _. tt);
-    short = (λ x. absurd x, λ has. absurd (cannot has.0));
-    memory = λ x. absurd x;
-  }
+module _ (long : Bool) (o : WrittenOpen) (p : WrittenParameter) {old : List ℕ} (was : IsOpenWritten long old o) where
+  -- its body, and the octets of a parameter
+  abbrev extended : List ℕ
+  extended = open_body o ++ parameter_octets long p
 
-  pub refused_short : (old : List ℕ) → Can → ¬ HasRoom limit (with_parameter o p)
-      → AppendsParameter limit asks Can (Err WriteError.Short) p o old old
-  refused_short old can full = record {
-    ok = tt;
-    err = refl;
-    malformed = (λ x. absurd x, λ cannot. absurd (cannot can));
-    short = (λ _. (can, full), λ _. tt);
-    memory = λ x. absurd x;
-  }
+  extended_long : length (message_octets 1 extended)
+      ≡ front_len long + length (parameters_octets o.long (o.parameters ++ p ∷ []))
+  extended_long =
+      let ps = parameters_octets o.long o.parameters in
+      let row = ap length (row_more o.long o.parameters p) in
+      let both = length-append ps (parameter_octets o.long p) in
+      let all = length-append (open_body o) (parameter_octets long p) in
+      let form = ap (λ l. length (parameter_octets l p)) was.form in
+      omega (
+        arith,
+        long_after (19 + length extended) 1 extended,
+        body_long o.long o ps,
+        row,
+        both,
+        all,
+        form,
+        ap front_len was.form,
+      )
 
-  pub refused_memory : (old new : List ℕ) → Can → HasRoom limit (with_parameter o p) → asks ≡ true → new ≡ old
-      → AppendsParameter limit asks Can (Err WriteError.Memory) p o old new
-  refused_memory old new can room memory same = record {
-    ok = tt;
-    err = same;
-    malformed = (λ x. absurd x, λ cannot. absurd (cannot can));
-    short = (λ x. absurd x, λ has. absurd (has.1 room));
-    memory = λ _. memory;
-  }
+  more_long : length (open_octets (with_parameter o p))
+      ≡ front_len long + length (parameters_octets o.long (o.parameters ++ p ∷ []))
+  more_long =
+      let ps = parameters_octets o.long (o.parameters ++ p ∷ []) in
+      length_open (with_parameter o p) ps ∙ ap (λ l. front_len l + length ps) was.form
 
-  pub appended : (old new : List ℕ) → Can → HasRoom limit (with_parameter o p)
-      → IsOpenWritten o.long new (with_parameter o p) → AppendsParameter limit asks Can (Ok tt) p o old new
-  appended old new can room is = record {
-    ok = is;
-    err = tt;
-    malformed = (λ x. absurd x, λ cannot. absurd (cannot can));
-    short = (λ x. absurd x, λ has. absurd (has.1 room));
-    memory = λ x. absurd x;
-  }
+  module _ (limit : Option ℕ) {asks : Bool} {result : Result (Unit {0}) WriteError} {new : List ℕ}
+      (done : Extends write_error (least (open_max long) limit) asks result (message_octets 1 extended) old new) where
+    -- it was too long for the call exactly if it has no room
+    pub no_room : IsShort write_error result ↔ ¬ HasRoom limit (with_parameter o p)
+    no_room =
+        let room = room_of limit long (length (parameters_octets o.long (o.parameters ++ p ∷ []))) in
+        let most = ap most_parameters was.form in (
+          (λ short has. let past = done.short.0 short in
+              room.0 (omega (arith, past, extended_long)) (omega (arith, has, most), omega (arith, has, more_long))),
+          (λ none. let past = room.1 (λ fits. none (omega (arith, fits, most), omega (arith, fits, more_long))) in
+              done.short.1 (omega (arith, past, extended_long))),
+        )
 
--- ---- what contracts see of it
+    -- what a push is that extended it, or left it
+    pub pushed : {Has : Type 0} (now : WrittenOpen) → Has × CanFollow o p → OnOk result (now ≡ with_parameter o p)
+        → OnErr result (now ≡ o) → PushesParameter limit asks (Has × CanFollow o p) result p o now
+    pushed now can ok err = record {
+      ok = ok;
+      err = err;
+      malformed = (λ bad. absurd (done.fits bad), λ no. absurd (no can));
+      short = (λ short. (can, no_room.0 short), λ short. no_room.1 short.1);
+      memory = done.memory;
+    }
 
--- octets that are an OPEN of a form say it, whatever is known of them
-pub found_open : (long : Bool) (octets : List ℕ) (held : HoldsOpen long octets) (o : WrittenOpen)
-    → IsOpenWritten o.long octets o → o.long ≡ long → held.0 ≡ o
-found_open long octets held o is form =
-    same_open long octets held.0 o held.1 (record { form = form; are = is.are; fits = is.fits })
+  pub extended_within : (limit : Option ℕ) {between : List ℕ} → between ≡ message_octets 1 extended
+      → ¬ (least (open_max long) limit < length (message_octets 1 extended))
+      → (front_len long ≤ length between) × (length between ≤ open_max long)
+  extended_within limit is fits =
+      let within = lt_of_not-le fits in
+      let same = ap length is in
+      (omega (arith, same, extended_long), omega (arith, same, within, least_most (open_max long) limit))
 
--- an append to octets is a push to the OPEN that they say
-pub pushes_of : {limit : Option ℕ} {asks : Bool} {Can : Type 0} {long : Bool} {old new : List ℕ}
-    (result : Result (Unit {0}) WriteError) (p : WrittenParameter) (was : HoldsOpen long old)
-    (now : HoldsOpen long new) → AppendsParameter limit asks Can result p was.0 old new
-    → PushesParameter limit asks Can result p was.0 now.0
-pushes_of {long = long} {new = new} (Ok done) p was now appends = record {
-  ok = found_open long new now (with_parameter was.0 p) appends.ok was.1.form;
-  err = tt;
-  malformed = appends.malformed;
-  short = appends.short;
-  memory = appends.memory;
-}
-pushes_of {long = long} {new = new} (Err e) p was now appends = record {
-  ok = tt;
-  err = same_open long new now.0 was.0 now.1 (subst (λ octets. IsOpenWritten long octets was.0) (sym appends.err) was.1);
-  malformed = appends.malformed;
-  short = appends.short;
-  memory = appends.memory;
-}
+  -- octets that were an OPEN are one with another parameter
+  pub written_more : (limit : Option ℕ) {now : List ℕ} → CanFollow o p
+      → ¬ (least (open_max long) limit < length (message_octets 1 extended)) → now ≡ open_octets (with_parameter o p)
+      → IsOpenWritten long now (with_parameter o p)
+  written_more limit can fits is =
+      let within = lt_of_not-le fits in
+      let most = ap most_parameters was.form in
+      let fewer = least_most (open_max long) limit in
+      record {
+        form = was.form;
+        are = is;
+        fits = record {
+          my_asn = was.fits.my_asn;
+          holdtime = was.fits.holdtime;
+          identifier = was.fits.identifier;
+          parameters = each_snoc (FitsParameter o.long) o.parameters p was.fits.parameters can.0;
+          apart = can.1;
+          few = omega (arith, within, extended_long, most, fewer);
+          short = omega (arith, within, extended_long, more_long, fewer);
+        };
+      }
 
 -- ---- the octets before the parameters
 
 pub bare_written : (long : Bool) (my_asn holdtime identifier : ℕ) (octets : List ℕ) → my_asn < 65536
     → holdtime < 65536 → identifier < 4294967296 → octets ≡ open_octets (bare_open long my_asn holdtime identifier)
     → IsOpenWritten long octets (bare_open long my_asn holdtime identifier)
-bare_written true my_asn holdtime identifier octets asn hold id are =
-    let many = length_open (bare_open true my_asn holdtime identifier) [] in
+bare_written long my_asn holdtime identifier octets asn hold id are =
+    let many = length_open (bare_open long my_asn holdtime identifier) [] in
+    let front = front_few long in
     record {
       form = refl;
       are = are;
@@ -326,23 +298,8 @@ bare_written true my_asn holdtime identifier octets asn hold id are =
         holdtime = hold;
         identifier = id;
         parameters = tt;
-        apart = refl;
+        apart = none_apart long;
         few = omega arith;
-        short = omega (arith, many);
-      };
-    }
-bare_written false my_asn holdtime identifier octets asn hold id are =
-    let many = length_open (bare_open false my_asn holdtime identifier) [] in
-    record {
-      form = refl;
-      are = are;
-      fits = record {
-        my_asn = asn;
-        holdtime = hold;
-        identifier = id;
-        parameters = tt;
-        apart = refl;
-        few = omega arith;
-        short = omega (arith, many);
+        short = omega (arith, many, front);
       };
     }

@@ -1,8 +1,8 @@
 -- The UPDATE that a builder holds. There is only one.
-use Rattle.std.specs.Prelude.{◌≡◌, ℕ, Option, List, refl}
-use Rattle.std.proofs.Common.{sym, ap, ◌∙◌, arith}
+use Rattle.std.specs.Prelude.{◌≡◌, ℕ, Option}
+use Rattle.std.proofs.Common.{sym, ◌∙◌, arith}
 use Rattle.std.proofs.Math.Logic.{∥∥₁_prop, ∥∥₁_elim}
-use Rattle.std.specs.Coded.{Coded, Coded-set, code_by, coded_list, coded_option, coded×, coded_ℕ}
+use Rattle.std.specs.Coded.{Coded, Coded-set, codes}
 use mathlib.Core.HLevel.{Σ_prop_path}
 use Rattle.octseq_bgp.specs.PartOctets.{PartOctets}
 use Rattle.octseq_bgp.specs.ReadWritten.{prefixes_once, attributes_once}
@@ -12,27 +12,18 @@ use Rattle.octseq_bgp.specs.Written.{WrittenPrefix, WrittenAttribute, WrittenUpd
 use Rattle.octseq_bgp.specs.Written.{UpdateFits}
 use Rattle.octseq_bgp.specs.declared.family.AfiSafiType.TheVariants as family
 use Rattle.octseq_bgp.specs.declared.message.update_builder.part.MpList.{MpList}
-use Rattle.octseq_bgp.specs.declared.prefix.PathId.{PathId}
 use Rattle.octseq_bgp.specs.declared.session.SessionConfig.{SessionConfig}
 
 -- ---- codes, by which values are equal in at most one way
 
-abbrev pub path_code : Coded PathId
-path_code = code_by ℕ coded_ℕ (λ id. id.0) (λ n. record { 0 = n }) (λ _. refl)
+pub prefix_code : Coded WrittenPrefix
+prefix_code = Prim.hlevel codes
 
-abbrev pub prefix_code : Coded WrittenPrefix
-prefix_code = code_by (Option PathId × (ℕ × List ℕ)) (coded× (coded_option path_code) (coded× coded_ℕ (coded_list coded_ℕ)))
-    (λ p. (p.path_id, (p.bits, p.octets))) (λ c. record { path_id = c.0; bits = c.1.0; octets = c.1.1 }) (λ _. refl)
+pub attribute_code : Coded WrittenAttribute
+attribute_code = Prim.hlevel codes
 
-abbrev pub attribute_code : Coded WrittenAttribute
-attribute_code = code_by (ℕ × (ℕ × List ℕ)) (coded× coded_ℕ (coded× coded_ℕ (coded_list coded_ℕ)))
-    (λ a. (a.flags, (a.kind, a.octets))) (λ c. record { flags = c.0; kind = c.1.0; octets = c.1.1 }) (λ _. refl)
-
-abbrev pub update_code : Coded WrittenUpdate
-update_code = code_by (List WrittenPrefix × (List WrittenAttribute × List WrittenPrefix))
-    (coded× (coded_list prefix_code) (coded× (coded_list attribute_code) (coded_list prefix_code)))
-    (λ u. (u.withdrawn, (u.attributes, u.announced)))
-    (λ c. record { withdrawn = c.0; attributes = c.1.0; announced = c.1.1 }) (λ _. refl)
+pub update_code : Coded WrittenUpdate
+update_code = Prim.hlevel (codes, prefix_code, attribute_code)
 
 -- ---- only one
 
@@ -46,8 +37,7 @@ same_update {s} u v here there withdrawn attributes announced =
     let first = prefixes_once 32 (omega arith) paths u.withdrawn v.withdrawn here.withdrawn there.withdrawn withdrawn in
     let second = attributes_once u.attributes v.attributes here.attributes there.attributes attributes in
     let third = prefixes_once 32 (omega arith) paths u.announced v.announced here.announced there.announced announced in
-    ap (λ w. record u { withdrawn = w }) first ∙ ap (λ a. record u { withdrawn = v.withdrawn; attributes = a }) second
-    ∙ ap (λ n. record v { announced = n }) third
+    λ i. record { withdrawn = first i; attributes = second i; announced = third i }
 
 -- the UPDATE
 abbrev pub Held : {B : Type 0} → (WrittenUpdate → Type 0) → SessionConfig → PartOctets B → Option MpList → ℕ → Type 0

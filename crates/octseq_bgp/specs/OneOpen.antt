@@ -1,7 +1,7 @@
 -- Octets are at most one OPEN that was written.
 use Rattle.std.specs.Prelude.{◌≡◌, ℕ, ◌+◌, ◌<◌, ◌^◌, Bool, true, false, List, ◌++◌, length, take, drop, map, refl}
-use Rattle.std.proofs.Common.{suc, ap, sym, subst, ◌∙◌, arith}
-use Rattle.std.specs.Coded.{Coded-set, coded_bool, coded_list, coded_ℕ, le_prop}
+use Rattle.std.proofs.Common.{ap, sym, subst, ◌∙◌, arith}
+use Rattle.std.proofs.Props.{props}
 use Rattle.std.specs.List.{AllByRecursion}
 use mathlib.Core.HLevel.{Σ_prop_path}
 use Rattle.octseq.proofs.Written.{value_be}
@@ -14,38 +14,14 @@ use Rattle.octseq_format.specs.Integers.{are_be}
 use Rattle.octseq_format.specs.Laws.{IsDelimited, IsMoving, moving_of}
 use Rattle.octseq_format.specs.Pair.{◌also◌, ◌and◌, ◌before◌, ◌delimited_then◌, ◌onward_then◌, both_octets, both_say}
 use Rattle.octseq_format.specs.Rest.{IsRest, rest_read_back}
-use Rattle.octseq_format.specs.Row.{each_once, one_to, to_read_back}
+use Rattle.octseq_format.specs.Row.{one_to, to_read_back}
 use Rattle.octseq_bgp.specs.Composed.{header_octets, message_octets}
 use Rattle.octseq_bgp.specs.OneParts.{one_tlv}
 use Rattle.octseq_bgp.specs.Parts.{IsTlv}
 use Rattle.octseq_bgp.specs.Open.{Open, length_octets}
-use Rattle.octseq_bgp.specs.WrittenOpen.{FitsOpen, FitsParameter, HoldsOpen, IsOpenWritten, WrittenOpen, WrittenParameter}
-use Rattle.octseq_bgp.specs.WrittenOpen.{front_len, is_apart, lengths, most_parameters, numbers_octets, open_octets}
+use Rattle.octseq_bgp.specs.WrittenOpen.{FitsParameter, HoldsOpen, IsOpenWritten, WrittenOpen, WrittenParameter}
+use Rattle.octseq_bgp.specs.WrittenOpen.{front_len, lengths, numbers_octets, open_octets}
 use Rattle.octseq_bgp.specs.WrittenOpen.{parameter_octets, parameters_octets}
-
-parameter_once : (long : Bool) (p : WrittenParameter) → IsProp (FitsParameter long p)
-parameter_once long p a b i = record {
-  kind = le_prop {n = suc p.0} {m = 256} a.kind b.kind i;
-  many = le_prop {n = suc (length p.1)} {m = 256 ^ length_octets long} a.many b.many i;
-}
-
-fits_once : (o : WrittenOpen) → IsProp (FitsOpen o)
-fits_once o a b i = record {
-  my_asn = le_prop {n = suc o.my_asn} {m = 65536} a.my_asn b.my_asn i;
-  holdtime = le_prop {n = suc o.holdtime} {m = 65536} a.holdtime b.holdtime i;
-  identifier = le_prop {n = suc o.identifier} {m = 4294967296} a.identifier b.identifier i;
-  parameters = each_once (parameter_once o.long) o.parameters a.parameters b.parameters i;
-  apart = Coded-set coded_bool (is_apart o.long o.parameters) true a.apart b.apart i;
-  few = le_prop {n = length (parameters_octets o.long o.parameters)} {m = most_parameters o.long} a.few b.few i;
-  short = le_prop {n = length (open_octets o)} {m = 4096} a.short b.short i;
-}
-
-written_once : (long : Bool) (octets : List ℕ) (o : WrittenOpen) → IsProp (IsOpenWritten long octets o)
-written_once long octets o a b i = record {
-  form = Coded-set coded_bool o.long long a.form b.form i;
-  are = Coded-set (coded_list coded_ℕ) octets (open_octets o) a.are b.are i;
-  fits = fits_once o a.fits b.fits i;
-}
 
 -- ---- its parts are found in its octets
 
@@ -170,12 +146,14 @@ same_open long octets a b x y =
     (subst (λ l. AllByRecursion (FitsParameter l) a.parameters) x.form x.fits.parameters)
     (subst (λ l. AllByRecursion (FitsParameter l) b.parameters) y.form y.fits.parameters)
     (sym octets_a ∙ ap (drop (front_len long)) all ∙ octets_b) in
-    ap (λ l. record a { long = l }) (x.form ∙ sym y.form)
-    ∙ ap (λ n. record a { long = b.long; my_asn = n }) asn
-    ∙ ap (λ n. record a { long = b.long; my_asn = b.my_asn; holdtime = n }) hold
-    ∙ ap (λ n. record a { long = b.long; my_asn = b.my_asn; holdtime = b.holdtime; identifier = n }) id
-    ∙ ap (λ row. record b { parameters = row }) rows
+    λ i. record {
+      long = (x.form ∙ sym y.form) i;
+      my_asn = asn i;
+      holdtime = hold i;
+      identifier = id i;
+      parameters = rows i;
+    }
 
 pub open_once : (long : Bool) (octets : List ℕ) → IsProp (HoldsOpen long octets)
 open_once long octets a b =
-    Σ_prop_path (λ o. written_once long octets o) (same_open long octets a.0 b.0 a.1 b.1)
+    Σ_prop_path (λ o. Prim.hlevel props) (same_open long octets a.0 b.0 a.1 b.1)

@@ -1,8 +1,10 @@
 -- The octets of an UPDATE while it is written, part by part: RFC 4271, 4.3.
-use Rattle.std.specs.Prelude.{◌≡◌, ℕ, ◌+◌, ◌<◌, ◌≤◌, ◌↔◌, Bool, true, List, length, take, drop, Result, OnOk, OnErr}
+use Rattle.std.specs.Prelude.{◌≡◌, ℕ, ◌+◌, ◌<◌, ◌≤◌, ◌↔◌, Bool, true, List, ◌++◌, length, take, drop}
+use Rattle.std.specs.Prelude.{Result, OnOk, OnErr}
+use Rattle.octseq.specs.Integer.{octets_be}
 use Rattle.octseq.specs.Refusal.{IsMalformed, IsShort, IsMemory, write_error}
 use Rattle.octseq.specs.declared.error.WriteError.{WriteError}
-use Rattle.octseq_bgp.specs.Composed.{Composed}
+use Rattle.octseq_bgp.specs.Composed.{message_octets}
 use Rattle.octseq_bgp.specs.Written.{body_octets}
 
 -- The builder, and the octets of the withdrawn routes, of the attributes and of the announced prefixes.
@@ -12,33 +14,51 @@ pub record PartOctets (B : Type 0) : Type 0 where
   pub attributes : List ℕ
   pub announced : List ℕ
 
--- the parts of a body with so many octets of withdrawn routes and of attributes
-abbrev pub withdrawn_in : ℕ → List ℕ → List ℕ
-withdrawn_in withdrawn body = take withdrawn (drop 2 body)
+-- an UPDATE with these parts
+abbrev pub parts_octets : (withdrawn attributes announced : List ℕ) → List ℕ
+parts_octets withdrawn attributes announced = message_octets 2 (body_octets withdrawn attributes announced)
 
-abbrev pub attributes_in : ℕ → ℕ → List ℕ → List ℕ
-attributes_in withdrawn attributes body = take attributes (drop (4 + withdrawn) body)
+-- its octets after the length of the withdrawn routes
+abbrev pub after_length : (withdrawn attributes announced : List ℕ) → List ℕ
+after_length withdrawn attributes announced =
+    withdrawn ++ (octets_be 2 (length attributes) ++ (attributes ++ announced))
 
-abbrev pub announced_in : ℕ → ℕ → List ℕ → List ℕ
-announced_in withdrawn attributes body = drop (4 + withdrawn + attributes) body
+-- the parts of a message with so many octets of withdrawn routes and of attributes
+abbrev pub parts_in : {B : Type 0} → B → List ℕ → ℕ → ℕ → PartOctets B
+parts_in octets content withdrawn attributes =
+    let rest = drop 2 (drop withdrawn (drop 21 content)) in
+    record {
+      octets = octets;
+      withdrawn = take withdrawn (drop 21 content);
+      attributes = take attributes rest;
+      announced = drop attributes rest;
+    }
 
--- the parts of a message with them
-abbrev pub parts_in : {B : Type 0} → Composed B → ℕ → ℕ → PartOctets B
-parts_in message withdrawn attributes = record {
-  octets = message.octets;
-  withdrawn = withdrawn_in withdrawn message.body;
-  attributes = attributes_in withdrawn attributes message.body;
-  announced = announced_in withdrawn attributes message.body;
-}
+-- The message is an UPDATE with these parts, of these numbers of octets, and has at most 65,535.
+pub record AreParts {B : Type 0} (content : List ℕ) (withdrawn attributes : ℕ) (parts : PartOctets B) : Type 0 where
+  pub is : content ≡ parts_octets parts.withdrawn parts.attributes parts.announced
+  pub withdrawn_is : length parts.withdrawn ≡ withdrawn
+  pub attributes_is : length parts.attributes ≡ attributes
+  pub long : length content ≡ 23 + withdrawn + attributes + length parts.announced
+  pub most : length content ≤ 65535
 
--- The body of an UPDATE has these numbers of octets, and the message has at most 65,535.
-pub record AreParts (kind : ℕ) (body : List ℕ) (withdrawn attributes : ℕ) : Type 0 where
-  pub kind_is : kind ≡ 2
-  pub body_is : body ≡ body_octets (withdrawn_in withdrawn body) (attributes_in withdrawn attributes body)
-      (announced_in withdrawn attributes body)
-  pub withdrawn_is : length (withdrawn_in withdrawn body) ≡ withdrawn
-  pub attributes_is : length (attributes_in withdrawn attributes body) ≡ attributes
-  pub most : 19 + length body ≤ 65535
+-- Octets are written in place of others, and what follows these is moved over as many at the end. All is then divided
+-- into parts.
+pub record Arranges (before : List ℕ) (at old : ℕ) (slice : List ℕ) (withdrawn attributes : ℕ) (w a n : List ℕ)
+    : Type 0 where
+  pub front : List ℕ
+  pub replaced : List ℕ
+  pub moved : List ℕ
+  pub over : List ℕ
+  pub between : List ℕ
+  pub was : before ≡ front ++ (replaced ++ (moved ++ over))
+  pub is : front ++ (slice ++ moved) ≡ w ++ (between ++ (a ++ n))
+  pub at_is : length front ≡ at
+  pub old_is : length replaced ≡ old
+  pub over_is : length replaced + length over ≡ length slice
+  pub withdrawn_is : length w ≡ withdrawn
+  pub between_is : length between ≡ 2
+  pub attributes_is : length a ≡ attributes
 
 -- A call makes the parts these, or leaves them unchanged. It is refused as short exactly if the message would exceed
 -- its greatest length, and for lack of memory only if the type requests memory.

@@ -1,8 +1,6 @@
 -- A message to be written: its header, and what follows it: RFC 4271, 4.1, and RFC 8654 for the maximum length.
-use Rattle.std.specs.Prelude.{◌≡◌, ℕ, ◌≤◌, Bool, if◌then◌else◌, Option, Some, None, List, [], ◌++◌, length, take}
-use Rattle.std.specs.Prelude.{drop, min}
-use Rattle.octseq.specs.Integer.{octets_be}
-use Rattle.octseq_bgp.specs.Composed.{message_octets}
+use Rattle.std.specs.Prelude.{◌≡◌, ℕ, ◌≤◌, Bool, if◌then◌else◌, Option, Some, List, [], length}
+use Rattle.octseq_bgp.specs.Composed.{least, message_octets}
 
 -- the maximum length of a message: 4,096 octets, or 65,535 if it may be extended
 abbrev pub longest : Bool → ℕ
@@ -10,12 +8,7 @@ longest extended = if extended then 65535 else 4096
 
 -- the smaller of a maximum and the limit of a builder
 abbrev pub limit_of : ℕ → Option ℕ → Option ℕ
-limit_of most None = Some most
-limit_of most (Some limit) = Some (min limit most)
-
--- octets whose number is written into the two octets of a header that have it
-unfoldable pub with_length : List ℕ → List ℕ
-with_length octets = take 16 octets ++ (octets_be 2 (length octets) ++ drop 18 octets)
+limit_of most limit = Some (least most limit)
 
 -- a KEEPALIVE: RFC 4271, 4.4
 abbrev pub keepalive_octets : List ℕ

@@ -1,6 +1,6 @@
 -- An OPEN to be written: RFC 4271, 4.2, and RFC 9072, 2, for the long form of parameters.
-use Rattle.std.specs.Prelude.{◌≡◌, ℕ, ◌+◌, ◌-◌, ◌<◌, ◌≤◌, ◌^◌, ◌↔◌, Bool, true, false, not, nat_eq, Option, List, [], ◌∷◌}
-use Rattle.std.specs.Prelude.{◌++◌, length, take, drop, Result, OnOk, OnErr}
+use Rattle.std.specs.Prelude.{◌≡◌, ℕ, ◌+◌, ◌<◌, ◌≤◌, ◌^◌, ◌↔◌, Bool, true, false, not, nat_eq, Option, List, [], ◌∷◌}
+use Rattle.std.specs.Prelude.{◌++◌, length, min, Result, OnOk, OnErr}
 use Rattle.std.specs.List.{AllByRecursion}
 use Rattle.octseq.specs.Integer.{octets_be}
 use Rattle.octseq.specs.Limit.{IsWithin}
@@ -9,7 +9,7 @@ use Rattle.octseq.specs.declared.error.WriteError.{WriteError}
 use Rattle.octseq_format.specs.Row.{row_octets}
 use Rattle.octseq_bgp.specs.Composed.{message_octets}
 use Rattle.octseq_bgp.specs.Open.{length_octets}
-use Rattle.octseq_bgp.specs.WrittenMessage.{limit_of, with_length}
+use Rattle.octseq_bgp.specs.WrittenMessage.{limit_of}
 
 -- A parameter: its type, and its octets.
 abbrev pub WrittenParameter : Type 0
@@ -67,13 +67,6 @@ abbrev pub front_len : Bool → ℕ
 front_len true = 32
 front_len false = 29
 
--- octets whose number, and that of their parameters, are written where an OPEN has them
-unfoldable pub with_lengths : Bool → List ℕ → List ℕ
-with_lengths true octets =
-    take 30 (with_length octets) ++ (octets_be 2 (length octets - 32) ++ drop 32 (with_length octets))
-with_lengths false octets =
-    take 28 (with_length octets) ++ (octets_be 1 (length octets - 29) ++ drop 29 (with_length octets))
-
 -- ---- which OPENs can be written
 
 -- The type and the length of a parameter fit their octets.
@@ -97,6 +90,10 @@ apart_at false false kind = true
 abbrev pub most_parameters : Bool → ℕ
 most_parameters true = 65535
 most_parameters false = 255
+
+-- the maximum length of an OPEN
+abbrev pub open_max : Bool → ℕ
+open_max long = min 4096 (front_len long + most_parameters long)
 
 -- Its numbers and its parameters fit their octets, and it is at most 4,096 octets.
 pub record FitsOpen (o : WrittenOpen) : Type 0 where
@@ -136,10 +133,6 @@ abbrev pub HasRoom : Option ℕ → WrittenOpen → Type 0
 HasRoom limit o = (length (parameters_octets o.long o.parameters) ≤ most_parameters o.long)
     × IsWithin (limit_of 4096 limit) (length (open_octets o))
 
--- n octets are an OPEN that isn't too long
-abbrev pub Room : Option ℕ → Bool → ℕ → Type 0
-Room limit long n = (n ≤ front_len long + most_parameters long) × IsWithin (limit_of 4096 limit) n
-
 -- A call pushes a parameter, or does nothing. It is refused as malformed exactly if the parameter can't be written there,
 -- otherwise as short exactly if the OPEN would be too long, and for lack of memory only if the builder requests memory.
 pub record PushesParameter (limit : Option ℕ) (asks : Bool) (Can : Type 0) (result : Result (Unit {0}) WriteError)
@@ -148,13 +141,4 @@ pub record PushesParameter (limit : Option ℕ) (asks : Bool) (Can : Type 0) (re
   pub err : OnErr result (new ≡ old)
   pub malformed : IsMalformed write_error result ↔ ¬ Can
   pub short : IsShort write_error result ↔ (Can × ¬ HasRoom limit (with_parameter old p))
-  pub memory : IsMemory write_error result → asks ≡ true
-
--- The same of octets, which were and are OPENs.
-pub record AppendsParameter (limit : Option ℕ) (asks : Bool) (Can : Type 0) (result : Result (Unit {0}) WriteError)
-    (p : WrittenParameter) (o : WrittenOpen) (old new : List ℕ) : Type 0 where
-  pub ok : OnOk result (IsOpenWritten o.long new (with_parameter o p))
-  pub err : OnErr result (new ≡ old)
-  pub malformed : IsMalformed write_error result ↔ ¬ Can
-  pub short : IsShort write_error result ↔ (Can × ¬ HasRoom limit (with_parameter o p))
   pub memory : IsMemory write_error result → asks ≡ true

@@ -1,27 +1,27 @@
 //! Messages while they are written: RFC 4271, 4.1.
-ghost use Rattle.std.specs.Prelude.{◌≡◌, ◌≤◌, ◌<◌, ◌+◌, ◌++◌, ◌↔◌, ℕ, List, length, true, IfOk, OnOk, OnErr};
+ghost use Rattle.std.specs.Prelude.{◌≡◌, ◌≤◌, ◌+◌, ◌++◌, ℕ, List, length, true, OnOk, OnErr};
 ghost use Rattle.octseq.specs.Limit.{IsWithin};
-ghost use Rattle.octseq.specs.Refusal.{IsShort, IsMemory, append_error};
-ghost use Rattle.octseq_bgp.specs.Composed.{Composes, least, header_octets, message_octets};
+ghost use Rattle.octseq.specs.Refusal.{append_error, write_error};
+ghost use Rattle.octseq_bgp.specs.Composed.{Extends, least, header_octets, message_octets};
+ghost use Rattle.octseq_bgp.specs.Puts.{Puts, PutsSome};
 
 mod value;
 
+use crate::put::{put_few, put_slice};
 use octseq::builder::AsOctetsMut;
-use octseq::{AppendError, AsOctets, OctetsBuilder, ShortBuf, Truncate, WriteError};
+use octseq::{AppendError, OctetsBuilder, ShortBuf, Truncate, WriteError};
 use std::alloc::AllocError;
-use std::marker::Model;
-
-/// The number of octets of a header.
-const HEADER_LEN: usize = 19;
+pub(crate) use value::Valued;
 
 /// The place of the length in a header.
 const LENGTH_AT: usize = 16;
 
 /// Writes a slice over as many octets, from `at` on.
-fn write_over<B: AsOctetsMut>(octets: &mut B, at: usize, slice: &[u8])
+pub(crate) fn write_over<B: AsOctetsMut>(octets: &mut B, at: usize, slice: &[u8])
     requires { at + length slice.now ≤ length (B.content octets.old) }
     ensures content { (a x b : List ℕ) → B.content octets.old ≡ a ++ (x ++ b) → length a ≡ at
         → length x ≡ length slice.now → B.content octets.new ≡ a ++ (slice.now ++ b) }
+    ensures len { length (B.content octets.new) ≡ length (B.content octets.old) }
     ensures borrows { B.borrows octets.new ≡ B.borrows octets.old }
 {
     octets.as_mut()[at..at + slice.len()].copy_from_slice(slice);
@@ -32,6 +32,7 @@ fn insert_over<B: AsOctetsMut>(octets: &mut B, at: usize, slice: &[u8])
     requires { at + length slice.now ≤ length (B.content octets.old) }
     ensures content { (a b x : List ℕ) → B.content octets.old ≡ a ++ (b ++ x) → length a ≡ at
         → length x ≡ length slice.now → B.content octets.new ≡ a ++ (slice.now ++ b) }
+    ensures len { length (B.content octets.new) ≡ length (B.content octets.old) }
     ensures borrows { B.borrows octets.new ≡ B.borrows octets.old }
 {
     if slice.is_empty() {
@@ -41,6 +42,20 @@ fn insert_over<B: AsOctetsMut>(octets: &mut B, at: usize, slice: &[u8])
     let end = octets.len() - slice.len();
     octets.copy_within(at..end, at + slice.len());
     octets[at..at + slice.len()].copy_from_slice(slice);
+}
+
+/// Writes a slice in place of the `old` octets from `at` on, and moves what follows over as many octets at the end.
+pub(crate) fn replace_over<B: AsOctetsMut>(octets: &mut B, at: usize, old: usize, slice: &[u8])
+    requires old { old ≤ length slice.now }
+    requires inside { at + length slice.now ≤ length (B.content octets.old) }
+    requires most { length (B.content octets.old) ≤ 65535 }
+    ensures content { (a o b x : List ℕ) → B.content octets.old ≡ a ++ (o ++ (b ++ x)) → length a ≡ at
+        → length o ≡ old → length o + length x ≡ length slice.now → B.content octets.new ≡ a ++ (slice.now ++ b) }
+    ensures len { length (B.content octets.new) ≡ length (B.content octets.old) }
+    ensures borrows { B.borrows octets.new ≡ B.borrows octets.old }
+{
+    insert_over(octets, at + old, &slice[old..]);
+    write_over(octets, at, &slice[..old]);
 }
 
 /// Returns how many octets a builder takes, up to its limit and to `most`.
@@ -53,29 +68,6 @@ fn room<B: OctetsBuilder>(octets: &B, most: usize) -> usize
         None => most,
     };
     limit - octets.len()
-}
-
-/// Appends two slices for which there is room, both or neither.
-fn append_both<B: OctetsBuilder + Truncate>(
-    octets: &mut B,
-    first: &[u8],
-    second: &[u8],
-) -> Result<(), AllocError>
-    requires { IsWithin B.limit (length (B.content octets.old) + length first.now + length second.now) }
-    ensures ok { OnOk result (B.content octets.new ≡ B.content octets.old ++ (first.now ++ second.now)) }
-    ensures err { OnErr result (B.content octets.new ≡ B.content octets.old) }
-    ensures memory { OnErr result (B.asks ≡ true) }
-    ensures borrows { B.borrows octets.new ≡ B.borrows octets.old }
-{
-    let before = octets.len();
-    if octets.append_few(first).is_err() {
-        return Err(AllocError);
-    }
-    if octets.append_slice(second).is_err() {
-        octets.truncate(before);
-        return Err(AllocError);
-    }
-    Ok(())
 }
 
 /// Returns a header.
@@ -102,119 +94,148 @@ fn put_length<B: AsOctetsMut>(octets: &mut B)
     write_over(octets, LENGTH_AT, &length);
 }
 
-/// A message while it is written. The length in its header is that of its octets.
+/// Octets that are appended to a message.
+pub(crate) trait Tail {
+    // The octets, and what is known of them.
+    ghost octets: { Self → List ℕ };
+
+    ghost fits: { Self → Type 0 };
+
+    /// Returns how many.
+    fn len(&self) -> usize
+        requires { fits self.now }
+        ensures { result ≡ length (octets self.now) };
+
+    /// Appends them. On an error it may have appended some.
+    fn put<B: OctetsBuilder>(&self, builder: &mut B) -> Result<(), AllocError>
+        requires fit { fits self.now }
+        requires within { IsWithin B.limit (length (B.content builder.old) + length (octets self.now)) }
+        ensures puts { PutsSome B.asks result (octets self.now) (B.content builder.old) (B.content builder.new) }
+        ensures borrows { B.borrows builder.new ≡ B.borrows builder.old };
+}
+
+/// A slice.
 #[derive(Drop)]
-pub(crate) struct Composer<B: AsOctets> {
-    octets: B,
+pub(crate) struct Slice<'a>(pub(crate) &'a [u8]);
+
+impl<'a> Tail for Slice<'a> {
+    ghost octets = { λ s. s.0.now };
+
+    ghost fits = { λ _. Unit {0} };
+
+    fn len(&self) -> usize {
+        self.0.len()
+    }
+
+    fn put<B: OctetsBuilder>(&self, builder: &mut B) -> Result<(), AllocError> {
+        put_few(builder, self.0)
+    }
 }
 
-impl<B: AsOctets> Model for Composer<B> {
-    ghost use Rattle.octseq_bgp.specs.Composed.{Composed, IsComposed, kind_of, body_of};
-
-    ghost Value = { Composed B };
-
-    ghost view = { λ c. record {
-      octets = c.octets;
-      kind = kind_of (B.content c.octets);
-      body = body_of (B.content c.octets);
-    } };
-
-    ghost invariant = { λ c. IsComposed (B.content c.octets) };
+/// Two slices, one after the other.
+#[derive(Drop)]
+pub(crate) struct Slices<'a> {
+    pub(crate) first: &'a [u8],
+    pub(crate) second: &'a [u8],
 }
 
-impl<B: OctetsBuilder + Truncate + AsOctetsMut> Composer<B> {
-    /// Begins a message of a type in place of what the builder holds.
-    pub(crate) fn begin(mut octets: B, kind: u8, body: &[u8]) -> Result<Composer<B>, AppendError>
-        requires { 19 + length body.now ≤ 65535 }
-        ensures kind { IfOk result (λ c. c.kind ≡ kind) }
-        ensures body { IfOk result (λ c. c.body ≡ body.now) }
-        ensures short { IsShort append_error result ↔ (least 65535 B.limit < 19 + length body.now) }
-        ensures memory { IsMemory append_error result → B.asks ≡ true }
-        ensures borrows { IfOk result (λ c. B.borrows c.octets ≡ B.borrows octets) }
-    {
-        let len = HEADER_LEN + body.len();
-        octets.truncate(0);
-        if len > room(&octets, 65535) {
-            return Err(AppendError::Short(ShortBuf));
-        }
-        let header = header_of(len as u16, kind);
-        match append_both(&mut octets, &header, body) {
-            Ok(()) => Ok(Composer { octets }),
-            Err(AllocError) => Err(AppendError::Memory),
-        }
+impl<'a> Tail for Slices<'a> {
+    ghost octets = { λ s. s.first.now ++ s.second.now };
+
+    ghost fits = { λ _. Unit {0} };
+
+    fn len(&self) -> usize {
+        self.first.len() + self.second.len()
     }
 
-    /// Returns the message.
-    pub(crate) fn as_slice(&self) -> &[u8]
-        ensures { result.now ≡ message_octets self.now.kind self.now.body }
-    {
-        self.octets.as_ref()
+    fn put<B: OctetsBuilder>(&self, builder: &mut B) -> Result<(), AllocError> {
+        put_few(builder, self.first)?;
+        put_slice(builder, self.second)
+    }
+}
+
+/// A slice before other octets.
+#[derive(Drop)]
+pub(crate) struct Headed<'a, T> {
+    pub(crate) head: &'a [u8],
+    pub(crate) tail: &'a T,
+}
+
+impl<'a, T: Tail> Tail for Headed<'a, T> {
+    ghost octets = { λ h. h.head.now ++ T.octets h.tail.now };
+
+    ghost fits = { λ h. T.fits h.tail.now × (length (T.octets h.tail.now) ≤ 65535) };
+
+    fn len(&self) -> usize {
+        self.head.len() + self.tail.len()
     }
 
-    /// Returns the builder.
-    pub(crate) fn finish(self) -> B
-        ensures octets { B.content result ≡ message_octets self.kind self.body }
-        ensures same { result ≡ self.octets }
-    {
-        self.octets
+    fn put<B: OctetsBuilder>(&self, builder: &mut B) -> Result<(), AllocError> {
+        put_few(builder, self.head)?;
+        self.tail.put(builder)
     }
+}
 
-    /// Appends two slices to the body, both or neither.
-    pub(crate) fn append(
-        &mut self,
-        most: usize,
-        first: &[u8],
-        second: &[u8],
-    ) -> Result<(), WriteError>
-        requires now { 19 + length self.old.body ≤ most }
-        requires most { most ≤ 65535 }
-        ensures composed { Composes (least most B.limit) B.asks result
-            (self.old.body ++ (first.now ++ second.now)) self.old self.new }
-        ensures borrows { B.borrows self.new.octets ≡ B.borrows self.old.octets }
-    {
-        let room = room(&self.octets, most);
-        if first.len() > room || second.len() > room - first.len() {
-            return Err(WriteError::Short);
+/// Appends octets for which there is room, all or none.
+fn put_all<B: OctetsBuilder + Truncate, T: Tail>(octets: &mut B, tail: &T) -> Result<(), AllocError>
+    requires fit { T.fits tail.now }
+    requires within { IsWithin B.limit (length (B.content octets.old) + length (T.octets tail.now)) }
+    ensures puts { Puts B.asks result (T.octets tail.now) (B.content octets.old) (B.content octets.new) }
+    ensures borrows { B.borrows octets.new ≡ B.borrows octets.old }
+{
+    let start = octets.len();
+    let done = tail.put(octets);
+    if done.is_err() {
+        octets.truncate(start);
+    }
+    done
+}
+
+/// Appends octets to a message, and counts them, or does nothing.
+pub(crate) fn extend<B: OctetsBuilder + Truncate + AsOctetsMut, T: Tail>(
+    octets: &mut B,
+    most: usize,
+    tail: &T,
+) -> Result<(), AppendError>
+    requires fit { T.fits tail.now }
+    requires some { 19 ≤ length (B.content octets.old) }
+    requires now { length (B.content octets.old) ≤ most }
+    requires most { most ≤ 65535 }
+    ensures extends { (kind : ℕ) (body : List ℕ) → B.content octets.old ≡ message_octets kind body
+        → Extends append_error (least most B.limit) B.asks result (message_octets kind (body ++ T.octets tail.now))
+        (B.content octets.old) (B.content octets.new) }
+    ensures borrows { B.borrows octets.new ≡ B.borrows octets.old }
+{
+    if tail.len() > room(octets, most) {
+        return Err(AppendError::Short(ShortBuf));
+    }
+    match put_all(octets, tail) {
+        Ok(()) => {
+            put_length(octets);
+            Ok(())
         }
-        match append_both(&mut self.octets, first, second) {
-            Ok(()) => {
-                put_length(&mut self.octets);
-                Ok(())
-            }
-            Err(AllocError) => Err(WriteError::Memory),
-        }
+        Err(AllocError) => Err(AppendError::Memory),
     }
+}
 
-    /// Inserts a slice into the body and appends another, both or neither.
-    pub(crate) fn insert(
-        &mut self,
-        most: usize,
-        at: usize,
-        slice: &[u8],
-        end: &[u8],
-    ) -> Result<(), WriteError>
-        requires at { at ≤ length self.old.body }
-        requires now { 19 + length self.old.body ≤ most }
-        requires most { most ≤ 65535 }
-        ensures composed { (a b : List ℕ) → self.old.body ≡ a ++ b → length a ≡ at
-            → Composes (least most B.limit) B.asks result (a ++ (slice.now ++ (b ++ end.now))) self.old self.new }
-        ensures borrows { B.borrows self.new.octets ≡ B.borrows self.old.octets }
-    {
-        if let Err(error) = self.append(most, end, slice) {
-            return Err(error);
-        }
-        insert_over(&mut self.octets, HEADER_LEN + at, slice);
-        Ok(())
-    }
-
-    /// Writes a slice over as many octets of the body, from `at` on.
-    pub(crate) fn write_over(&mut self, at: usize, slice: &[u8])
-        requires { at + length slice.now ≤ length self.old.body }
-        ensures body { (a x b : List ℕ) → self.old.body ≡ a ++ (x ++ b) → length a ≡ at
-            → length x ≡ length slice.now → self.new.body ≡ a ++ (slice.now ++ b) }
-        ensures kind { self.new.kind ≡ self.old.kind }
-        ensures borrows { B.borrows self.new.octets ≡ B.borrows self.old.octets }
-    {
-        write_over(&mut self.octets, HEADER_LEN + at, slice);
+/// The same, with the error of a write.
+pub(crate) fn write<B: OctetsBuilder + Truncate + AsOctetsMut, T: Tail>(
+    octets: &mut B,
+    most: usize,
+    tail: &T,
+) -> Result<(), WriteError>
+    requires fit { T.fits tail.now }
+    requires some { 19 ≤ length (B.content octets.old) }
+    requires now { length (B.content octets.old) ≤ most }
+    requires most { most ≤ 65535 }
+    ensures extends { (kind : ℕ) (body : List ℕ) → B.content octets.old ≡ message_octets kind body
+        → Extends write_error (least most B.limit) B.asks result (message_octets kind (body ++ T.octets tail.now))
+        (B.content octets.old) (B.content octets.new) }
+    ensures borrows { B.borrows octets.new ≡ B.borrows octets.old }
+{
+    match extend(octets, most, tail) {
+        Ok(()) => Ok(()),
+        Err(AppendError::Short(_)) => Err(WriteError::Short),
+        Err(AppendError::Memory) => Err(WriteError::Memory),
     }
 }

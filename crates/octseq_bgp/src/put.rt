@@ -23,6 +23,16 @@ pub(crate) fn put_slice<B: OctetsBuilder>(builder: &mut B, slice: &[u8]) -> Resu
     builder.append_slice(slice).map_err(|_| AllocError)
 }
 
+/// Appends a slice of a few octets.
+#[inline(always)]
+pub(crate) fn put_few<B: OctetsBuilder>(builder: &mut B, slice: &[u8]) -> Result<(), AllocError>
+    requires { IsWithin B.limit (length (B.content builder.old) + length slice.now) }
+    ensures some { PutsSome B.asks result slice.now (B.content builder.old) (B.content builder.new) }
+    ensures borrows { B.borrows builder.new ≡ B.borrows builder.old }
+{
+    builder.append_few(slice).map_err(|_| AllocError)
+}
+
 /// Appends an octet.
 pub(crate) fn put_u8<B: OctetsBuilder>(builder: &mut B, number: u8) -> Result<(), AllocError>
     requires { IsWithin B.limit (length (B.content builder.old) + length (octets_be 1 number)) }

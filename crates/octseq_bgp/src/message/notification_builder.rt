@@ -5,7 +5,8 @@ ghost use Rattle.octseq.specs.Refusal.{IsMalformed, IsShort, IsMemory, append_er
 ghost use Rattle.octseq_bgp.specs.WrittenMessage.{limit_of, longest};
 ghost use Rattle.octseq_bgp.specs.WrittenNotification.{communication_octets, notification_octets, with_data};
 
-use crate::message::written::{begin, extend, longest};
+use crate::compose::{Slice, extend};
+use crate::message::written::{begin, longest};
 use crate::session::SessionConfig;
 use octseq::builder::{AsOctetsMut, infallible};
 use octseq::{AppendError, Array, AsOctets, OctetsBuilder, Truncate, WriteError};
@@ -87,10 +88,7 @@ impl<B: OctetsBuilder + Truncate + AsOctetsMut> NotificationBuilder<B> {
         ensures most { self.new.most ≡ self.old.most }
         ensures borrows { B.borrows self.new.octets ≡ B.borrows self.old.octets }
     {
-        if let Err(error) = extend(&mut self.octets, self.most, octets) {
-            return Err(error);
-        }
-        Ok(())
+        extend(&mut self.octets, self.most, &Slice(octets))
     }
 
     /// Appends a text to the data, after its length, or nothing. As all data of code 6 and subcode 2 or 4 it is a shutdown

@@ -1,21 +1,20 @@
 //! Writing OPENs: RFC 4271, 4.2, and RFC 9072, 2.
-ghost use Rattle.std.specs.Prelude.{◌≡◌, ◌≤◌, ◌<◌, ◌+◌, ◌^◌, ◌++◌, ◌↔◌, [], ℕ, List, length, true, false, Bool};
+ghost use Rattle.std.specs.Prelude.{◌≡◌, ◌≤◌, ◌<◌, ◌+◌, ◌^◌, ◌++◌, ◌↔◌, ℕ, List, length, true, false};
 ghost use Rattle.std.specs.Prelude.{IsTrue, IsSome, IfSome, IfOk};
 ghost use Rattle.octseq.specs.Integer.{octets_be};
 ghost use Rattle.octseq.specs.Limit.{IsPast, IsWithin};
 ghost use Rattle.octseq.specs.Refusal.{IsShort, IsMemory, append_error};
 ghost use Rattle.octseq_bgp.specs.OneOpen.{open_once};
 ghost use Rattle.octseq_bgp.specs.Open.{length_octets};
-ghost use Rattle.octseq_bgp.specs.Puts.{Puts, PutsSome};
+ghost use Rattle.octseq_bgp.specs.Puts.{PutsSome};
 ghost use Rattle.octseq_bgp.specs.WrittenCapability.{FitsCapability, capability_octets};
-ghost use Rattle.octseq_bgp.specs.WrittenMessage.{limit_of};
-ghost use Rattle.octseq_bgp.specs.WrittenOpen.{AppendsParameter, CanFollow, FitsParameter, HoldsOpen, IsOpenWritten};
-ghost use Rattle.octseq_bgp.specs.WrittenOpen.{PushesParameter, Room, WrittenOpen, WrittenParameter, apart_at};
-ghost use Rattle.octseq_bgp.specs.WrittenOpen.{bare_open, front_len};
-ghost use Rattle.octseq_bgp.specs.WrittenOpen.{most_parameters, open_octets, parameter_octets, with_lengths};
+ghost use Rattle.octseq_bgp.specs.WrittenOpen.{CanFollow, FitsParameter, HoldsOpen, IsOpenWritten, PushesParameter};
+ghost use Rattle.octseq_bgp.specs.WrittenOpen.{WrittenOpen, WrittenParameter, apart_at, bare_open, front_len, lengths};
+ghost use Rattle.octseq_bgp.specs.WrittenOpen.{open_max, open_octets, parameter_octets};
 
 use crate::capability::ComposeCapability;
-use crate::message::written::{MESSAGE_MAX, begin, set_length, write_over};
+use crate::compose::{Tail, write, write_over};
+use crate::message::written::{MESSAGE_MAX, begin};
 use crate::put::{put_slice, put_u8, put_u16};
 use octseq::builder::AsOctetsMut;
 use octseq::{AppendError, AsOctets, OctetsBuilder, Truncate, WriteError};
@@ -110,7 +109,6 @@ impl<'a, C: ComposeCapability> ComposeParameter for CapabilityParameter<'a, C> {
 /// Returns the number of octets of a parameter, or `None` if it can't be written, as the first one or a later one.
 fn parameter_len<P: ComposeParameter>(parameter: &P, long: bool, is_first: bool) -> Option<usize>
     ensures some { IfSome result (λ len. len ≡ length (parameter_octets long (P.says parameter.now))) }
-    ensures few { IfSome result (λ len. len ≤ 65538) }
     ensures fit { IsSome result ↔ P.has parameter.now × FitsParameter long (P.says parameter.now)
         × (apart_at long is_first (P.says parameter.now).0 ≡ true) }
 {
@@ -125,28 +123,19 @@ fn parameter_len<P: ComposeParameter>(parameter: &P, long: bool, is_first: bool)
     Some(2 + len)
 }
 
-/// Whether an OPEN of so many octets has no parameters.
-fn has_none(len: usize, long: bool) -> bool
-    ensures { IsTrue result ↔ (len ≡ front_len long) }
+/// Whether an OPEN has no parameters.
+fn has_none<B: AsOctets>(octets: &B, long: bool) -> bool
+    ensures { IsTrue result ↔ (length (B.content octets.now) ≡ front_len long) }
 {
+    let len = octets.len();
     if long { len == 32 } else { len == 29 }
 }
 
-/// Whether an OPEN may have so many octets more.
-fn has_room<B: OctetsBuilder>(octets: &B, long: bool, more: usize) -> bool
-    requires short { length (B.content octets.now) ≤ 4096 }
-    requires few { more ≤ 65538 }
-    ensures { IsTrue result ↔ Room B.limit long (length (B.content octets.now) + more) }
+/// Returns the maximum length of an OPEN.
+fn open_max(long: bool) -> usize
+    ensures { result ≡ open_max long }
 {
-    let len = octets.len() + more;
-    let most = if long { MESSAGE_MAX } else { 284 };
-    if len > most {
-        return false;
-    }
-    match octets.max_len() {
-        Some(limit) => len <= limit,
-        None => true,
-    }
+    if long { MESSAGE_MAX } else { 284 }
 }
 
 /// Appends a length in two octets, or in one.
@@ -189,38 +178,38 @@ fn put_some<B: OctetsBuilder, P: ComposeParameter>(
     parameter.put_value(octets)
 }
 
-/// Appends a parameter, or nothing.
-fn put_parameter<B: OctetsBuilder + Truncate, P: ComposeParameter>(
-    octets: &mut B,
+/// A parameter in the long form or in the short one. It is known to have `len` octets there.
+#[derive(Drop)]
+struct FormedParameter<'a, P> {
+    parameter: &'a P,
     long: bool,
-    parameter: &P,
-) -> Result<(), AllocError>
-    requires has { P.has parameter.now }
-    requires fit { FitsParameter long (P.says parameter.now) }
-    requires within { IsWithin B.limit (length (B.content octets.old)
-        + length (parameter_octets long (P.says parameter.now))) }
-    ensures puts { Puts B.asks result (parameter_octets long (P.says parameter.now))
-        (B.content octets.old) (B.content octets.new) }
-    ensures borrows { B.borrows octets.new ≡ B.borrows octets.old }
-{
-    let before = octets.len();
-    let done = put_some(octets, long, parameter);
-    if done.is_err() {
-        octets.truncate(before);
-    }
-    done
+    len: usize,
 }
 
-/// Writes the lengths of an OPEN and of its parameters.
-fn set_lengths<B: AsOctetsMut>(octets: &mut B, long: bool)
+impl<'a, P: ComposeParameter> Tail for FormedParameter<'a, P> {
+    ghost octets = { λ p. parameter_octets p.long (P.says p.parameter.now) };
+
+    ghost fits = { λ p. P.has p.parameter.now × FitsParameter p.long (P.says p.parameter.now)
+        × (p.len ≡ length (parameter_octets p.long (P.says p.parameter.now))) };
+
+    fn len(&self) -> usize {
+        self.len
+    }
+
+    fn put<B: OctetsBuilder>(&self, builder: &mut B) -> Result<(), AllocError> {
+        put_some(builder, self.long, self.parameter)
+    }
+}
+
+/// Writes the length of the parameters of an OPEN.
+fn count_parameters<B: AsOctetsMut>(octets: &mut B, long: bool)
     requires some { front_len long ≤ length (B.content octets.old) }
-    requires few { length (B.content octets.old) ≤ 4096 }
-    requires short { length (B.content octets.old) ≤ front_len long + most_parameters long }
-    ensures content { B.content octets.new ≡ with_lengths long (B.content octets.old) }
+    requires few { length (B.content octets.old) ≤ open_max long }
+    ensures content { (a ps : List ℕ) (n : ℕ) → B.content octets.old ≡ a ++ (lengths long n ++ ps) → length a ≡ 28
+        → B.content octets.new ≡ a ++ (lengths long (length ps) ++ ps) }
     ensures borrows { B.borrows octets.new ≡ B.borrows octets.old }
 {
     let len = octets.len();
-    set_length(octets);
     if long {
         let count = ((len - 32) as u16).to_be_bytes();
         write_over(octets, 30, &count);
@@ -236,22 +225,25 @@ fn append_parameter<B: OctetsBuilder + Truncate + AsOctetsMut, P: ComposeParamet
     parameter: &P,
 ) -> Result<(), WriteError>
     requires { HoldsOpen long (B.content octets.old) }
-    ensures appends { (o : WrittenOpen) → IsOpenWritten long (B.content octets.old) o
-        → AppendsParameter B.limit B.asks (P.has parameter.now × CanFollow o (P.says parameter.now)) result
-        (P.says parameter.now) o (B.content octets.old) (B.content octets.new) }
+    ensures holds { HoldsOpen long (B.content octets.new) }
+    ensures pushes { (o now : WrittenOpen) → IsOpenWritten long (B.content octets.old) o
+        → IsOpenWritten long (B.content octets.new) now → PushesParameter B.limit B.asks
+        (P.has parameter.now × CanFollow o (P.says parameter.now)) result (P.says parameter.now) o now }
     ensures borrows { B.borrows octets.new ≡ B.borrows octets.old }
 {
-    let is_first = has_none(octets.len(), long);
-    let Some(more) = parameter_len(parameter, long, is_first) else {
+    let is_first = has_none(octets, long);
+    let Some(len) = parameter_len(parameter, long, is_first) else {
         return Err(WriteError::Malformed);
     };
-    if !has_room(octets, long, more) {
-        return Err(WriteError::Short);
+    let formed = FormedParameter {
+        parameter,
+        long,
+        len,
+    };
+    if let Err(error) = write(octets, open_max(long), &formed) {
+        return Err(error);
     }
-    if let Err(AllocError) = put_parameter(octets, long, parameter) {
-        return Err(WriteError::Memory);
-    }
-    set_lengths(octets, long);
+    count_parameters(octets, long);
     Ok(())
 }
 

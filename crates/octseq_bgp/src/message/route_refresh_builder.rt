@@ -5,7 +5,8 @@ ghost use Rattle.octseq.specs.Refusal.{IsShort, IsMemory, append_error};
 ghost use Rattle.octseq_bgp.specs.WrittenMessage.{limit_of, longest};
 ghost use Rattle.octseq_bgp.specs.WrittenRouteRefresh.{route_refresh_octets, with_orf};
 
-use crate::message::written::{begin, extend, longest};
+use crate::compose::{Slice, extend};
+use crate::message::written::{begin, longest};
 use crate::session::SessionConfig;
 use octseq::builder::AsOctetsMut;
 use octseq::{AppendError, AsOctets, OctetsBuilder, Truncate};
@@ -87,10 +88,7 @@ impl<B: OctetsBuilder + Truncate + AsOctetsMut> RouteRefreshBuilder<B> {
         ensures most { self.new.most ≡ self.old.most }
         ensures borrows { B.borrows self.new.octets ≡ B.borrows self.old.octets }
     {
-        if let Err(error) = extend(&mut self.octets, self.most, octets) {
-            return Err(error);
-        }
-        Ok(())
+        extend(&mut self.octets, self.most, &Slice(octets))
     }
 
     /// Returns the message.

@@ -4,6 +4,7 @@ ghost use Rattle.octseq_bgp.specs.Written.{AttributeFits, WrittenAttribute, leng
 ghost use Rattle.octseq_bgp.specs.Writing.{Pushes, more_attributes};
 
 use crate::attribute::{AttributeType, Flags};
+use crate::compose::{Slice, Tail};
 use crate::message::update_builder::head::{Head, flags_for};
 use crate::message::update_builder::part::Attributes;
 use crate::message::update_builder::{UpdateBuilder, longest};
@@ -30,11 +31,27 @@ impl<B: OctetsBuilder + Truncate + AsOctetsMut> UpdateBuilder<B, Attributes> {
             None self.old self.new }
         ensures borrows { B.borrows self.new.octets ≡ B.borrows self.old.octets }
     {
-        let Some(head) = Head::new(flags.0, type_code, octets.len()) else {
+        self.push_tail(flags.0, type_code, &Slice(octets))
+    }
+
+    /// Pushes an attribute with these octets.
+    pub(super) fn push_tail<T: Tail>(
+        &mut self,
+        flags: u8,
+        type_code: u8,
+        tail: &T,
+    ) -> Result<(), WriteError>
+        requires { T.fits tail.now }
+        ensures pushed { Pushes B.limit B.asks (length (T.octets tail.now) < 256 ^ length_width flags) result
+            (more_attributes self.old.update
+            (record { flags = flags; kind = type_code; octets = T.octets tail.now })) None self.old self.new }
+        ensures borrows { B.borrows self.new.octets ≡ B.borrows self.old.octets }
+    {
+        let Some(head) = Head::new(flags, type_code, tail.len()) else {
             return Err(WriteError::Malformed);
         };
         let most = longest(&self.session);
-        match self.octets.append_attribute(most, head.as_slice(), octets) {
+        match self.octets.append_attribute(most, head.as_slice(), tail) {
             Ok(()) => {
                 self.open_list = None;
                 Ok(())

@@ -19,6 +19,7 @@ impl Head {
     pub(super) fn new(flags: u8, type_code: u8, len: usize) -> Option<Head>
         ensures octets { IfSome result (λ h. take h.len h.octets ≡ head_octets flags type_code len) }
         ensures some { IsSome result → len < 256 ^ length_width flags }
+        ensures few { IsSome result → len ≤ 65535 }
         ensures none { IsNone result → 256 ^ length_width flags ≤ len }
         ensures flags { flags < 256 }
         ensures type_code { type_code < 256 }

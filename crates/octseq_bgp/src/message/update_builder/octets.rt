@@ -1,26 +1,41 @@
 //! The octets of an UPDATE, part by part: RFC 4271, 4.3.
-ghost use Rattle.std.specs.Prelude.{◌≡◌, ◌≤◌, ◌+◌, ◌++◌, ◌<◌, ◌↔◌, [], List, ℕ, length, take, drop, true, IfOk};
+ghost use Rattle.std.specs.Prelude.{◌≡◌, ◌≤◌, ◌+◌, ◌++◌, ◌↔◌, [], List, ℕ, length, take, drop, true, IfOk};
 ghost use Rattle.octseq.specs.Limit.{IsPast};
 ghost use Rattle.octseq.specs.Refusal.{IsShort, IsMemory, append_error};
-ghost use Rattle.octseq_bgp.specs.Composed.{least, message_octets};
-ghost use Rattle.octseq_bgp.specs.PartOctets.{Puts};
+ghost use Rattle.octseq_bgp.specs.Composed.{least};
+ghost use Rattle.octseq_bgp.specs.PartOctets.{Arranges, Puts, after_length, parts_octets};
 ghost use Rattle.octseq_bgp.specs.Written.{body_octets};
-ghost use Rattle.octseq_bgp.specs.WrittenValue.{FitsValue, value_octets};
 
-use crate::attribute::ComposeAttribute;
-use crate::compose::Composer;
-use crate::session::SessionConfig;
+use crate::compose::{Headed, Slice, Slices, Tail, replace_over, write, write_over};
+use crate::message::written::begin;
 use octseq::builder::AsOctetsMut;
 use octseq::{AppendError, AsOctets, OctetsBuilder, Truncate, WriteError};
 use std::marker::Model;
 
-/// The type of an UPDATE.
-const UPDATE: u8 = 2;
+/// An UPDATE without withdrawn routes, attributes and prefixes.
+const EMPTY: [u8; 23] = [
+    255, 255, 255, 255, 255, 255, 255, 255, 255, 255, 255, 255, 255, 255, 255, 255, 0, 23, 2, 0, 0,
+    0, 0,
+];
+
+/// Writes the lengths of the withdrawn routes and of the attributes.
+fn put_lengths<B: AsOctetsMut>(octets: &mut B, withdrawn: usize, attributes: usize)
+    requires inside { 23 + withdrawn + attributes ≤ length (B.content octets.old) }
+    requires most { length (B.content octets.old) ≤ 65535 }
+    ensures content { (h x w y a n : List ℕ) → B.content octets.old ≡ h ++ (x ++ (w ++ (y ++ (a ++ n)))) → length h ≡ 19
+        → length x ≡ 2 → length w ≡ withdrawn → length y ≡ 2 → length a ≡ attributes
+        → B.content octets.new ≡ h ++ body_octets w a n }
+    ensures len { length (B.content octets.new) ≡ length (B.content octets.old) }
+    ensures borrows { B.borrows octets.new ≡ B.borrows octets.old }
+{
+    write_over(octets, 19, &(withdrawn as u16).to_be_bytes());
+    write_over(octets, 21 + withdrawn, &(attributes as u16).to_be_bytes());
+}
 
 /// The octets of an UPDATE. Contracts see those of its three parts.
 #[derive(Drop)]
 pub(super) struct UpdateOctets<B: AsOctets> {
-    message: Composer<B>,
+    octets: B,
     withdrawn: usize,
     attributes: usize,
 }
@@ -30,9 +45,10 @@ impl<B: AsOctets> Model for UpdateOctets<B> {
 
     ghost Value = { PartOctets B };
 
-    ghost view = { λ o. parts_in o.message o.withdrawn o.attributes };
+    ghost view = { λ o. parts_in o.octets (B.content o.octets) o.withdrawn o.attributes };
 
-    ghost invariant = { λ o. AreParts o.message.kind o.message.body o.withdrawn o.attributes };
+    ghost invariant = { λ o. AreParts (B.content o.octets) o.withdrawn o.attributes
+        (parts_in o.octets (B.content o.octets) o.withdrawn o.attributes) };
 }
 
 impl<B: OctetsBuilder + Truncate + AsOctetsMut> UpdateOctets<B> {
@@ -41,13 +57,13 @@ impl<B: OctetsBuilder + Truncate + AsOctetsMut> UpdateOctets<B> {
         ensures withdrawn { IfOk result (λ o. o.withdrawn ≡ []) }
         ensures attributes { IfOk result (λ o. o.attributes ≡ []) }
         ensures announced { IfOk result (λ o. o.announced ≡ []) }
-        ensures short { IsShort append_error result ↔ (least 65535 B.limit < 23) }
+        ensures short { IsShort append_error result ↔ IsPast B.limit 23 }
         ensures memory { IsMemory append_error result → B.asks ≡ true }
         ensures borrows { IfOk result (λ o. B.borrows o.octets ≡ B.borrows octets) }
     {
-        match Composer::begin(octets, UPDATE, &[0; 4]) {
-            Ok(message) => Ok(UpdateOctets {
-                message,
+        match begin(octets, &EMPTY) {
+            Ok(octets) => Ok(UpdateOctets {
+                octets,
                 withdrawn: 0,
                 attributes: 0,
             }),
@@ -57,19 +73,24 @@ impl<B: OctetsBuilder + Truncate + AsOctetsMut> UpdateOctets<B> {
 
     /// Returns the message.
     pub(super) fn as_slice(&self) -> &[u8]
-        ensures { result.now
-            ≡ message_octets 2 (body_octets self.now.withdrawn self.now.attributes self.now.announced) }
+        ensures { result.now ≡ parts_octets self.now.withdrawn self.now.attributes self.now.announced }
     {
-        self.message.as_slice()
+        self.octets.as_ref()
     }
 
     /// Returns the builder.
     pub(super) fn finish(self) -> B
-        ensures octets { B.content result
-            ≡ message_octets 2 (body_octets self.withdrawn self.attributes self.announced) }
+        ensures octets { B.content result ≡ parts_octets self.withdrawn self.attributes self.announced }
         ensures same { result ≡ self.octets }
     {
-        self.message.finish()
+        self.octets
+    }
+
+    /// Returns the number of octets of the withdrawn routes.
+    fn withdrawn_len(&self) -> usize
+        ensures { result ≡ length self.now.withdrawn }
+    {
+        self.withdrawn
     }
 
     /// Returns the number of octets of the attributes.
@@ -79,18 +100,68 @@ impl<B: OctetsBuilder + Truncate + AsOctetsMut> UpdateOctets<B> {
         self.attributes
     }
 
-    /// Divides what follows the withdrawn routes: `len` octets are attributes, and the rest are announced prefixes.
-    fn divide(&mut self, len: usize)
-        requires { len ≤ length self.old.attributes + length self.old.announced }
-        ensures divided { (attributes announced : List ℕ)
-            → self.old.attributes ++ self.old.announced ≡ attributes ++ announced → length attributes ≡ len
-            → (self.new.withdrawn ≡ self.old.withdrawn) × (self.new.attributes ≡ attributes)
-            × (self.new.announced ≡ announced) }
+    /// Appends octets to the announced prefixes.
+    fn append<T: Tail>(&mut self, most: usize, tail: &T) -> Result<(), WriteError>
+        requires fit { T.fits tail.now }
+        requires now { 23 + length self.old.withdrawn + length self.old.attributes + length self.old.announced ≤ most }
+        requires most { most ≤ 65535 }
+        ensures puts { Puts (least most B.limit) B.asks result self.old.withdrawn self.old.attributes
+            (self.old.announced ++ T.octets tail.now) self.old self.new }
         ensures borrows { B.borrows self.new.octets ≡ B.borrows self.old.octets }
     {
-        self.attributes = len;
-        self.message
-            .write_over(2 + self.withdrawn, &(len as u16).to_be_bytes());
+        write(&mut self.octets, most, tail)
+    }
+
+    /// Writes a slice in place of the `old` octets at `at` after the length of the withdrawn routes, moves what follows
+    /// over as many octets at the end, and divides all into parts.
+    fn arrange(&mut self, at: usize, old: usize, slice: &[u8], withdrawn: usize, attributes: usize)
+        requires { (w a n : List ℕ)
+            × Arranges (after_length self.old.withdrawn self.old.attributes self.old.announced) at old slice.now
+            withdrawn attributes w a n }
+        ensures arranged { (w a n : List ℕ)
+            → Arranges (after_length self.old.withdrawn self.old.attributes self.old.announced) at old slice.now
+            withdrawn attributes w a n
+            → (self.new.withdrawn ≡ w) × (self.new.attributes ≡ a) × (self.new.announced ≡ n) }
+        ensures borrows { B.borrows self.new.octets ≡ B.borrows self.old.octets }
+    {
+        replace_over(&mut self.octets, 21 + at, old, slice);
+        put_lengths(&mut self.octets, withdrawn, attributes);
+        self.withdrawn = withdrawn;
+        self.attributes = attributes;
+    }
+
+    /// Appends octets, arranges all, and counts so many more of withdrawn routes and of attributes.
+    fn push<T: Tail>(
+        &mut self,
+        most: usize,
+        tail: &T,
+        at: usize,
+        old: usize,
+        slice: &[u8],
+        withdrawn: usize,
+        attributes: usize,
+    ) -> Result<(), WriteError>
+        requires fit { T.fits tail.now }
+        requires now { 23 + length self.old.withdrawn + length self.old.attributes + length self.old.announced ≤ most }
+        requires most { most ≤ 65535 }
+        requires arranges { (w a n : List ℕ) × Arranges (after_length self.old.withdrawn self.old.attributes
+            (self.old.announced ++ T.octets tail.now)) at old slice.now (length self.old.withdrawn + withdrawn)
+            (length self.old.attributes + attributes) w a n }
+        ensures puts { (w a n : List ℕ) → Arranges (after_length self.old.withdrawn self.old.attributes
+            (self.old.announced ++ T.octets tail.now)) at old slice.now (length self.old.withdrawn + withdrawn)
+            (length self.old.attributes + attributes) w a n
+            → Puts (least most B.limit) B.asks result w a n self.old self.new }
+        ensures borrows { B.borrows self.new.octets ≡ B.borrows self.old.octets }
+    {
+        match self.append(most, tail) {
+            Ok(()) => {
+                let withdrawn = self.withdrawn_len() + withdrawn;
+                let attributes = self.attributes_len() + attributes;
+                self.arrange(at, old, slice, withdrawn, attributes);
+                Ok(())
+            }
+            Err(error) => Err(error),
+        }
     }
 
     /// Appends a slice to the withdrawn routes.
@@ -101,67 +172,28 @@ impl<B: OctetsBuilder + Truncate + AsOctetsMut> UpdateOctets<B> {
             self.old.announced self.old self.new }
         ensures borrows { B.borrows self.new.octets ≡ B.borrows self.old.octets }
     {
-        match self.message.insert(most, 2 + self.withdrawn, slice, &[]) {
-            Ok(()) => {
-                self.withdrawn = self.withdrawn + slice.len();
-                self.message
-                    .write_over(0, &(self.withdrawn as u16).to_be_bytes());
-                Ok(())
-            }
-            Err(error) => Err(error),
-        }
+        let at = self.withdrawn_len();
+        self.push(most, &Slice(slice), at, 0, slice, slice.len(), 0)
     }
 
-    /// Appends two slices to the attributes.
-    pub(super) fn append_attribute(
+    /// Appends a slice, and other octets, to the attributes.
+    pub(super) fn append_attribute<T: Tail>(
         &mut self,
         most: usize,
         head: &[u8],
-        octets: &[u8],
+        tail: &T,
     ) -> Result<(), WriteError>
+        requires fit { T.fits tail.now }
+        requires few { length (T.octets tail.now) ≤ 65535 }
         requires announced { self.old.announced ≡ [] }
         requires now { 23 + length self.old.withdrawn + length self.old.attributes ≤ most }
         requires most { most ≤ 65535 }
         ensures puts { Puts (least most B.limit) B.asks result self.old.withdrawn
-            (self.old.attributes ++ (head.now ++ octets.now)) [] self.old self.new }
+            (self.old.attributes ++ (head.now ++ T.octets tail.now)) [] self.old self.new }
         ensures borrows { B.borrows self.new.octets ≡ B.borrows self.old.octets }
     {
-        match self.message.append(most, head, octets) {
-            Ok(()) => {
-                let len = self.attributes + head.len() + octets.len();
-                self.divide(len);
-                Ok(())
-            }
-            Err(error) => Err(error),
-        }
-    }
-
-    /// Appends a slice, and the `len` octets of a value, to the attributes.
-    pub(super) fn append_value<A: ComposeAttribute>(
-        &mut self,
-        most: usize,
-        head: &[u8],
-        len: usize,
-        session: &SessionConfig,
-        value: &A,
-    ) -> Result<(), WriteError>
-        requires fit { FitsValue session.now (A.says value.now) }
-        requires len { len ≡ length (value_octets session.now (A.says value.now)) }
-        requires announced { self.old.announced ≡ [] }
-        requires now { 23 + length self.old.withdrawn + length self.old.attributes ≤ most }
-        requires most { most ≤ 65535 }
-        ensures puts { Puts (least most B.limit) B.asks result self.old.withdrawn
-            (self.old.attributes ++ (head.now ++ value_octets session.now (A.says value.now))) [] self.old self.new }
-        ensures borrows { B.borrows self.new.octets ≡ B.borrows self.old.octets }
-    {
-        match self.message.append_value(most, head, len, session, value) {
-            Ok(()) => {
-                let len = self.attributes + head.len() + len;
-                self.divide(len);
-                Ok(())
-            }
-            Err(error) => Err(error),
-        }
+        let headed = Headed { head, tail };
+        self.push(most, &headed, 0, 0, &[], 0, headed.len())
     }
 
     /// Writes a slice over the `old` octets of the attributes from `at` on, and appends another to the attributes.
@@ -183,16 +215,12 @@ impl<B: OctetsBuilder + Truncate + AsOctetsMut> UpdateOctets<B> {
             self.old self.new }
         ensures borrows { B.borrows self.new.octets ≡ B.borrows self.old.octets }
     {
-        let from = 4 + self.withdrawn + at;
-        match self.message.insert(most, from + old, &head[old..], more) {
-            Ok(()) => {
-                self.message.write_over(from, head);
-                let len = self.attributes + (head.len() - old) + more.len();
-                self.divide(len);
-                Ok(())
-            }
-            Err(error) => Err(error),
-        }
+        let from = 2 + self.withdrawn_len() + at;
+        let tail = Slices {
+            first: more,
+            second: &head[old..],
+        };
+        self.push(most, &tail, from, old, head, 0, tail.len())
     }
 
     /// Appends a slice to the announced prefixes.
@@ -203,6 +231,6 @@ impl<B: OctetsBuilder + Truncate + AsOctetsMut> UpdateOctets<B> {
             (self.old.announced ++ slice.now) self.old self.new }
         ensures borrows { B.borrows self.new.octets ≡ B.borrows self.old.octets }
     {
-        self.message.append(most, slice, &[])
+        self.append(most, &Slice(slice))
     }
 }

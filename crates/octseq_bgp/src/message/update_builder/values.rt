@@ -5,9 +5,10 @@ ghost use Rattle.octseq_bgp.specs.WrittenValue.{FitsValue, value_octets, value_t
 ghost use Rattle.octseq_bgp.specs.Writing.{Pushes, more_attributes};
 
 use crate::attribute::ComposeAttribute;
-use crate::message::update_builder::head::{Head, flags_for};
+use crate::compose::Valued;
+use crate::message::update_builder::UpdateBuilder;
+use crate::message::update_builder::head::flags_for;
 use crate::message::update_builder::part::Attributes;
-use crate::message::update_builder::{UpdateBuilder, longest};
 use octseq::builder::AsOctetsMut;
 use octseq::{OctetsBuilder, Truncate, WriteError};
 
@@ -42,19 +43,11 @@ impl<B: OctetsBuilder + Truncate + AsOctetsMut> UpdateBuilder<B, Attributes> {
     {
         let session = self.session;
         let kind = value.attribute_type();
-        let Some(head) = Head::new(flags_for(kind, len), kind.number(), len) else {
-            return Err(WriteError::Malformed);
+        let tail = Valued {
+            len,
+            session: &session,
+            value,
         };
-        let most = longest(&session);
-        match self
-            .octets
-            .append_value(most, head.as_slice(), len, &session, value)
-        {
-            Ok(()) => {
-                self.open_list = None;
-                Ok(())
-            }
-            Err(error) => Err(error),
-        }
+        self.push_tail(flags_for(kind, len), kind.number(), &tail)
     }
 }

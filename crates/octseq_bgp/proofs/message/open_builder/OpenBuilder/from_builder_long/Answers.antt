@@ -1,6 +1,7 @@
-use Rattle.std.proofs.Common.{true, refl, ◌∙◌, arith}
+use Rattle.std.proofs.Common.{true, ◌∙◌, arith}
+use Rattle.octseq_bgp.specs.OneOpen.{same_open}
 use Rattle.octseq_bgp.specs.WrittenOpen.{bare_open}
-use Rattle.octseq_bgp.proofs.WrittenOpens.{bare_written, found_open}
+use Rattle.octseq_bgp.proofs.WrittenOpens.{bare_written}
 use Rattle.octseq_bgp.proofs.message.open_builder.OpenBuilder.from_builder_long.Goals as goal
 
 pub invariant_of-result : goal.invariant_of-result
@@ -13,4 +14,4 @@ pub returns-clause-message : goal.returns-clause-message
 returns-clause-message g c =
     let is = bare_written true c.args.my_asn c.args.holdtime c.args.identifier _ (omega arith) (omega arith)
     (omega arith) (c.in-Ok.ensures.ok ∙ c.long_front.ensures) in
-    found_open true _ c.result-1.given.0 (bare_open true c.args.my_asn c.args.holdtime c.args.identifier) is refl
+    same_open true _ _ _ c.result-1.given.0.1 is
