@@ -61,12 +61,13 @@ width_most flags =
 typed_rises : (t : AttributeType) (few many : List ℕ) → length few ≤ length many
     → length (attribute_octets (typed_attribute t few)) ≤ length (attribute_octets (typed_attribute t many))
 typed_rises t few many less =
-    let heads = (head_size t (length few), head_size t (length many)) in
+    let first = head_size t (length few) in
+    let second = head_size t (length many) in
     let short = head_long (flags_for t (length few)) (type_number t) (length few) in
     let long = head_long (flags_for t (length many)) (type_number t) (length many) in
     let one = attribute_long (typed_attribute t few) in
     let other = attribute_long (typed_attribute t many) in
-    omega (arith, heads.0, heads.1, short, long, one, other, less)
+    omega (arith, first, second, short, long, one, other, less)
 
 grown_rises : (t : AttributeType) (few many : List ℕ) (attributes : List WrittenAttribute) → length few ≤ length many
     → length (attributes_octets (grown t few attributes)) ≤ length (attributes_octets (grown t many attributes))

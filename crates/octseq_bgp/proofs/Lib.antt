@@ -29,6 +29,7 @@ pub mod OneRewriting
 pub mod PathsBack
 pub mod Prefixes
 pub mod Pushes
+pub mod Puts
 pub mod ReachBack
 pub mod ReadBack
 pub mod Rewriting
