@@ -1,9 +1,9 @@
 -- The octets of heads and of prefixes.
-use Rattle.std.proofs.Common.{◌≡◌, ℕ, zero, suc, ◌+◌, ◌-◌, ◌*◌, ◌/◌, ◌%◌, ◌^◌, ◌<◌, ◌≤◌, false, List, [], ◌∷◌, ◌++◌}
+use Rattle.std.proofs.Common.{◌≡◌, ℕ, zero, suc, ◌+◌, ◌-◌, ◌/◌, ◌%◌, ◌^◌, ◌<◌, ◌≤◌, false, List, [], ◌∷◌, ◌++◌}
 use Rattle.std.proofs.Common.{length, take, drop, set, eq-eqb, refl, sym, ap, ◌∙◌, arith}
-use Rattle.std.proofs.Common.{add-one, add-zero, zero-add, append-nil}
+use Rattle.std.proofs.Common.{append-nil}
 use borrow.Rule.Slice.PartMut.{put_mid}
-use Rattle.std.proofs.Math.Seq.{drop-append_seam, drop-cons, take-append-add, take-suc-set}
+use Rattle.std.proofs.Math.Seq.{drop-append_seam, take-append-add}
 use Rattle.std.proofs.lemmas.Bool.Decides.{nat_tests}
 use Rattle.std.specs.Prelude.{nat_eq, if◌then◌else◌, slice_index, slice_range}
 use Rattle.octseq.specs.Integer.{octets_be}
@@ -43,47 +43,27 @@ head_short flags kind n is few small less =
 
 -- ---- the bits after a prefix
 
--- octets of an address before the end of the prefix are as they are
-pub address_front : (n i bits : ℕ) (octets : List ℕ) → 8 * (i + n) ≤ bits → i + n ≤ length octets
-    → address_from n i bits octets ≡ take n (drop i octets)
-address_front zero i bits octets inside fits = refl
-address_front (suc n) i bits octets inside fits =
-    let none : bits_after bits i ≡ 0 = omega (arith, inside) in
-    let here : cleared (bits_after bits i) (slice_index octets i) ≡ slice_index octets i =
-    ap (λ z. cleared z (slice_index octets i)) none ∙ omega arith in
-    let rest = address_front n (i + 1) bits octets (omega (arith, inside)) (omega (arith, fits)) in
-    ap (λ x. x ∷ address_from n (i + 1) bits octets) here ∙ ap (λ xs. slice_index octets i ∷ xs) rest
-    ∙ ap (λ k. slice_index octets i ∷ take n (drop k octets)) (add-one i)
-    ∙ ap (take (suc n)) (sym (drop-cons octets i 0 (omega (arith, fits))))
+-- the first octets of an address
+pub address_first : (n m i bits : ℕ) (octets : List ℕ) → n ≤ m
+    → take n (address_from m i bits octets) ≡ address_from n i bits octets
+address_first zero m i bits octets few = refl
+address_first (suc n) zero i bits octets few = absurd (omega (arith, few))
+address_first (suc n) (suc m) i bits octets few =
+    ap (λ o. cleared (bits_after bits i) (slice_index octets i) ∷ o) (address_first n m (i + 1) bits octets (omega (arith, few)))
 
--- one octet more
-pub address_more : (n i bits : ℕ) (octets : List ℕ)
-    → address_from (suc n) i bits octets ≡ address_from n i bits octets
-    ++ cleared (bits_after bits (i + n)) (slice_index octets (i + n)) ∷ []
-address_more zero i bits octets =
-    ap (λ k. cleared (bits_after bits k) (slice_index octets k) ∷ []) (sym (add-zero i))
-address_more (suc n) i bits octets =
-    let first = cleared (bits_after bits i) (slice_index octets i) in
-    let place : i + 1 + n ≡ i + suc n = omega arith in
-    ap (λ xs. first ∷ xs) (address_more n (i + 1) bits octets)
-    ∙ ap (λ k. first ∷ (address_from n (i + 1) bits octets ++ cleared (bits_after bits k) (slice_index octets k) ∷ [])) place
-
--- the address with the bits after a prefix cleared in the last of its octets
-pub address_cleared : (len bits : ℕ) (octets : List ℕ) → bits ≤ 8 * len → 8 * len ≤ bits + 7 → len ≤ length octets
-    → 0 < len
-    → take len (set octets (len - 1) (cleared (8 * len - bits) (slice_index octets (len - 1))))
-    ≡ address_from len 0 bits octets
-address_cleared zero bits octets most least fits some = absurd (omega (arith, some))
-address_cleared (suc n) bits octets most least fits some =
-    let place : suc n - 1 ≡ n = omega arith in
-    let after : bits_after bits n ≡ 8 * suc n - bits = omega (arith, most, least) in
-    let value = cleared (8 * suc n - bits) (slice_index octets n) in
-    ap (λ k. take (suc n) (set octets k (cleared (8 * suc n - bits) (slice_index octets k)))) place
-    ∙ take-suc-set octets n value (omega (arith, fits))
-    ∙ ap (λ xs. xs ++ value ∷ []) (sym (address_front n 0 bits octets (omega (arith, least)) (omega (arith, fits))))
-    ∙ ap (λ z. address_from n 0 bits octets ++ cleared z (slice_index octets n) ∷ []) (sym after)
-    ∙ ap (λ k. address_from n 0 bits octets ++ cleared (bits_after bits k) (slice_index octets k) ∷ []) (sym (zero-add n))
-    ∙ sym (address_more n 0 bits octets)
+-- and the first of four, before zeros
+pub four_first : (n bits : ℕ) (four octets : List ℕ) → four ≡ address_from 4 0 bits octets → n ≤ 4
+    → take n (slice_index four 0 ∷ slice_index four 1 ∷ slice_index four 2 ∷ slice_index four 3
+    ∷ 0 ∷ 0 ∷ 0 ∷ 0 ∷ 0 ∷ 0 ∷ 0 ∷ 0 ∷ 0 ∷ 0 ∷ 0 ∷ 0 ∷ [])
+    ≡ address_from n 0 bits octets
+four_first zero bits four octets is few = refl
+four_first (suc zero) bits four octets is few = ap (λ f. slice_index f 0 ∷ []) is
+four_first (suc (suc zero)) bits four octets is few = ap (λ f. slice_index f 0 ∷ slice_index f 1 ∷ []) is
+four_first (suc (suc (suc zero))) bits four octets is few =
+    ap (λ f. slice_index f 0 ∷ slice_index f 1 ∷ slice_index f 2 ∷ []) is
+four_first (suc (suc (suc (suc zero)))) bits four octets is few =
+    ap (λ f. slice_index f 0 ∷ slice_index f 1 ∷ slice_index f 2 ∷ slice_index f 3 ∷ []) is
+four_first (suc (suc (suc (suc (suc n))))) bits four octets is few = absurd (omega (arith, few))
 
 -- ---- the octets of a prefix, after a path id
 

@@ -310,7 +310,7 @@ fn octet_at(octets: &[u8], i: usize, bits: u8) -> u8
 
 /// Returns four octets of the address whose first `bits` bits are in `octets`, from an index on.
 #[inline(always)]
-fn four_at(octets: &[u8], i: usize, bits: u8) -> [u8; 4]
+pub(crate) fn four_at(octets: &[u8], i: usize, bits: u8) -> [u8; 4]
     requires { i ≤ 12 }
     ensures { result ≡ address_from 4 i bits octets.now }
 {
@@ -330,7 +330,7 @@ fn four_at(octets: &[u8], i: usize, bits: u8) -> [u8; 4]
 
 /// Returns the address whose first `bits` bits are in `octets`.
 #[inline(always)]
-fn address_of(octets: &[u8], bits: u8) -> [u8; 16]
+pub(crate) fn address_of(octets: &[u8], bits: u8) -> [u8; 16]
     ensures { result ≡ address_of bits octets.now }
 {
     let a = four_at(octets, 0, bits);

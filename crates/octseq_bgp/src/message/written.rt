@@ -35,7 +35,7 @@ pub(super) fn begin<B: OctetsBuilder + Truncate>(octets: B, front: &[u8]) -> Res
 {
     let mut octets = octets;
     octets.truncate(0);
-    if let Err(error) = octets.append_slice(front) {
+    if let Err(error) = octets.append_few(front) {
         return Err(error);
     }
     Ok(octets)

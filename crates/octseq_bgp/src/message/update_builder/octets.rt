@@ -223,14 +223,19 @@ impl<B: OctetsBuilder + Truncate + AsOctetsMut> UpdateOctets<B> {
         self.push(most, &tail, from, old, head, 0, tail.len())
     }
 
-    /// Appends a slice to the announced prefixes.
-    pub(super) fn append_announced(&mut self, most: usize, slice: &[u8]) -> Result<(), WriteError>
+    /// Appends octets to the announced prefixes.
+    pub(super) fn append_announced<T: Tail>(
+        &mut self,
+        most: usize,
+        tail: &T,
+    ) -> Result<(), WriteError>
+        requires fit { T.fits tail.now }
         requires now { 23 + length self.old.withdrawn + length self.old.attributes + length self.old.announced ≤ most }
         requires most { most ≤ 65535 }
         ensures puts { Puts (least most B.limit) B.asks result self.old.withdrawn self.old.attributes
-            (self.old.announced ++ slice.now) self.old self.new }
+            (self.old.announced ++ T.octets tail.now) self.old self.new }
         ensures borrows { B.borrows self.new.octets ≡ B.borrows self.old.octets }
     {
-        self.append(most, &Slice(slice))
+        self.append(most, tail)
     }
 }

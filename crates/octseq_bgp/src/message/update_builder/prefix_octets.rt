@@ -4,9 +4,13 @@ ghost use Rattle.octseq_bgp.specs.Parts.{octets_of_bits};
 ghost use Rattle.octseq_bgp.specs.PrefixValue.{address_from};
 ghost use Rattle.octseq_bgp.specs.Written.{IsPrefixOf, prefix_octets, written_prefix};
 
+use crate::compose::Tail;
 use crate::family::{Afi, AfiSafiType};
-use crate::prefix::{PathId, Prefix, clear};
+use crate::prefix::{PathId, Prefix, address_of, four_at};
+use crate::put::put_few;
 use crate::session::SessionConfig;
+use octseq::OctetsBuilder;
+use std::alloc::AllocError;
 
 /// The octets of a prefix, in a range.
 #[derive(Drop)]
@@ -19,6 +23,7 @@ pub(crate) struct PrefixOctets {
 
 impl PrefixOctets {
     /// Returns the octets of a prefix, with the bits after its length cleared.
+    #[inline(always)]
     pub(crate) fn new(prefix: &Prefix, path_id: Option<PathId>) -> PrefixOctets
         requires { prefix.now.len ≤ 128 }
         ensures octets { slice_range result.octets result.start result.end
@@ -50,6 +55,28 @@ impl PrefixOctets {
     }
 }
 
+impl Tail for PrefixOctets {
+    ghost octets = { λ p. slice_range p.octets p.start p.end };
+
+    ghost fits = { λ _. Unit {0} };
+
+    #[inline(always)]
+    fn len(&self) -> usize {
+        self.end - self.start
+    }
+
+    #[inline(always)]
+    fn put<B: OctetsBuilder>(&self, builder: &mut B) -> Result<(), AllocError> {
+        // A range that is known here is read from where the octets were made.
+        match (self.start, self.end) {
+            (4, 7) => put_few(builder, &self.octets[4..7]),
+            (4, 8) => put_few(builder, &self.octets[4..8]),
+            (4, 9) => put_few(builder, &self.octets[4..9]),
+            (start, end) => put_few(builder, &self.octets[start..end]),
+        }
+    }
+}
+
 /// Returns how many octets a number of bits needs.
 pub(crate) fn octets_of_bits(bits: u8) -> usize
     ensures octets { result ≡ octets_of_bits bits }
@@ -60,19 +87,18 @@ pub(crate) fn octets_of_bits(bits: u8) -> usize
     bits / 8 + (bits % 8 + 7) / 8
 }
 
-/// Returns an address with the bits after a prefix cleared in the last of its `len` octets.
+/// Returns an address with the bits after a prefix of `len` octets cleared.
+#[inline(always)]
 fn cleared_address(prefix: &Prefix, len: usize) -> [u8; 16]
-    requires bits { prefix.now.len ≤ 8 * len }
     requires few { 8 * len ≤ prefix.now.len + 7 }
     requires most { len ≤ 16 }
     ensures { take len result ≡ address_from len 0 prefix.now.len prefix.now.address }
 {
-    let mut address = prefix.address;
-    if len > 0 {
-        let last = len - 1;
-        address[last] = clear(address[last], 8 * len - usize::from(prefix.len));
+    if prefix.len > 32 {
+        return address_of(&prefix.address, prefix.len);
     }
-    address
+    let [a, b, c, d] = four_at(&prefix.address, 0, prefix.len);
+    [a, b, c, d, 0, 0, 0, 0, 0, 0, 0, 0, 0, 0, 0, 0]
 }
 
 /// Whether a prefix is one of a family, with a path id exactly if the session has them for it.

@@ -64,6 +64,6 @@ impl<B: OctetsBuilder + Truncate + AsOctetsMut> UpdateBuilder<B, Announced> {
         }
         let octets = PrefixOctets::new(prefix, path_id);
         let most = longest(&self.session);
-        self.octets.append_announced(most, octets.as_slice())
+        self.octets.append_announced(most, &octets)
     }
 }

@@ -1,12 +1,15 @@
-use Rattle.std.proofs.Common.{rules, ap, ◌∙◌, ◌*◌, set, take, ◌-◌, get_or}
-use Rattle.octseq_bgp.specs.PrefixValue.{cleared}
-use Rattle.octseq_bgp.proofs.Octets.{address_cleared}
+use Rattle.std.proofs.Common.{ap, ◌∙◌, arith, take}
+use Rattle.octseq_bgp.proofs.Octets.{address_first, four_first}
 use Rattle.octseq_bgp.proofs.message.update_builder.prefix_octets.cleared_address.Goals as goal
 
-pub returns-then-len-gt0 : goal.returns-then-len-gt0
-returns-then-len-gt0 c =
-    let a = c.args.prefix.now.address in
-    let len = c.args.len in
-    ap (λ x. take len (set a (len - 1) x)) (c.clear.ensures
-    ∙ ap (λ b. cleared (8 * len - b) (get_or a (len - 1) 0)) c.from.ensures)
-    ∙ address_cleared len c.args.prefix.now.len a c.requires.bits c.requires.few (search rules) c.if-len-gt0.true
+pub returns-then-prefix-gt32 : goal.returns-then-prefix-gt32
+returns-then-prefix-gt32 c =
+    ap (take c.args.len) c.address_of.ensures
+    ∙ address_first c.args.len 16 0 c.args.prefix.now.len c.args.prefix.now.address c.requires.most
+
+pub returns : goal.returns
+returns c =
+    let few = c.if-prefix-gt32.false in
+    let long = c.requires.few in
+    four_first c.args.len c.args.prefix.now.len c.four_at.result c.args.prefix.now.address c.four_at.ensures
+    (omega (arith, few, long))

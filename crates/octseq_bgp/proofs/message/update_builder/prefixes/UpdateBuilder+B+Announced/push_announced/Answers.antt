@@ -1,4 +1,5 @@
-use Rattle.std.proofs.Common.{refl, ◌∙◌, arith}
+use Rattle.std.proofs.Common.{refl, arith}
+use Rattle.std.specs.Prelude.{slice_range}
 use Rattle.octseq_bgp.specs.Written.{written_prefix, longest}
 use Rattle.octseq_bgp.specs.declared.family.AfiSafiType.TheVariants as family
 use Rattle.octseq_bgp.proofs.Composing.{least_most}
@@ -18,10 +19,10 @@ invariant_of-self-inside g c =
     let p = c.args.prefix.now in
     let good = c.if-not-is_prefix_of.ensures.0 refl in
     let fits = written_fits in'.session family.Ipv4Unicast p c.args.path_id good c.new-octets.ensures.path_id in
-    let octets = c.as_slice.ensures ∙ c.new-octets.ensures.octets in
+    let octets = c.new-octets.ensures.octets in
     let puts = rw c.longest-most.ensures.value at c.append_announced.ensures.puts in (
       push_held c.append_announced.result puts (least_most (longest in'.session) g.B.AsOctets.limit)
-          (announced_wanted in'.held (written_prefix p c.args.path_id) c.as_slice.result.now fits octets) in'.held (λ o. o),
+          (announced_wanted in'.held (written_prefix p c.args.path_id) (slice_range c.new-octets.result.octets c.new-octets.result.start c.new-octets.result.end) fits octets) in'.held (λ o. o),
       tt,
     )
 
@@ -31,9 +32,9 @@ returns-clause-pushed g c =
     let p = c.args.prefix.now in
     let good = c.if-not-is_prefix_of.ensures.0 refl in
     let fits = written_fits in'.session family.Ipv4Unicast p c.args.path_id good c.new-octets.ensures.path_id in
-    let octets = c.as_slice.ensures ∙ c.new-octets.ensures.octets in
+    let octets = c.new-octets.ensures.octets in
     let puts = rw c.longest-most.ensures.value at c.append_announced.ensures.puts in
     rw (← c.self.view_is)
     (pushes c.append_announced.result puts
-    (announced_wanted in'.held (written_prefix p c.args.path_id) c.as_slice.result.now fits octets) good refl refl
+    (announced_wanted in'.held (written_prefix p c.args.path_id) (slice_range c.new-octets.result.octets c.new-octets.result.start c.new-octets.result.end) fits octets) good refl refl
     in'.held refl c.self-1.given.0 refl refl)
