@@ -67,6 +67,7 @@ pub use Rattle.octseq_dns_message.specs.Parsed
 pub use Rattle.octseq_dns_message.specs.RecordData
 pub use Rattle.octseq_dns_message.specs.Said
 pub use Rattle.octseq_dns_message.specs.Section
+pub use Rattle.octseq_dns_message.specs.Stop
 pub use Rattle.octseq_dns_message.specs.TypedOption
 pub use Rattle.octseq_dns_message.specs.Walk
 pub use Rattle.octseq_dns_name.specs.Name

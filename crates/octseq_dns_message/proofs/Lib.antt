@@ -13,3 +13,4 @@ pub mod OptionData
 pub mod Options
 pub mod Places
 pub mod RecordData
+pub mod Stops

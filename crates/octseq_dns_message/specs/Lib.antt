@@ -20,5 +20,6 @@ pub mod Parsed
 pub mod RecordData
 pub mod Said
 pub mod Section
+pub mod Stop
 pub mod TypedOption
 pub mod Walk

@@ -2,4 +2,3 @@ pub mod Moves
 pub mod OneAnswer
 pub mod OnePiece
 pub mod OneText
-pub mod Stops

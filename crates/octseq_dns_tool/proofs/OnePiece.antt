@@ -9,7 +9,7 @@ use Rattle.octseq_dns.specs.Message.{IsMessage}
 use Rattle.octseq_dns.specs.MessageText.{IsMessageText}
 use Rattle.octseq_dns.specs.Rewritten.{IsMessageOf}
 use Rattle.octseq_dns.specs.declared.header.Header.{Header}
-use Rattle.octseq_dns_tool.proofs.Stops.{one_stop}
+use Rattle.octseq_dns_message.proofs.Stops.{one_stop}
 use Rattle.octseq_dns_tool.specs.Rewritten.{IsWritten, CannotMove, IsTooLong, IsAnew, IsSuch}
 use Rattle.octseq_dns_tool.specs.Shown.{HasText, IsMalformed, IsMessagePiece, IsNote, IsShown}
 use Rattle.octseq_dns_tool.specs.Taken.{IsBlock, IsLeftNote, IsMoved, IsPiece}

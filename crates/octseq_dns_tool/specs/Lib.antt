@@ -2,5 +2,4 @@ pub mod Composed
 pub mod Out
 pub mod Rewritten
 pub mod Shown
-pub mod Stop
 pub mod Taken

@@ -4,7 +4,7 @@ use Rattle.octseq_dns.specs.Entry.{Question, Record}
 use Rattle.octseq_dns.specs.Message.{IsMessage}
 use Rattle.octseq_dns.specs.MessageText.{IsMessageText}
 use Rattle.octseq_dns.specs.declared.header.Header.{Header}
-use Rattle.octseq_dns_tool.specs.Stop.{IsStop}
+use Rattle.octseq_dns.specs.Stop.{IsStop}
 use Rattle.octseq_cli.specs.Frames.{stop_line}
 
 -- Octets are a message, and this is its text.

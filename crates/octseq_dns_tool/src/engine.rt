@@ -13,7 +13,6 @@ use std::alloc::Global;
 use std::io::{Read, Write};
 
 mod compose;
-mod place;
 mod rewrite;
 mod shown;
 mod stream;

@@ -4,7 +4,7 @@ use octseq::octets::Octets;
 use octseq::str::DisplayError;
 use octseq::{Array, AsOctets, Parser, StrBuilder};
 use octseq_asserts::{assert_equal, assert_true};
-use octseq_dns::message::{Section, Sections};
+use octseq_dns::message::{Section, Sections, place_of_fault};
 use octseq_dns::{Data, Malformed, Message, Record, Rtype, Ttl};
 use std::alloc::AllocGlobal;
 use std::process::Abort;
@@ -222,4 +222,14 @@ fn a_message_shows_as_it_is_appended(rt: HostRuntime) {
         displayed(&rt, UPDATE).as_str(),
         "id 1 opcode 5 rcode 0 flags\nauthority example.com. 0 ANY A \\# 0\nexample.com. 0 ANY A \\# 0"
     );
+}
+
+#[test]
+fn a_fault_is_at_the_first_part_that_isnt_there(rt: HostRuntime) {
+    assert_equal!(&rt, place_of_fault(b""), 0);
+    assert_equal!(&rt, place_of_fault(&ANSWERED[..11]), 0);
+    assert_equal!(&rt, place_of_fault(&ANSWERED[..28]), 12);
+    assert_equal!(&rt, place_of_fault(&ANSWERED[..44]), 29);
+    assert_equal!(&rt, place_of_fault(ANSWERED), 45);
+    assert_equal!(&rt, place_of_fault(&[0; 13]), 12);
 }

@@ -2,10 +2,9 @@
 ghost use Rattle.std.specs.Prelude.{◌≡◌, ◌++◌, ℕ, List, Bool, IfOk, ⊤};
 ghost use Rattle.octseq_dns_tool.specs.Shown.{IsMessagePiece, IsNote, IsShown};
 
-use crate::engine::place::place_of_fault;
 use octseq::StrBuilder;
 use octseq_cli::{FrameCommand, Piece, stop_line};
-use octseq_dns::message::{self, Message};
+use octseq_dns::message::{self, Message, place_of_fault};
 use std::alloc::{AllocError, Global};
 
 /// Octets make one output and one note.

@@ -1,14 +1,12 @@
 -- Reading stops at one place.
-use Rattle.std.proofs.Common.{◌≡◌, ◌∙◌, ◌+◌, ℕ, zero, suc, List, ◌∷◌, inl, inr, refl, sym, ap, subst, arith}
+use Rattle.std.proofs.Common.{◌≡◌, ◌∙◌, ◌+◌, ℕ, zero, suc, List, inl, inr, refl, sym, subst, arith}
 use Rattle.octseq.specs.Window.{Window, whole}
-use Rattle.octseq_dns.specs.Entry.{Question, Record, IsQuestion, IsRecord}
-use Rattle.octseq_dns.specs.Format.{IsNumber, one_number}
-use Rattle.octseq_dns.specs.Header.{IsHeader, header_numbers}
-use Rattle.octseq_dns.specs.OneEntry.{one_question, one_record}
-use Rattle.octseq_dns.specs.Row.{one_row}
-use Rattle.octseq_dns.specs.declared.header.Header.{Header}
-use Rattle.octseq_dns.specs.declared.header.HeaderCounts.{HeaderCounts}
-use Rattle.octseq_dns_tool.specs.Stop.{IsStop, QuestionsStop, RecordsStop}
+use Rattle.octseq_dns_message.proofs.Headers.{one_header}
+use Rattle.octseq_dns_message.specs.Entry.{Question, Record, IsQuestion, IsRecord}
+use Rattle.octseq_dns_message.specs.OneEntry.{one_question, one_record}
+use Rattle.octseq_dns_message.specs.declared.header.Header.{Header}
+use Rattle.octseq_dns_message.specs.declared.header.HeaderCounts.{HeaderCounts}
+use Rattle.octseq_dns_message.specs.Stop.{IsStop, QuestionsStop, RecordsStop}
 
 -- one more record was skipped
 pub record_step : (left count place : ℕ) (w v : Window) (r : Record) → left ≡ suc count → IsRecord w r v
@@ -51,21 +49,6 @@ one_questions (suc count) records w x y (inl (r, v, is, p)) (inr (none, e)) = ab
 one_questions (suc count) records w x y (inr (none, e)) (inl (r, v, is, p)) = absurd (none r v is)
 one_questions (suc count) records w x y (inr (none, e)) (inr (also, f)) = e ∙ sym f
 
--- the number of questions and of records that a list of six numbers counts
-counted : List ℕ → ℕ × ℕ
-counted (a ∷ b ∷ c ∷ d ∷ e ∷ f ∷ more) = (c, d + e + f)
-counted _ = (0, 0)
-
--- a header counts its questions and its records, and ends, in one way
-one_counts : (w u v : Window) (h k : Header) (c d : HeaderCounts) → IsHeader w h c u → IsHeader w k d v
-    → (c.qdcount ≡ d.qdcount) × (c.ancount + c.nscount + c.arcount ≡ d.ancount + d.nscount + d.arcount) × (u ≡ v)
-unfolding counted
-one_counts w u v h k c d a b =
-    let same =
-    one_row (IsNumber 2) (one_number 2) w u v (header_numbers h c) (header_numbers k d) refl a.numbers b.numbers in
-    let counts = ap counted same.0 in
-    (ap (λ n. n.0) counts, ap (λ n. n.1) counts, same.1)
-
 -- reading stops at one place
 pub one_stop : (octets : List ℕ) (x y : ℕ) → IsStop octets x → IsStop octets y → x ≡ y
 one_stop octets x y (inl (long, e)) (inl (also, f)) = e ∙ sym f
@@ -77,8 +60,8 @@ one_stop octets x y (inr (inl (few, none, e))) (inr (inr (also, h, c, v, is, p))
 one_stop octets x y (inr (inr (few, h, c, v, is, p))) (inl (long, f)) = absurd (omega arith)
 one_stop octets x y (inr (inr (few, h, c, v, is, p))) (inr (inl (also, none, f))) = absurd (none h c v is)
 one_stop octets x y (inr (inr (few, h, c, v, is, p))) (inr (inr (also, k, d, u, it, q))) =
-    let same = one_counts (whole octets) v u h k c d is it in
-    let moved = subst (λ v. QuestionsStop c.qdcount (c.ancount + c.nscount + c.arcount) v x) same.2 p in
-    let records = subst (λ n. QuestionsStop c.qdcount n u x) same.1 moved in
-    let questions = subst (λ n. QuestionsStop n (d.ancount + d.nscount + d.arcount) u x) same.0 records in
-    one_questions d.qdcount (d.ancount + d.nscount + d.arcount) u x y questions q
+    let same = one_header (whole octets) h k c d v u is it in
+    let StopsAt : HeaderCounts → Window → Type 0 = λ counts w.
+    QuestionsStop counts.qdcount (counts.ancount + counts.nscount + counts.arcount) w x in
+    one_questions d.qdcount (d.ancount + d.nscount + d.arcount) u x y
+    (subst (λ counts. StopsAt counts u) same.1 (subst (StopsAt c) same.2 p)) q

@@ -1,16 +1,25 @@
-//! The place where reading stops in octets that aren't a message.
-ghost use Rattle.std.specs.Prelude.{◌≡◌, ℕ, IsTrue, IsFalse};
+//! Where reading stops in octets that aren't a message.
+ghost use Rattle.std.specs.Prelude.{◌≡◌, ℕ, List, IsTrue, IsFalse};
 ghost use Rattle.octseq.specs.Parser.{window};
-ghost use Rattle.octseq_dns_tool.specs.Stop.{IsStop, QuestionsStop, RecordsStop};
+ghost use Rattle.octseq_dns_message.specs.Stop.{IsStop, QuestionsStop, RecordsStop};
 
+use crate::header::Header;
+use crate::message::{MESSAGE_MAX, Question, Record};
 use octseq::Parser;
-use octseq_dns::message::MESSAGE_MAX;
-use octseq_dns::{Header, Question, Record};
 
-/// Returns the place of the first part that isn't there: the header, or a question or a record that it counts. If all
-/// are there, it is the place after the last of them. Of more octets than a message may have, it is the place after
-/// those.
-pub(super) fn place_of_fault(octets: &[u8]) -> usize
+/// Octets have one place where reading stops.
+///
+/// It does nothing. Calling it brings the law into the caller's proof.
+pub fn one_place_of_a_fault()
+    ensures { (octets : List ℕ) (x y : ℕ) → IsStop octets x → IsStop octets y → x ≡ y }
+{}
+
+/// Returns the position of the first part that isn't there, in octets that aren't a message: the header, or a question
+/// or a record that it counts. If all are there, it is the position after the last of them. Of more octets than the
+/// 65,535 that a message may have (RFC 1035, 4.2.2), it is the position after those.
+///
+/// For a message it is the number of its octets.
+pub fn place_of_fault(octets: &[u8]) -> usize
     ensures { IsStop octets.now result }
 {
     if octets.len() > MESSAGE_MAX {
@@ -21,14 +30,14 @@ pub(super) fn place_of_fault(octets: &[u8]) -> usize
         return 0;
     };
     let records = u32::from(counts.ancount) + u32::from(counts.nscount) + u32::from(counts.arcount);
-    if pass_questions(&mut parser, counts.qdcount) {
-        pass_records(&mut parser, records);
+    if skip_questions(&mut parser, counts.qdcount) {
+        skip_records(&mut parser, records);
     }
     parser.pos()
 }
 
 /// Skips `count` questions, up to the first that isn't one. Returns whether all were skipped.
-fn pass_questions(parser: &mut Parser<&[u8]>, count: u16) -> bool
+fn skip_questions(parser: &mut Parser<&[u8]>, count: u16) -> bool
     ensures passed { IsTrue result → (records place : ℕ) → RecordsStop records (window parser.new) place
         → QuestionsStop count records (window parser.old) place }
     ensures stopped { IsFalse result → (records : ℕ)
@@ -45,7 +54,7 @@ fn pass_questions(parser: &mut Parser<&[u8]>, count: u16) -> bool
 }
 
 /// Skips `count` records, up to the first that isn't one.
-fn pass_records(parser: &mut Parser<&[u8]>, count: u32)
+fn skip_records(parser: &mut Parser<&[u8]>, count: u32)
     ensures { RecordsStop count (window parser.old) (window parser.new).position }
 {
     let mut left = count;

@@ -1,8 +1,8 @@
 -- What stops the questions that are left stops all of them.
 use Rattle.std.proofs.Common.{ℕ}
 use Rattle.octseq.specs.Parser.{window}
-use Rattle.octseq_dns_tool.specs.Stop.{QuestionsStop}
-use Rattle.octseq_dns_tool.proofs.engine.place.pass_questions.Given as goal
+use Rattle.octseq_dns_message.specs.Stop.{QuestionsStop}
+use Rattle.octseq_dns_message.proofs.message.place.skip_questions.Given as goal
 
 abbrev pub invariant-loop-left : goal.invariant-loop-left
 invariant-loop-left l = (records place : ℕ) → QuestionsStop l.left records (window l.parser) place

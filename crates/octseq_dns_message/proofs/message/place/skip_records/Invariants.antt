@@ -1,8 +1,8 @@
 -- What stops the records that are left stops all of them.
 use Rattle.std.proofs.Common.{ℕ}
 use Rattle.octseq.specs.Parser.{window}
-use Rattle.octseq_dns_tool.specs.Stop.{RecordsStop}
-use Rattle.octseq_dns_tool.proofs.engine.place.pass_records.Given as goal
+use Rattle.octseq_dns_message.specs.Stop.{RecordsStop}
+use Rattle.octseq_dns_message.proofs.message.place.skip_records.Given as goal
 
 abbrev pub invariant-loop-left : goal.invariant-loop-left
 invariant-loop-left l = (place : ℕ) → RecordsStop l.left (window l.parser) place

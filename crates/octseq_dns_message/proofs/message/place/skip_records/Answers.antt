@@ -1,8 +1,8 @@
 use Rattle.std.proofs.Common.{◌≡◌, ◌-◌, suc, refl, sym, ap, subst, arith}
 use Rattle.octseq.specs.Parser.{window}
-use Rattle.octseq_dns_tool.specs.Stop.{RecordsStop}
-use Rattle.octseq_dns_tool.proofs.Stops.{record_step, record_stop}
-use Rattle.octseq_dns_tool.proofs.engine.place.pass_records.Goals as goal
+use Rattle.octseq_dns_message.specs.Stop.{RecordsStop}
+use Rattle.octseq_dns_message.proofs.Stops.{record_step, record_stop}
+use Rattle.octseq_dns_message.proofs.message.place.skip_records.Goals as goal
 
 pub returns-in-Err : goal.returns-in-Err
 returns-in-Err c =

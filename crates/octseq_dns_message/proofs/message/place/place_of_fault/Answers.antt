@@ -1,9 +1,9 @@
 use Rattle.std.proofs.Common.{◌≤◌, length, inl, inr, refl, arith, subst}
 use Rattle.octseq.specs.Window.{Window, whole}
-use Rattle.octseq_dns.specs.Header.{IsHeader}
-use Rattle.octseq_dns.specs.declared.header.Header.{Header}
-use Rattle.octseq_dns.specs.declared.header.HeaderCounts.{HeaderCounts}
-use Rattle.octseq_dns_tool.proofs.engine.place.place_of_fault.Goals as goal
+use Rattle.octseq_dns_message.specs.Header.{IsHeader}
+use Rattle.octseq_dns_message.specs.declared.header.Header.{Header}
+use Rattle.octseq_dns_message.specs.declared.header.HeaderCounts.{HeaderCounts}
+use Rattle.octseq_dns_message.proofs.message.place.place_of_fault.Goals as goal
 
 pub returns-in_default : goal.returns-in_default
 returns-in_default c =

@@ -1,8 +1,8 @@
 use Rattle.std.proofs.Common.{◌≡◌, ◌-◌, suc, refl, sym, ap, subst, arith}
 use Rattle.octseq.specs.Parser.{window}
-use Rattle.octseq_dns_tool.specs.Stop.{QuestionsStop}
-use Rattle.octseq_dns_tool.proofs.Stops.{question_step, question_stop}
-use Rattle.octseq_dns_tool.proofs.engine.place.pass_questions.Goals as goal
+use Rattle.octseq_dns_message.specs.Stop.{QuestionsStop}
+use Rattle.octseq_dns_message.proofs.Stops.{question_step, question_stop}
+use Rattle.octseq_dns_message.proofs.message.place.skip_questions.Goals as goal
 
 pub returns-in-Err-clause-stopped : goal.returns-in-Err-clause-stopped
 returns-in-Err-clause-stopped c = λ _ records.

@@ -1,10 +1,10 @@
 -- Where reading stops in octets that aren't a message: at the first part that isn't there.
 use Rattle.std.specs.Prelude.{◌≡◌, ℕ, zero, suc, ◌+◌, ◌<◌, ◌≤◌, ◌⊎◌, List, length}
 use Rattle.octseq.specs.Window.{Window, whole}
-use Rattle.octseq_dns.specs.Entry.{Question, Record, IsQuestion, IsRecord}
-use Rattle.octseq_dns.specs.Header.{IsHeader}
-use Rattle.octseq_dns.specs.declared.header.Header.{Header}
-use Rattle.octseq_dns.specs.declared.header.HeaderCounts.{HeaderCounts}
+use Rattle.octseq_dns_message.specs.Entry.{Question, Record, IsQuestion, IsRecord}
+use Rattle.octseq_dns_message.specs.Header.{IsHeader}
+use Rattle.octseq_dns_message.specs.declared.header.Header.{Header}
+use Rattle.octseq_dns_message.specs.declared.header.HeaderCounts.{HeaderCounts}
 
 -- The place of the first of this many records that isn't one, from a window on, or what follows the last.
 abbrev pub RecordsStop : ℕ → Window → ℕ → Type 0
