@@ -93,6 +93,9 @@ typedef struct octseq_dns_header {
 #define OCTSEQ_DNS_OPCODE(flags) (((flags) >> 11) & 15u)
 #define OCTSEQ_DNS_RCODE(flags) ((flags) & 15u)
 
+/* The one flag of an OPT record that has a meaning: records of DNSSEC are accepted (RFC 3225, 3). */
+#define OCTSEQ_DNS_DO 0x8000u
+
 /* A question or a record. Places are counted from the first octet of what it was read from. The four octets after
  * `section`, which align the next row, are no part of it. */
 typedef struct octseq_dns_row {
@@ -123,6 +126,14 @@ uint32_t octseq_dns_rewrite(const uint8_t *octets, size_t len, uint8_t *out, siz
  * OK, NO_ROOM, MALFORMED: the text is no name. A query has at most 271 octets. */
 uint32_t octseq_dns_query(uint16_t id, uint16_t flags, const uint8_t *name, size_t name_len, uint16_t qtype,
                           uint16_t qclass, uint8_t *out, size_t room, size_t *written);
+
+/* The same query with an OPT record, of EDNS version 0 (RFC 6891, 6.1). `payload` is the number of octets of the
+ * largest UDP payload that the sender accepts, `edns_flags` the 16 flags of the record, and `options` its options as
+ * they are in it, each with its code and its length in two octets. OK, NO_ROOM, MALFORMED: the text is no name, or the
+ * options aren't whole; TOO_LONG. A query has at most 282 octets besides its options. */
+uint32_t octseq_dns_query_edns(uint16_t id, uint16_t flags, const uint8_t *name, size_t name_len, uint16_t qtype,
+                               uint16_t qclass, uint16_t payload, uint16_t edns_flags, const uint8_t *options,
+                               size_t options_len, uint8_t *out, size_t room, size_t *written);
 
 /* The answer to a message. It has the message's number, opcode, flag RD and questions, the flag QR, and of `flags` the
  * response code and all other flags. Its records are the rows, each in its section (1, 2 or 3), in the order that they

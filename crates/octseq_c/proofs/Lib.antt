@@ -4,6 +4,8 @@ pub mod Appended
 pub mod BgpFilled
 pub mod BgpRoom
 pub mod BgpRows
+pub mod EdnsOptions
+pub mod EdnsQueries
 pub mod OneAnswer
 pub mod OneRewriting
 pub mod OneTexts
@@ -14,4 +16,5 @@ pub mod Puts
 pub mod Reported
 pub mod RowsPushed
 pub mod SettledTexts
+pub mod TwoPieces
 pub mod Wholes

@@ -4,7 +4,9 @@
 
 mod answer;
 mod bgp;
+mod both;
 mod data;
+mod edns;
 mod header;
 mod lines;
 mod lossy;

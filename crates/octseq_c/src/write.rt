@@ -154,7 +154,7 @@ fn query(id: u16, flags: u16, name: &Name<Array<255>>, qtype: u16, qclass: u16) 
 }
 
 /// Returns the wire form of a name.
-fn wire_of(name: &Name<Array<255>>) -> &[u8]
+pub fn wire_of(name: &Name<Array<255>>) -> &[u8]
     ensures wire { result.now ≡ wire (owned_labels name.now) }
     ensures short { length result.now ≤ 255 }
 {
@@ -176,7 +176,7 @@ fn query_front(id: u16, flags: u16) -> Array<QUERY_MAX>
 }
 
 /// Appends octets for which there is room.
-fn push<const N: usize>(made: &mut Array<N>, octets: &[u8])
+pub fn push<const N: usize>(made: &mut Array<N>, octets: &[u8])
     requires { length made.old.content + length octets.now ≤ N }
     ensures content { made.new.content ≡ made.old.content ++ octets.now }
     ensures len { length made.new.content ≡ length made.old.content + length octets.now }
@@ -185,7 +185,7 @@ fn push<const N: usize>(made: &mut Array<N>, octets: &[u8])
 }
 
 /// Appends an integer of two octets for which there is room.
-fn push_u16<const N: usize>(made: &mut Array<N>, number: u16)
+pub fn push_u16<const N: usize>(made: &mut Array<N>, number: u16)
     requires { length made.old.content + 2 ≤ N }
     ensures content { made.new.content ≡ made.old.content ++ octets_be 2 number }
     ensures len { length made.new.content ≡ length made.old.content + 2 }

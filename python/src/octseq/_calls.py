@@ -225,3 +225,11 @@ def number_of(call: Call, name: bytes) -> int:
     number = ffi.new(_NUMBER)
     _check(call(name, len(name), number))
     return number[0]
+
+
+def dns_query_edns(query: tuple[int, int, bytes, int, int], payload: int, flags: int, options: bytes) -> bytes:
+    """The query for a name, as `dns_query` takes it, with an OPT record. Malformed, TooLong."""
+    number, flags_of_query, name, rtype, rclass = query
+    arguments = number, flags_of_query, name, len(name), rtype, rclass, payload, flags, options, len(options)
+    out, written = _filled(_OCTETS, 282 + len(options), lib.octseq_dns_query_edns, *arguments)
+    return ffi.buffer(out, written)[:]

@@ -1,10 +1,11 @@
 """Names and messages of DNS (RFC 1035).
 
 What has the name of something in dnspython is that: `Message.from_wire`, `to_wire`, `to_text`, `id`, `flags`, `opcode`,
-`rcode`, `Name.from_text`, `labels`, `parent`, `is_subdomain`, `rdtype`, `rdclass`, `ttl`. A message's sections have
-other names, `questions`, `answers`, `authorities` and `additionals`, because they have single records, not sets of
-them.
+`rcode`, `edns`, `ednsflags`, `payload`, `options`, `Name.from_text`, `labels`, `parent`, `is_subdomain`, `rdtype`,
+`rdclass`, `ttl`. A message's sections have other names, `questions`, `answers`, `authorities` and `additionals`,
+because they have single records, not sets of them.
 """
+from .edns import EDNSFlag, Option
 from .message import Message, make_query, make_response
 from .name import Name, NoParent
 from .numbers import (
@@ -18,10 +19,12 @@ from .numbers import (
 from .record import Question, Rdata, Record
 
 __all__ = [
+    "EDNSFlag",
     "Flag",
     "Message",
     "Name",
     "NoParent",
+    "Option",
     "Question",
     "Rdata",
     "Record",

@@ -7,6 +7,7 @@ from typing import TYPE_CHECKING
 
 from .. import _calls
 from .._calls import Header, Row, lib
+from .edns import OPT, Option, edns_of, options_of
 from .name import Name, name_of
 from .numbers import Flag, Section, ascii_of, rdataclass_of, rdatatype_of, within
 from .record import Question, Record, gather
@@ -16,8 +17,6 @@ if TYPE_CHECKING:
 
 LONGEST_MESSAGE = 65_535
 """How many octets a message has at most that is written."""
-
-_OPT = 41
 
 
 class Message:
@@ -72,8 +71,35 @@ class Message:
 
         Its lower four bits are in the header, its upper eight in an OPT record, if there is one (RFC 6891, 6.1.3).
         """
-        options = [record.ttl for record in self.additionals if record.rdtype == _OPT]
-        return (self.flags & 15) | ((options[0] >> 20) & 0xFF0 if options else 0)
+        return (self.flags & 15) | ((self.ednsflags >> 20) & 0xFF0)
+
+    @property
+    def edns(self) -> int:
+        """The version of EDNS that its OPT record has, or -1 where it has none (RFC 6891, 6.1.3)."""
+        opt = self._opt()
+        return -1 if opt is None else (opt.ttl >> 16) & 255
+
+    @property
+    def ednsflags(self) -> int:
+        """The 32 bits of the OPT record: eight of the response code, eight of the version, and 16 flags. 0: none."""
+        opt = self._opt()
+        return 0 if opt is None else opt.ttl
+
+    @property
+    def payload(self) -> int:
+        """The number of octets of the largest UDP payload that the sender accepts. 0: it has no OPT record."""
+        opt = self._opt()
+        return 0 if opt is None else opt.rdclass
+
+    @property
+    def options(self) -> tuple[Option, ...]:
+        """The options of the OPT record. Malformed where its data isn't options up to its end (RFC 6891, 6.1.2)."""
+        opt = self._opt()
+        return () if opt is None else options_of(opt.rdata.octets)
+
+    def _opt(self) -> Record | None:
+        """The first OPT record."""
+        return next((record for record in self.additionals if record.rdtype == OPT), None)
 
     @property
     def questions(self) -> tuple[Question, ...]:
@@ -135,24 +161,57 @@ def make_query(
     *,
     id: int | None = None,
     flags: int = Flag.RD,
+    use_edns: int | None = None,
+    want_dnssec: bool = False,
+    ednsflags: int | None = None,
+    payload: int | None = None,
+    options: Iterable[tuple[int, bytes]] | None = None,
 ) -> Message:
     """A message with one question. Its number is random where `id` is None.
 
-    Malformed where a text spells no name, names no type or no class; ValueError where a number is too large.
+    It has an OPT record where `use_edns` is 0, the version, or True, and also where that is None and one of the
+    arguments after it is given (RFC 6891, 6.1): `want_dnssec` sets the flag DO, `ednsflags` are 16 flags, `payload` is
+    the UDP payload size, or 1,232, and each of `options` is an `Option`, or a code and octets.
+
+    Malformed where a text spells no name, names no type or no class; TooLong where options have too many octets;
+    ValueError where a number is too large, or the version isn't 0.
     """
     number = secrets.randbelow(1 << 16) if id is None else within(id, 16, "a message's number")
     text = ascii_of(name_of(qname).to_text())
-    numbers = rdatatype_of(rdtype), rdataclass_of(rdclass)
-    return Message(_calls.dns_query(number, within(flags, 16, "the flags"), text, *numbers))
+    query = number, within(flags, 16, "the flags"), text, rdatatype_of(rdtype), rdataclass_of(rdclass)
+    edns = edns_of(use_edns, want_dnssec, ednsflags, payload, options)
+    if edns is None:
+        return Message(_calls.dns_query(*query))
+    return Message(_calls.dns_query_edns(query, edns.payload, edns.flags, edns.options))
 
 
-def make_response(query: Message, records: Iterable[Record] = (), flags: int = 0) -> Message:
+def make_response(
+    query: Message,
+    records: Iterable[Record] = (),
+    flags: int = 0,
+    *,
+    rcode: int | None = None,
+    use_edns: int | None = None,
+    ednsflags: int | None = None,
+    payload: int | None = None,
+    options: Iterable[tuple[int, bytes]] | None = None,
+) -> Message:
     """The response to a message, with these records, each in its section, in the order that they have here.
 
     It has the number, the opcode, the flag RD and the questions of the query, the flag QR, and of `flags` the response
-    code and all other flags. Immovable where the data of a record isn't of its type's form and may have pointers, or
-    records of a second message have pointers into that; TooLong where it would have more than 65,535 octets; ValueError
-    where `flags` is too large.
+    code and all other flags. `rcode` is a response code from 0 to 4,095 in place of that of `flags`.
+
+    It has an OPT record as `make_query` has one, and also where `rcode` has more than four bits. That comes before the
+    other additional records.
+
+    Immovable where the data of a record isn't of its type's form and may have pointers, or records of a second message
+    have pointers into that; TooLong where it would have more than 65,535 octets; ValueError where a number is too
+    large, the version of EDNS isn't 0, or a response code of more than four bits has no OPT record.
     """
-    source, rows = gather(list(records))
-    return Message(_calls.dns_answer(query.octets, within(flags, 16, "the flags"), source, rows))
+    code = within(flags, 16, "the flags") & 15 if rcode is None else within(rcode, 12, "a response code")
+    flags = flags & ~15 | code & 15
+    edns = edns_of(0 if use_edns is None and code > 15 else use_edns, False, ednsflags, payload, options)
+    if edns is None and code > 15:
+        raise ValueError(f"the response code {code} takes an OPT record")
+    source, rows = gather(([] if edns is None else [edns.record(code)]) + list(records))
+    return Message(_calls.dns_answer(query.octets, flags, source, rows))
