@@ -143,6 +143,16 @@ uint32_t octseq_dns_answer(const uint8_t *query, size_t query_len, uint16_t flag
                            size_t source_len, const octseq_dns_row *rows, size_t count, uint8_t *out, size_t room,
                            size_t *written);
 
+/* The same answer within `limit` octets (RFC 2181, 9). If the records of all rows exceed them, it has those of the
+ * rows that come before the first with which it would. The flag TC is set exactly if it lacks one; that of `flags` is
+ * ignored. The rows are taken in the order that they have here, whatever their sections: so one that has to stay, as
+ * an OPT record (RFC 6891, 7), comes first. The answer is composed once for each row that is taken, so it takes long
+ * if there are thousands. OK, NO_ROOM, MALFORMED: `query` is no message; BAD_ROW, IMMOVABLE, TOO_LONG: its questions
+ * alone exceed the limit, or there are more than 65,535 rows. */
+uint32_t octseq_dns_answer_within(const uint8_t *query, size_t query_len, uint16_t flags, const uint8_t *source,
+                                  size_t source_len, const octseq_dns_row *rows, size_t count, uint16_t limit,
+                                  uint8_t *out, size_t room, size_t *written);
+
 /* ---- DNS names (RFC 1035, 3.1) ---- */
 
 /* The text of the name at a place of the octets, `example.com.`, with the escapes of RFC 1035, 5.1. OK, NO_ROOM,

@@ -1,6 +1,16 @@
-/* Queries with an OPT record, against octets put together by hand. Arguments are ignored. */
+/* Queries with an OPT record and answers within a limit, against octets put together by hand, and on messages of real
+ * traffic:
+ *
+ *     edns STDIN STDOUT [few]
+ *
+ * Both files are those of crates/octseq_dns_messages. With `few` it takes each eighth message, as under valgrind. */
 #define _DEFAULT_SOURCE
 #include "ask.h"
+#include "messages.h"
+
+static uint32_t u16_at(const uint8_t *octets) {
+    return (uint32_t)octets[0] << 8 | octets[1];
+}
 
 /* ---- queries with an OPT record ---- */
 
@@ -84,10 +94,143 @@ static void check_long_options(void) {
     }
 }
 
+/* ---- answers within a limit ---- */
+
+static uint16_t limit;
+
+static uint32_t answer_within(const struct given *given, uint8_t *out, size_t room, size_t *written) {
+    return octseq_dns_answer_within(given->octets, given->len, given->flags, given->source, given->source_len,
+                                    given->rows, given->count, limit, out, room, written);
+}
+
+/* The answer with the first rows, as octseq_dns_answer composes it, with the flag TC as a limit sets it. */
+static struct answer first_rows(const struct given *given, size_t count) {
+    struct given part = *given;
+    part.count = count;
+    part.flags = (uint16_t)((given->flags & ~OCTSEQ_DNS_TC) | (count < given->count ? OCTSEQ_DNS_TC : 0));
+    return ask(answer_to, &part, MAY_OK);
+}
+
+/* An answer within a limit is that with the rows before the first with which it has more octets. */
+static void check_limit(const struct given *given, const size_t *lens, size_t most) {
+    size_t kept = given->count;
+    limit = (uint16_t)most;
+    if (lens[given->count] > most)
+        for (kept = 0; kept < given->count && lens[kept] <= most;)
+            kept++;
+    if (lens[given->count] > most && kept == 0) {
+        CHECK(ask(answer_within, given, MAY(OCTSEQ_TOO_LONG)).status == OCTSEQ_TOO_LONG);
+        return;
+    }
+    if (lens[given->count] > most)
+        kept--;
+    struct answer wanted = first_rows(given, kept), answer = ask(answer_within, given, MAY_OK);
+    CHECK(answer.status == OCTSEQ_OK && answer.len <= most);
+    CHECK(answer.len == wanted.len && is_same(answer.out, wanted.out, wanted.len));
+    CHECK(!(answer.out[2] & 2) == (kept == given->count));
+    release(wanted.out);
+    release(answer.out);
+}
+
+#define MOST_ROWS 512
+
+/* Limits that just fit the first rows, and others. */
+static void check_limits(const struct given *given) {
+    static size_t lens[MOST_ROWS + 1];
+    CHECK(given->count <= MOST_ROWS);
+    for (size_t count = 0; count <= given->count; count++) {
+        struct answer answer = first_rows(given, count);
+        lens[count] = answer.len;
+        release(answer.out);
+    }
+    for (size_t count = 0; count <= given->count; count += given->count > 16 ? 1 + below(8) : 1) {
+        check_limit(given, lens, lens[count]);
+        check_limit(given, lens, lens[count] - 1);
+    }
+    check_limit(given, lens, 0);
+    check_limit(given, lens, 512);
+    check_limit(given, lens, 1232);
+    check_limit(given, lens, 65535);
+}
+
+/* Answers to a message with the records that it has, within limits. */
+static void check_message(const struct message *message) {
+    struct given given;
+    memset(&given, 0, sizeof given);
+    given.octets = given.source = block_with(message->octets, message->len);
+    given.len = given.source_len = message->len;
+    limit = 512;
+    if (!message->text) {
+        CHECK(ask(answer_within, &given, MAY(OCTSEQ_MALFORMED)).status == OCTSEQ_MALFORMED);
+        release((uint8_t *)(uintptr_t)given.octets);
+        return;
+    }
+    struct answer answer = ask_units(rows, &given, sizeof(octseq_dns_row), MAY_OK);
+    size_t question_count = u16_at(given.octets + 4);
+    given.rows = (const octseq_dns_row *)(void *)answer.out + question_count;
+    given.count = answer.len - question_count;
+    given.flags = (uint16_t)number();
+    struct answer whole = ask(answer_to, &given, MAY_OK | MAY(OCTSEQ_IMMOVABLE));
+    if (whole.status == OCTSEQ_OK)
+        check_limits(&given);
+    else
+        CHECK(ask(answer_within, &given, MAY(OCTSEQ_IMMOVABLE)).status == OCTSEQ_IMMOVABLE);
+    release(whole.out);
+    release(answer.out);
+    release((uint8_t *)(uintptr_t)given.octets);
+}
+
+/* Three addresses of one octet's name: 12 octets of header, 17 of the first record, 16 of each other. */
+static void check_cut(void) {
+    static const uint8_t QUERY[12] = {0, 7, 1}, SOURCE[] = {1, 'a', 0, 1, 2, 3, 4};
+    static const octseq_dns_row ROW = {0, 3, 4, 9, 1, 1, 1};
+    static const uint8_t WANTED[] = {0, 7, 0x87, 0, 0,    0,  0, 2, 0, 0, 0, 0, 1, 'a', 0, 0, 1, 0, 1, 0, 0, 0, 9,
+                                     0, 4, 1,    2, 3,    4,  0xC0, 12, 0, 1, 0, 1, 0, 0, 0, 9, 0, 4, 1, 2, 3, 4};
+    octseq_dns_row three[3] = {ROW, ROW, ROW};
+    struct given given;
+    memset(&given, 0, sizeof given);
+    given.octets = block_with(QUERY, sizeof QUERY);
+    given.len = sizeof QUERY;
+    given.source = block_with(SOURCE, sizeof SOURCE);
+    given.source_len = sizeof SOURCE;
+    given.rows = (const octseq_dns_row *)(void *)block_with(three, sizeof three);
+    given.count = 3;
+    given.flags = OCTSEQ_DNS_AA;
+    for (limit = 45; limit <= 60; limit++) {
+        struct answer answer = ask(answer_within, &given, MAY_OK);
+        CHECK(answer.status == OCTSEQ_OK && answer.len == sizeof WANTED);
+        CHECK(is_same(answer.out, WANTED, sizeof WANTED));
+        release(answer.out);
+    }
+    limit = 61;
+    struct answer answer = ask(answer_within, &given, MAY_OK);
+    CHECK(answer.status == OCTSEQ_OK && answer.len == 61 && answer.out[2] == 0x85 && answer.out[7] == 3);
+    release(answer.out);
+    release((uint8_t *)(uintptr_t)given.rows);
+    release((uint8_t *)(uintptr_t)given.source);
+    release((uint8_t *)(uintptr_t)given.octets);
+}
+
+/* One row after another is of the root, with no data. */
+static void check_many_rows(void) {
+    static octseq_dns_row many[65536];
+    static const uint8_t QUERY[12] = {0, 7};
+    size_t written = 99;
+    for (size_t i = 0; i < 65536; i++)
+        many[i] = (octseq_dns_row){0, 0, 0, 0, 0xFF00, 1, 1};
+    CHECK(octseq_dns_answer_within(QUERY, 12, 0, QUERY, 12, many, 65536, 512, NULL, 0, &written) == OCTSEQ_TOO_LONG);
+    CHECK(written == 0);
+    CHECK(octseq_dns_answer_within(QUERY, 12, 0, QUERY, 12, many, 65535, 512, NULL, 0, &written) == OCTSEQ_NO_ROOM);
+    CHECK(written == 12 + 45 * 11);
+}
+
 int main(int argc, char **argv) {
-    (void)argc;
-    (void)argv;
+    int few = read_arguments(argc, argv);
     check_options();
     check_long_options();
+    check_cut();
+    check_many_rows();
+    for (size_t i = 0; i < message_count; i += few ? 8 : 1)
+        check_message(&messages[i]);
     return finish("edns");
 }

@@ -1,7 +1,9 @@
-"""OPT records. The octets of messages are those that dnspython 2.3 makes of the same arguments."""
+"""OPT records, and responses that are cut at a size. The octets of messages are those that dnspython 2.3 makes of the
+same arguments."""
 import unittest
 
-from octseq import Malformed, TooLong
+from corpus import samples
+from octseq import Immovable, Malformed, TooLong
 from octseq.dns import EDNSFlag, Flag, Message, Option, Record, Section, make_query, make_response
 
 COOKIE = Option(10, bytes(range(1, 9)))
@@ -86,6 +88,58 @@ class Responses(unittest.TestCase):
         self.assertEqual(make_response(self.query).edns, -1)
         response = make_response(self.query, use_edns=0, payload=512, options=[COOKIE])
         self.assertEqual((response.edns, response.payload, response.options), (0, 512, (COOKIE,)))
+
+    def test_it_is_cut_at_a_size(self) -> None:
+        # 12 octets of header, 17 of question, 11 of OPT record, 16 of each record.
+        records = [self.record] * 3
+        for size, count in ((88, 3), (87, 2), (72, 2), (71, 1), (40, 0)):
+            response = make_response(self.query, records, use_edns=0, max_size=size)
+            self.assertEqual(len(response.octets), 40 + 16 * count)
+            self.assertEqual((len(response.answers), response.edns), (count, 0))
+            self.assertEqual(response.flags, 0x8100 if count == 3 else 0x8300)
+        self.assertEqual(make_response(self.query, records, use_edns=0, max_size=39).octets[12:], PLAIN[12:29])
+        with self.assertRaises(TooLong):
+            make_response(self.query, records, max_size=28)
+        with self.assertRaises(ValueError):
+            make_response(self.query, records, max_size=65_536)
+
+    def test_to_wire_cuts_it(self) -> None:
+        last = [self.record.in_section(Section.ADDITIONAL), Record(".", 41, 0, b"", section=Section.ADDITIONAL)]
+        response = make_response(self.query, [self.record, self.record, *last], Flag.AA | 3)
+        self.assertEqual(len(response.octets), 88)
+        self.assertEqual(response.to_wire(88), response.octets)
+        cut = Message.from_wire(response.to_wire(87))
+        self.assertEqual((len(cut.answers), len(cut.additionals), cut.edns), (2, 1, 0))
+        self.assertEqual(cut.flags, 0x8503 | Flag.TC)
+        self.assertEqual(len(response.to_wire(40)), 40)
+        self.assertEqual(len(response.to_wire(39)), 29)
+        for size, raised in ((28, TooLong), (0, TooLong), (-1, ValueError), (65_536, ValueError)):
+            with self.assertRaises(raised):
+                response.to_wire(size)
+
+    def test_a_query_is_never_cut(self) -> None:
+        self.assertEqual(self.query.to_wire(40), PLAIN)
+        with self.assertRaises(TooLong):
+            self.query.to_wire(39)
+
+    def test_real_messages_that_are_cut(self) -> None:
+        cut = 0
+        for octets, text in samples():
+            message = None if text == "malformed\n" else Message.from_wire(octets)
+            if message is None or not message.flags & Flag.QR or len(octets) < 64:
+                continue
+            try:
+                size = len(message.to_wire()) - 1
+            except Immovable:
+                continue
+            found = Message.from_wire(message.to_wire(size))
+            self.assertTrue(found.flags & Flag.TC)
+            self.assertLessEqual(len(found.octets), size)
+            lines = found.to_text().splitlines()[1:]
+            self.assertTrue(set(lines) <= set(message.to_text().splitlines()[1:]))
+            self.assertEqual(found.ednsflags, message.ednsflags)
+            cut += 1
+        self.assertGreater(cut, 200)
 
 
 if __name__ == "__main__":

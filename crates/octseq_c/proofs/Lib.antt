@@ -1,5 +1,6 @@
 pub mod Anew
 pub mod AnswerBegun
+pub mod AnswersWithin
 pub mod Appended
 pub mod BgpFilled
 pub mod BgpRoom

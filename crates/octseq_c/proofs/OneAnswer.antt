@@ -91,7 +91,7 @@ one_answer_header asked flags a b is other =
 -- ---- a message
 
 module _ (asked : Header) (flags : ℕ) (questions : List entry.Question) (source : List ℕ) (rows : List Row) where
-  one_contents : (m n : Message) → IsAnswerOf asked flags questions source rows m
+  pub one_contents : (m n : Message) → IsAnswerOf asked flags questions source rows m
       → IsAnswerOf asked flags questions source rows n → m ≡ n
   one_contents m n a b =
       let headers = one_answer_header asked flags m.header n.header a.header_is b.header_is in

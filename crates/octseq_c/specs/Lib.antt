@@ -11,3 +11,4 @@ pub mod Rows
 pub mod Settled
 pub mod Status
 pub mod Texts
+pub mod Within

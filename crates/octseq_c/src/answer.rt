@@ -71,7 +71,7 @@ pub extern "C" fn octseq_dns_answer(
 }
 
 /// Whether what each row refers to is there.
-fn are_rows(source: &[u8], rows: &[Row]) -> bool
+pub fn are_rows(source: &[u8], rows: &[Row]) -> bool
     ensures { IsTrue result ↔ AllByRecursion (IsRow source.now) rows.now }
 {
     for row in rows {
@@ -94,7 +94,7 @@ fn is_row(source: &[u8], row: &Row) -> bool
 }
 
 /// Whether the data of each row can be moved.
-fn can_move_rows(source: &[u8], rows: &[Row]) -> bool
+pub fn can_move_rows(source: &[u8], rows: &[Row]) -> bool
     ensures { IsTrue result ↔ AllByRecursion (CanMoveRow source.now) rows.now }
 {
     for row in rows {
@@ -117,7 +117,7 @@ fn can_move_row(source: &[u8], row: &Row) -> bool
 }
 
 /// Composes an answer, and writes it to the front of `out`.
-fn answer_to(
+pub fn answer_to(
     message: &Message<&[u8]>,
     flags: u16,
     source: &[u8],

@@ -22,5 +22,6 @@ mod status;
 mod table;
 mod text;
 mod utf8;
+mod within;
 mod write;
 mod writing;

@@ -233,3 +233,11 @@ def dns_query_edns(query: tuple[int, int, bytes, int, int], payload: int, flags:
     arguments = number, flags_of_query, name, len(name), rtype, rclass, payload, flags, options, len(options)
     out, written = _filled(_OCTETS, 282 + len(options), lib.octseq_dns_query_edns, *arguments)
     return ffi.buffer(out, written)[:]
+
+
+def dns_answer_within(query: bytes, flags: int, source: bytes, rows: Sequence[Row], limit: int) -> bytes:
+    """The answer to a message within a limit. Malformed, BadRow, Immovable, TooLong."""
+    array = ffi.new(_ROWS, rows)
+    arguments = query, len(query), flags, source, len(source), array, len(array), limit
+    out, written = _filled(_OCTETS, limit, lib.octseq_dns_answer_within, *arguments)
+    return ffi.buffer(out, written)[:]

@@ -7,6 +7,7 @@ from typing import TYPE_CHECKING
 
 from .. import _calls
 from .._calls import Header, Row, lib
+from ..errors import TooLong
 from .edns import OPT, Option, edns_of, options_of
 from .name import Name, name_of
 from .numbers import Flag, Section, ascii_of, rdataclass_of, rdatatype_of, within
@@ -139,19 +140,33 @@ class Message:
         """A line for the header, and one for each question and record, after the name of its section."""
         return _calls.text(4 * len(self._octets) + 256, lib.octseq_dns_message_text, self._octets)
 
-    def to_wire(self) -> bytes:
+    def to_wire(self, max_size: int = LONGEST_MESSAGE) -> bytes:
         """The octets of the message, written anew, with its names compressed (RFC 1035, 4.1.4; RFC 3597, 4).
 
-        Immovable where a record's data isn't of its type's form and may have pointers; TooLong where it would have more
-        than 65,535 octets.
+        A response of more than `max_size` octets has those of its records that come before the first with which it has
+        more, an OPT record first, and the flag TC (RFC 2181, 9; RFC 6891, 7). Immovable where a record's data isn't of
+        its type's form and may have pointers; TooLong where a query or the questions of a response have more octets
+        than `max_size`; ValueError where that isn't from 0 to 65,535.
         """
-        return _calls.octets(LONGEST_MESSAGE, lib.octseq_dns_rewrite, self._octets)
+        within(max_size, 16, "a size")
+        whole = _calls.octets(LONGEST_MESSAGE, lib.octseq_dns_rewrite, self._octets)
+        if len(whole) <= max_size:
+            return whole
+        if not self.flags & Flag.QR:
+            raise TooLong(f"the query has {len(whole)} octets")
+        rows = sorted((row for row in self._entries() if row.section), key=lambda row: not _is_opt(row))
+        return _calls.dns_answer_within(self._octets, self.flags, self._octets, rows, max_size)
 
     def __str__(self) -> str:
         return self.to_text()
 
     def __repr__(self) -> str:
         return f"<Message {self.id}, {len(self._octets)} octets>"
+
+
+def _is_opt(row: Row) -> bool:
+    """Whether a row is that of an OPT record."""
+    return row.rtype == OPT and row.section == Section.ADDITIONAL
 
 
 def make_query(
@@ -195,6 +210,7 @@ def make_response(
     ednsflags: int | None = None,
     payload: int | None = None,
     options: Iterable[tuple[int, bytes]] | None = None,
+    max_size: int | None = None,
 ) -> Message:
     """The response to a message, with these records, each in its section, in the order that they have here.
 
@@ -202,11 +218,13 @@ def make_response(
     code and all other flags. `rcode` is a response code from 0 to 4,095 in place of that of `flags`.
 
     It has an OPT record as `make_query` has one, and also where `rcode` has more than four bits. That comes before the
-    other additional records.
+    other additional records. With `max_size`, it has the records that come before the first with which it would have
+    more octets, and the flag TC exactly where it lacks one (RFC 2181, 9).
 
     Immovable where the data of a record isn't of its type's form and may have pointers, or records of a second message
-    have pointers into that; TooLong where it would have more than 65,535 octets; ValueError where a number is too
-    large, the version of EDNS isn't 0, or a response code of more than four bits has no OPT record.
+    have pointers into that; TooLong where it would have more than 65,535 octets, or its questions alone more than
+    `max_size`; ValueError where a number is too large, the version of EDNS isn't 0, or a response code of more than
+    four bits has no OPT record.
     """
     code = within(flags, 16, "the flags") & 15 if rcode is None else within(rcode, 12, "a response code")
     flags = flags & ~15 | code & 15
@@ -214,4 +232,6 @@ def make_response(
     if edns is None and code > 15:
         raise ValueError(f"the response code {code} takes an OPT record")
     source, rows = gather(([] if edns is None else [edns.record(code)]) + list(records))
-    return Message(_calls.dns_answer(query.octets, flags, source, rows))
+    if max_size is None:
+        return Message(_calls.dns_answer(query.octets, flags, source, rows))
+    return Message(_calls.dns_answer_within(query.octets, flags, source, rows, within(max_size, 16, "a size")))
