@@ -4,7 +4,10 @@ pub mod Appended
 pub mod BgpFilled
 pub mod BgpRoom
 pub mod BgpRows
+pub mod FilledFields
+pub mod KnownFields
 pub mod OneAnswer
+pub mod OneFields
 pub mod OneRewriting
 pub mod OneTexts
 pub mod Orders
@@ -14,4 +17,5 @@ pub mod Puts
 pub mod Reported
 pub mod RowsPushed
 pub mod SettledTexts
+pub mod TakenFields
 pub mod Wholes

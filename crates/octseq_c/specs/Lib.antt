@@ -1,6 +1,7 @@
 pub mod BgpRoom
 pub mod BgpRows
 pub mod BgpSession
+pub mod Fields
 pub mod LossyText
 pub mod Made
 pub mod Order

@@ -5,6 +5,7 @@
 mod answer;
 mod bgp;
 mod data;
+mod fields;
 mod header;
 mod lines;
 mod lossy;

@@ -24,7 +24,7 @@ if TYPE_CHECKING:
 
 Call = Callable[..., int]
 _OCTETS, _ROWS, _SIZE = ffi.typeof("uint8_t[]"), ffi.typeof("octseq_dns_row[]"), ffi.typeof("size_t *")
-_BGP_ROWS = ffi.typeof("octseq_bgp_row[]")
+_BGP_ROWS, _FIELDS = ffi.typeof("octseq_bgp_row[]"), ffi.typeof("octseq_dns_field[]")
 _HEADER, _STATE = ffi.typeof("octseq_dns_header *"), ffi.typeof("octseq_lossy_state *")
 _ORDER, _NUMBER = ffi.typeof("int32_t *"), ffi.typeof("uint16_t *")
 _array_of = ffi.new_allocator(should_clear_after_alloc=False)
@@ -59,6 +59,15 @@ class Row(NamedTuple):
     rtype: int
     rclass: int
     section: int
+
+
+class FieldRow(NamedTuple):
+    """A field of a record's data, as `octseq_dns_field` has it. Places are counted from the first of the octets."""
+
+    at: int
+    len: int
+    number: int
+    kind: int
 
 
 class BgpRow(NamedTuple):
@@ -205,6 +214,27 @@ def dns_data_is_typed(data: bytes, row: Row) -> bool:
     """Whether the data of a row has the form of its type and class."""
     numbers = row.data_at, row.data_len, row.rtype, row.rclass
     return lib.octseq_dns_data_is_typed(data, len(data), *numbers) == 1
+
+
+def dns_data_fields(data: bytes, row: Row, room: int) -> list[FieldRow]:
+    """The fields of the data of a row. `room` is a guess of how many they are. Malformed."""
+    numbers = row.data_at, row.data_len, row.rtype, row.rclass
+    out, count = _filled(_FIELDS, room, lib.octseq_dns_data_fields, data, len(data), *numbers)
+    fields = (out[index] for index in range(count))
+    return [FieldRow(f.at, f.len, f.number, f.kind) for f in fields]
+
+
+def dns_message_place(data: bytes) -> tuple[bool, int]:
+    """Whether octets are a message, and where reading them stops."""
+    place = ffi.new(_SIZE)
+    return lib.octseq_dns_message_fault(data, len(data), place) == lib.OCTSEQ_OK, place[0]
+
+
+def bgp_message_place(data: bytes, session: int) -> int:
+    """Where reading octets as a message of a session stops."""
+    place = ffi.new(_SIZE)
+    lib.octseq_bgp_message_fault(data, len(data), session, place)
+    return place[0]
 
 
 def bgp_rows(data: bytes, session: int, room: int) -> list[BgpRow]:

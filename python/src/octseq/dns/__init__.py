@@ -1,9 +1,9 @@
 """Names and messages of DNS (RFC 1035).
 
 What has the name of something in dnspython is that: `Message.from_wire`, `to_wire`, `to_text`, `id`, `flags`, `opcode`,
-`rcode`, `Name.from_text`, `labels`, `parent`, `is_subdomain`, `rdtype`, `rdclass`, `ttl`. A message's sections have
-other names, `questions`, `answers`, `authorities` and `additionals`, because they have single records, not sets of
-them.
+`rcode`, `Name.from_text`, `labels`, `parent`, `is_subdomain`, `rdtype`, `rdclass`, `ttl`, and the fields of data, as
+`preference` and `exchange`. A message's sections have other names, `questions`, `answers`, `authorities` and
+`additionals`, because they have single records, not sets of them.
 """
 from .message import Message, make_query, make_response
 from .name import Name, NoParent
@@ -15,13 +15,17 @@ from .numbers import (
     rdatatype_from_text,
     rdatatype_to_text,
 )
-from .record import Question, Rdata, Record
+from .rdata import Field, Kind, Parameter, Rdata
+from .record import Question, Record
 
 __all__ = [
+    "Field",
     "Flag",
+    "Kind",
     "Message",
     "Name",
     "NoParent",
+    "Parameter",
     "Question",
     "Rdata",
     "Record",
