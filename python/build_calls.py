@@ -135,20 +135,11 @@ def module(header: str) -> str:
     )
 
 
-def make() -> FFI:
-    """The module octseq._c, to be compiled. setup.py has cffi call this."""
+def make(folder: pathlib.Path) -> FFI:
+    """The module octseq._c over the library of a folder, as cffi writes it in C."""
     from cffi import FFI
 
-    folder = prefix()
     made = FFI()
     made.cdef(declarations((folder / HEADER).read_text(encoding="utf-8")))
-    made.set_source(
-        "octseq._c",
-        '#include "octseq.h"',
-        include_dirs=[str(folder / "include")],
-        extra_objects=[str(folder / ARCHIVE)],
-        # The module calls its own copy of the library, whatever else the process has loaded.
-        extra_link_args=["-Wl,--exclude-libs,ALL"] if sys.platform.startswith("linux") else [],
-        py_limited_api=True,
-    )
+    made.set_source("octseq._c", '#include "octseq.h"')
     return made

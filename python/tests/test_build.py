@@ -2,18 +2,21 @@
 from __future__ import annotations
 
 import contextlib
-import importlib.util
+import email
 import os
 import pathlib
+import sys
 import tempfile
 import unittest
+import zipfile
 from unittest import mock
 
-FILE = pathlib.Path(__file__).resolve().parents[1] / "build_calls.py"
-SPEC = importlib.util.spec_from_file_location("build_calls", FILE)
-build_calls = importlib.util.module_from_spec(SPEC)
-SPEC.loader.exec_module(build_calls)
-HEADER = (FILE.parents[1] / "c/octseq.h").read_text(encoding="utf-8")
+FOLDER = pathlib.Path(__file__).resolve().parents[1]
+TOP = FOLDER.parent
+with mock.patch.object(sys, "path", [str(FOLDER), *sys.path]):
+    import backend
+    import build_calls
+HEADER = (TOP / "c/octseq.h").read_text(encoding="utf-8")
 
 
 class Prefix(unittest.TestCase):
@@ -129,11 +132,40 @@ class Header(unittest.TestCase):
         self.assertEqual((made["NUMBERS"], made["STRUCTS"], made["CALLS"]), tuple(build_calls.declared(HEADER)))
 
 
-class Licence(unittest.TestCase):
-    def test_the_packages_have_that_of_the_repository(self) -> None:
-        top = FILE.parents[1]
+class Wheel(unittest.TestCase):
+    """What the wheel says of itself."""
+
+    def test_the_project_is_that_of_pyproject(self) -> None:
+        try:
+            import tomllib
+        except ImportError:
+            self.skipTest("Python 3.9 and 3.10 have no tomllib")
+        wanted = tomllib.loads((FOLDER / "pyproject.toml").read_text(encoding="utf-8"))["project"]
+        self.assertEqual(backend.project(), wanted)
+
+    def test_cffi_is_no_dependency(self) -> None:
+        said = email.message_from_string(backend.metadata())
+        self.assertEqual((said["Name"], said["License"]), ("octseq", "BSD-3-Clause"))
+        self.assertEqual(said.get_all("Requires-Dist"), ['cffi>=1.15; extra == "cffi"'])
+        self.assertEqual(said.get_payload(), (FOLDER / "README.md").read_text(encoding="utf-8"))
+
+    def test_its_version_is_that_of_the_library(self) -> None:
+        self.assertIn(f'#define OCTSEQ_VERSION "{backend.project()["version"]}"\n', HEADER)
+
+    def test_files_are_listed(self) -> None:
+        with tempfile.TemporaryDirectory() as folder:
+            wheel = pathlib.Path(folder, "a.whl")
+            backend.write(wheel, {"a/b.py": b"c\n", "a/d.so": b""}, "a.dist-info/RECORD")
+            with zipfile.ZipFile(wheel) as made:
+                rows = made.read("a.dist-info/RECORD").decode().splitlines()
+                self.assertEqual(made.read("a/b.py"), b"c\n")
+        # printf 'c\n' | openssl dgst -sha256 -binary | base64, and the same of nothing, in the letters for URLs.
+        of_c, of_nothing = "o6XnFfDMV0pzw_m-u2vCTzL_1bZ7OHJEwskJ2neaFHg", "47DEQpj8HBSa-_TImW-5JCeuQeRkm5NMpJWZG3hSuFU"
+        self.assertEqual(rows, [f"a/b.py,sha256={of_c},2", f"a/d.so,sha256={of_nothing},0", "a.dist-info/RECORD,,"])
+
+    def test_the_licences_are_those_of_the_repository(self) -> None:
         for name in ("python/LICENSE", "python/NOTICE", "go/LICENSE", "rust/octseq-proved/LICENSE"):
-            self.assertEqual((top / name).read_bytes(), (top / pathlib.Path(name).name).read_bytes())
+            self.assertEqual((TOP / name).read_bytes(), (TOP / pathlib.Path(name).name).read_bytes())
 
 
 if __name__ == "__main__":
