@@ -4,8 +4,8 @@ By cffi: the module octseq._c, which has the library in it. By ctypes, where cff
 octseq._declared, and the shared library beside it. The declarations of both are those of octseq.h, and none is written
 a second time.
 
-The library is in the folder that the environment variable OCTSEQ_PREFIX names, or else in out/c of the repository, where
-bin/build-c puts it.
+The library is in the folder that the environment variable OCTSEQ_PREFIX names, or else in out/c of the repository,
+where bin/build-c puts it.
 """
 from __future__ import annotations
 

@@ -1,8 +1,8 @@
 //! Links `liboctseq.a` of the prefix that `OCTSEQ_PREFIX` names, or else of `out/c` of the repository.
 use std::{env, path::PathBuf};
 
-const HOW: &str = "Run `bin/build-c` in the octseq repository, or set OCTSEQ_PREFIX to the full path of the PREFIX that \
-                   it was run with.";
+const HOW: &str = "Run `bin/build-c` in the octseq repository, or set OCTSEQ_PREFIX to the full path of the PREFIX \
+                   that it was run with.";
 
 /// The folder that `bin/build-c` made.
 fn prefix() -> PathBuf {

@@ -1,13 +1,13 @@
 """The C library by ctypes, for where cffi isn't installed. It is slower, and answers the same.
 
-`lib` has the calls and numbers of octseq.h, as the build found them there (`_declared`). `ffi` has what `_calls` uses of
-cffi, under cffi's names, so that `_calls` is one text for both: `NULL`, `new`, `new_allocator`, `typeof`, `sizeof`,
+`lib` has the calls and numbers of octseq.h, as the build found them there (`_declared`). `ffi` has what `_calls` uses
+of cffi, under cffi's names, so that `_calls` is one text for both: `NULL`, `new`, `new_allocator`, `typeof`, `sizeof`,
 `from_buffer`, `buffer`, `unpack`. A type is `T`, `T *` or `T[]`.
 
-ctypes passes what it is given: it cuts numbers, takes a number for an address, and lets a call write to `bytes`. So each
-argument is compared with the declaration first, and what cffi refuses is refused here: OverflowError for a number that
-the type hasn't, TypeError for a pointer to something else, or for another number of arguments. What a call writes to is
-made by `new`, and is never moved. What it only reads may be `bytes` too. `buffer` and `from_buffer` copy.
+ctypes passes what it is given: it cuts numbers, takes a number for an address, and lets a call write to `bytes`. So
+each argument is compared with the declaration first, and what cffi refuses is refused here: OverflowError for a number
+that the type hasn't, TypeError for a pointer to something else, or for another number of arguments. What a call writes
+to is made by `new`, and is never moved. What it only reads may be `bytes` too. `buffer` and `from_buffer` copy.
 """
 from __future__ import annotations
 

@@ -1,8 +1,8 @@
 """The calls of the C library.
 
-cffi makes them, by the module `_c`; where that can't be imported, as without cffi, ctypes does (`_by_ctypes`). `lib` and
-`ffi` are the same for this file: a call that octseq.h has is in both `lib`s, and of cffi only what `_by_ctypes` names is
-used here.
+cffi makes them, by the module `_c`; where that can't be imported, as without cffi, ctypes does (`_by_ctypes`). `lib`
+and `ffi` are the same for this file: a call that octseq.h has is in both `lib`s, and of cffi only what `_by_ctypes`
+names is used here.
 
 The library is proved on what a caller promises (octseq.h). This file is what promises it: no other file of the package
 makes pointers for it, but `_by_ctypes` does what cffi would do, and no proof covers these two. What it has to keep:
