@@ -131,6 +131,8 @@ class Made(unittest.TestCase):
             rows = made.new("octseq_dns_row[]", [(1, 2, 3, 4, 5, 6, 7), (8,)])
             self.assertEqual((rows[0].name_at, rows[0].section, rows[1].name_at, len(rows)), (1, 7, 8, 2))
             self.assertEqual([row.ttl for row in rows], [4, 0])
+            self.assertEqual([row.ttl for row in rows[0:2]], [4, 0])
+            self.assertEqual(made.buffer(rows, 48)[:][40:], b"\x08" + bytes(7))
             state = made.new("octseq_lossy_state *", {"octets": b"ab", "len": 2})
             self.assertEqual((bytes(state.octets[0:3]), state.len, state[0].len), (b"ab\0", 2, 2))
             with self.assertRaises(IndexError):
