@@ -171,7 +171,9 @@ def _new(kind: str | _Kind, value: Any = None) -> Any:
         return of.array(operator.index(value))
     if isinstance(of, _Struct) and not is_array:
         return of.fill(of.made_by(), () if value is None else value)
-    things = value if is_array else [0 if value is None else value]
+    if value is None and not is_array:
+        return of.array(1)
+    things = value if is_array else [value]
     made = of.array(len(things))
     for index, thing in enumerate(things):
         made[index] = thing
