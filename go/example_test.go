@@ -3,9 +3,10 @@ package octseq_test
 import (
 	"fmt"
 	"io"
-	"octseq"
 	"os"
 	"strings"
+
+	octseq "github.com/octseq/octseq/go"
 )
 
 func ExampleLossy() {

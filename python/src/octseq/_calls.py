@@ -1,11 +1,15 @@
 """The calls of the C library.
 
+cffi makes them, by the module `_c`; where that can't be imported, as without cffi, ctypes does (`_by_ctypes`). `lib`
+and `ffi` are the same for this file: a call that octseq.h has is in both `lib`s, and of cffi only what `_by_ctypes`
+names is used here.
+
 The library is proved on what a caller promises (octseq.h). This file is what promises it: no other file of the package
-touches memory, and no proof covers this one. What it has to keep:
+makes pointers for it, but `_by_ctypes` does what cffi would do, and no proof covers these two. What it has to keep:
 
 - A pointer and the length after it are of one object, which lives until the call is over, and isn't moved till then.
-- Nobody writes to octets during a call. cffi lets other threads run meanwhile, so `frozen` copies all octets but those
-  of `bytes`. An object of a class made from `bytes` may tell another length, so it is copied too.
+- Nobody writes to octets during a call. Other threads run meanwhile, so `frozen` copies all octets but those of
+  `bytes`. An object of a class made from `bytes` may tell another length, so it is copied too.
 - What is written overlaps nothing: each call has room of its own, made for it.
 - What a call wrote is copied before its room goes, rows too: a row of an array doesn't keep the array.
 - No length is above PTRDIFF_MAX, which is `sys.maxsize`: so much room isn't asked for.
@@ -16,8 +20,16 @@ import sys
 from collections.abc import Callable, Sequence
 from typing import TYPE_CHECKING, Any, NamedTuple
 
-from ._c import ffi, lib
 from .errors import BadRow, BadState, Immovable, Malformed, TooLong, Unshown
+
+try:
+    from ._c import ffi, lib
+except ImportError:
+    from ._by_ctypes import ffi, lib
+
+    calls_by = "ctypes"
+else:
+    calls_by = "cffi"
 
 if TYPE_CHECKING:
     from typing_extensions import Buffer
@@ -98,7 +110,7 @@ def frozen(data: Buffer) -> bytes | memoryview:
 
 
 def _pointer(octets: bytes | memoryview) -> Any:
-    """Frozen octets as cffi takes them, without a copy."""
+    """Frozen octets as a call takes them. cffi copies none, ctypes those of a view."""
     return octets if type(octets) is bytes else ffi.from_buffer(_OCTETS, octets)
 
 
