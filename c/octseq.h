@@ -111,6 +111,11 @@ typedef struct octseq_dns_row {
 /* The header of the message that the octets are. OK, MALFORMED: they are no message; `*header` is as it was. */
 uint32_t octseq_dns_message_header(const uint8_t *octets, size_t len, octseq_dns_header *header);
 
+/* Whether the octets are a message, and where reading them stops. OK: they are one, and `*place` is `len`. MALFORMED:
+ * `*place` is where the first part is that isn't there: 0 for the header, or a question or a record that it counts; or,
+ * if all of these are there, the place after the last; or 65,535 if there are more octets. */
+uint32_t octseq_dns_message_fault(const uint8_t *octets, size_t len, size_t *place);
+
 /* The questions and the records of the message that the octets are, in their order. OK, NO_ROOM, MALFORMED. */
 uint32_t octseq_dns_rows(const uint8_t *octets, size_t len, octseq_dns_row *out, size_t room, size_t *count);
 
@@ -186,6 +191,29 @@ uint32_t octseq_dns_data_is_typed(const uint8_t *octets, size_t len, size_t data
 uint32_t octseq_dns_data_text(const uint8_t *octets, size_t len, size_t data_at, size_t data_len, uint16_t rtype,
                               uint16_t rclass, uint8_t *out, size_t room, size_t *written);
 
+/* The kinds of fields of data. */
+#define OCTSEQ_DNS_NUMBER 0u    /* a number of one, two or four octets: a preference, a time, a record type */
+#define OCTSEQ_DNS_NAME 1u      /* a domain name, at a place as octseq_dns_name_text takes it */
+#define OCTSEQ_DNS_ADDRESS 2u   /* an IPv4 address of 4 octets, or an IPv6 one of 16 */
+#define OCTSEQ_DNS_STRING 3u    /* a character string, without the octet of its length */
+#define OCTSEQ_DNS_OCTETS 4u    /* octets that are no other field: a key, a digest, a signature, unknown data */
+#define OCTSEQ_DNS_TYPES 5u     /* a set of record types (RFC 4034, 4.1.2) */
+#define OCTSEQ_DNS_PARAMETER 6u /* a parameter of SVCB or HTTPS (RFC 9460, 2.2), or an option of OPT (RFC 6891, 6.1.2) */
+
+/* A field of data. Places are counted from the first of the octets. */
+typedef struct octseq_dns_field {
+    size_t at;       /* where its octets begin, after a length that it has before them; 0 of a number */
+    size_t len;      /* how many octets there are; of a name those at its place, of a number 0 */
+    uint32_t number; /* the number, or the key of a parameter or the code of an option; else 0 */
+    uint32_t kind;   /* OCTSEQ_DNS_NUMBER and so on */
+} octseq_dns_field;
+
+/* The fields of the same data, in the order that its type has them: of an MX a number and a name. All character strings
+ * of a TXT, all parameters and all options are fields of their own. Data that has not the form of a type that is known
+ * is one field of octets. OK, NO_ROOM, MALFORMED: the data isn't within the octets. */
+uint32_t octseq_dns_data_fields(const uint8_t *octets, size_t len, size_t data_at, size_t data_len, uint16_t rtype,
+                                uint16_t rclass, octseq_dns_field *out, size_t room, size_t *count);
+
 /* The mnemonic of a type (`A`, `TYPE1234`) and of a class (`IN`, `CLASS5`). OK, NO_ROOM, UNSHOWN. */
 uint32_t octseq_dns_rtype_text(uint16_t rtype, uint8_t *out, size_t room, size_t *written);
 uint32_t octseq_dns_class_text(uint16_t rclass, uint8_t *out, size_t room, size_t *written);
@@ -227,6 +255,12 @@ typedef struct octseq_bgp_row {
     uint8_t flags;        /* the flags of the attribute; 0 of a prefix */
     uint8_t type_code;    /* the type of the attribute; 0 of a prefix */
 } octseq_bgp_row;
+
+/* Whether the octets are a message of the session, and where reading them stops. OK: they are one, and `*place` is
+ * `len`. MALFORMED: `*place` is 0 where the octets don't begin with the header of a message of this length; else where
+ * the first part is that isn't there: 19 for what each message of its type begins with (and for what follows the header
+ * of a KEEPALIVE), or the place of a parameter of an OPEN, a length, a prefix or an attribute of an UPDATE. */
+uint32_t octseq_bgp_message_fault(const uint8_t *octets, size_t len, uint32_t session, size_t *place);
 
 /* The parts of the message that the octets are, in their order: withdrawn prefixes, attributes, announced prefixes. The
  * prefixes of an MP_REACH_NLRI and of an MP_UNREACH_NLRI follow it, if its value has the form of its type and its

@@ -77,7 +77,8 @@ type BGPMessage struct {
 	count   int
 }
 
-// ParseBGPMessage is the message of a session that octets are. It copies them. ErrMalformed: they are none.
+// ParseBGPMessage is the message of a session that octets are. It copies them. ErrMalformed: they are none;
+// BGPMessageFault tells where they stop being one.
 func ParseBGPMessage(octets []byte, session BGPSession) (BGPMessage, error) {
 	own := append([]byte(nil), octets...)
 	count, err := bgpRowCount(own, session.flags())
@@ -85,6 +86,14 @@ func ParseBGPMessage(octets []byte, session BGPSession) (BGPMessage, error) {
 		return BGPMessage{}, err
 	}
 	return BGPMessage{own, session, count}, nil
+}
+
+// BGPMessageFault tells where octets stop being a message of a session, and whether they do. The place is 0 where they
+// don't begin with the header of a message of this length; else where the first part is that isn't there: 19 for what
+// each message of its type begins with (and for what follows the header of a KEEPALIVE), or the place of a parameter of
+// an OPEN, a length, a prefix or an attribute of an UPDATE. Of a message it is the end.
+func BGPMessageFault(octets []byte, session BGPSession) (place int, found bool) {
+	return bgpMessageFault(octets, session.flags())
 }
 
 // Octets is a copy of the message's octets.

@@ -58,6 +58,61 @@ func TestSessionsOfBGPMessages(t *testing.T) {
 	}
 }
 
+// Its parts are at the places 19, 21, 24, 26, 30 and 39: the length of the withdrawn prefixes and one of them, that of
+// the attributes and two of them, and a prefix.
+func TestUpdatesStopAtTheFirstPartThatIsNotThere(t *testing.T) {
+	for length := range updateOctets {
+		if place, found := BGPMessageFault([]byte(updateOctets[:length]), BGPSession{}); place != 0 || !found {
+			t.Errorf("%d octets: %d, %v", length, place, found)
+		}
+	}
+	for _, row := range []struct {
+		at    int
+		octet byte
+		place int
+	}{
+		{0, 0, 0}, {16, 1, 0}, {18, 6, 0}, {19, 1, 19}, {21, 33, 21}, {25, 255, 24}, {28, 255, 26}, {32, 255, 30},
+		{39, 16, 39}, {39, 33, 39},
+	} {
+		octets := []byte(updateOctets)
+		octets[row.at] = row.octet
+		if place, found := BGPMessageFault(octets, BGPSession{}); place != row.place || !found {
+			t.Errorf("%v: %d, %v", row, place, found)
+		}
+	}
+	if place, found := BGPMessageFault([]byte(updateOctets), BGPSession{}); place != len(updateOctets) || found {
+		t.Error(place, found)
+	}
+	if place, found := BGPMessageFault([]byte(pathOctets), BGPSession{}); place != 28 || !found {
+		t.Error(place, found)
+	}
+}
+
+// An OPEN of one parameter, which is at place 29, a KEEPALIVE, a NOTIFICATION and a ROUTE-REFRESH: what follows the
+// length, and the place of the fault, or 0 where it is a message.
+func TestOtherMessagesStopAfterTheirHeaderOrAtAParameter(t *testing.T) {
+	for _, row := range []struct {
+		after string
+		place int
+	}{
+		{"\x01\x04\xFC\x00\x00\xB4\x0A\x00\x00\x01\x04\x02\x02\x06\x00", 0},
+		{"\x01\x04\xFC\x00\x00\xB4\x0A\x00\x00\x01\x04\x02\x03\x06\x00", 29},
+		{"\x01\x04\xFC\x00\x00\xB4\x0A\x00\x00\x01\x05\x02\x02\x06\x00", 28},
+		{"\x04", 0},
+		{"\x04\x00", 19},
+		{"\x03\x06\x02", 0},
+		{"\x03\x06", 19},
+		{"\x05\x00\x01\x00\x01", 0},
+		{"\x05\x00\x01\x00", 19},
+	} {
+		octets := []byte(marker + "\x00" + string(rune(18+len(row.after))) + row.after)
+		place, found := BGPMessageFault(octets, BGPSession{})
+		if found != (row.place > 0) || found && place != row.place {
+			t.Errorf("% X: %d, %v", row.after, place, found)
+		}
+	}
+}
+
 // In stdin a message is after a number that says its session, and its length in two octets; in stdout an empty line is
 // after its lines.
 func TestBGPMessagesAndPartsHaveTheirLines(t *testing.T) {
@@ -89,6 +144,9 @@ func TestBGPMessagesAndPartsHaveTheirLines(t *testing.T) {
 func compareBGPMessage(t *testing.T, octets []byte, session BGPSession, lines string) {
 	t.Helper()
 	message, err := ParseBGPMessage(octets, session)
+	if place, found := BGPMessageFault(octets, session); found != (err != nil) || place > len(octets) {
+		t.Errorf("%d, %v, not %s", place, found, lines)
+	}
 	if err != nil {
 		if err != ErrMalformed || lines != "malformed\n" {
 			t.Errorf("%v, not %s", err, lines)

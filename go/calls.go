@@ -126,6 +126,13 @@ func messageHeader(octets []byte) (Header, error) {
 	}, nil
 }
 
+// messageFault is where reading octets as a message stops, and whether they are none.
+func messageFault(octets []byte) (place int, found bool) {
+	var at C.size_t
+	status := C.octseq_dns_message_fault(start(octets), size(octets), &at)
+	return int(at), status != C.OCTSEQ_OK
+}
+
 // firstRow is the pointer to the first of some rows. It is nil where there are none.
 func firstRow(rows []C.octseq_dns_row) *C.octseq_dns_row {
 	if len(rows) == 0 {
@@ -239,6 +246,38 @@ func dataText(octets []byte, at, length int, rtype Type, class Class) (string, e
 	}))
 }
 
+// putFields writes the fields of data to some rows, and answers how many there are.
+func putFields(octets []byte, at, length int, rtype Type, class Class, out []C.octseq_dns_field) (int, C.uint32_t) {
+	var count C.size_t
+	status := C.octseq_dns_data_fields(start(octets), size(octets), C.size_t(at), C.size_t(length), C.uint16_t(rtype),
+		C.uint16_t(class), &out[0], C.size_t(len(out)), &count)
+	return int(count), status
+}
+
+// dataFields are the fields of data. Most data has fewer than 16.
+func dataFields(octets []byte, at, length int, rtype Type, class Class) ([]FieldRow, error) {
+	out := make([]C.octseq_dns_field, 16)
+	count, status := putFields(octets, at, length, rtype, class, out)
+	if status == C.OCTSEQ_NO_ROOM {
+		out = make([]C.octseq_dns_field, count)
+		count, status = putFields(octets, at, length, rtype, class, out)
+	}
+	if status != C.OCTSEQ_OK {
+		return nil, errorOf(status)
+	}
+	rows := make([]FieldRow, count)
+	for index := range rows {
+		row := &out[index]
+		rows[index] = FieldRow{
+			At:     int(row.at),
+			Len:    int(row.len),
+			Number: uint32(row.number),
+			Kind:   FieldKind(row.kind),
+		}
+	}
+	return rows, nil
+}
+
 func typeText(rtype Type) (string, error) {
 	return textOf(filled(16, func(to *room) C.uint32_t {
 		return C.octseq_dns_rtype_text(C.uint16_t(rtype), to.out, to.len, &to.written)
@@ -265,6 +304,13 @@ func classFromText(text []byte) (Class, error) {
 		return 0, errorOf(status)
 	}
 	return Class(number), nil
+}
+
+// bgpMessageFault is where reading octets as a message of a session stops, and whether they are none.
+func bgpMessageFault(octets []byte, session uint32) (place int, found bool) {
+	var at C.size_t
+	status := C.octseq_bgp_message_fault(start(octets), size(octets), C.uint32_t(session), &at)
+	return int(at), status != C.OCTSEQ_OK
 }
 
 // bgpRowCount is how many rows a message of a session has.

@@ -22,9 +22,21 @@ func (data Data) Octets() []byte {
 	return append([]byte(nil), data.message[data.at:data.at+data.length]...)
 }
 
-// IsTyped tells whether the data has the form of its type and class; 27 types are known. Data of other types has none.
+// IsTyped tells whether the data has the form of its type and class; 30 types are known. Data of other types has none.
 func (data Data) IsTyped() bool {
 	return dataIsTyped(data.message, data.at, data.length, data.rtype, data.class)
+}
+
+// Fields are the fields of the data, in the order that its type has them: of an MX a number and a name. All character
+// strings of a TXT, all parameters and all options are fields of their own. Data that has not the form of a type that
+// is known is one field of octets. No error is known.
+func (data Data) Fields() ([]Field, error) {
+	rows, err := dataFields(data.message, data.at, data.length, data.rtype, data.class)
+	fields := make([]Field, len(rows))
+	for at, row := range rows {
+		fields[at] = Field{row, data.message}
+	}
+	return fields, err
 }
 
 // Text is the data's text: that of its type, or `\# n` and the octets in hexadecimal (RFC 3597, 5) where it isn't

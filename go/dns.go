@@ -73,7 +73,8 @@ type Message struct {
 	header Header
 }
 
-// ParseMessage is the message that octets are. It copies them. ErrMalformed: they are none.
+// ParseMessage is the message that octets are. It copies them. ErrMalformed: they are none; MessageFault tells where
+// they stop being one.
 func ParseMessage(octets []byte) (Message, error) {
 	own := append([]byte(nil), octets...)
 	header, err := messageHeader(own)
@@ -81,6 +82,13 @@ func ParseMessage(octets []byte) (Message, error) {
 		return Message{}, err
 	}
 	return Message{own, header}, nil
+}
+
+// MessageFault tells where octets stop being a message, and whether they do: where the first part is that isn't there,
+// which is 0 for the header, or a question or a record that it counts; or, if all of these are there, the place after
+// the last; or 65,535 if there are more octets. Of a message it is the end.
+func MessageFault(octets []byte) (place int, found bool) {
+	return messageFault(octets)
 }
 
 // Octets is a copy of the message's octets.

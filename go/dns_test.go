@@ -144,6 +144,32 @@ func TestFrontsOfAMessageAreNone(t *testing.T) {
 	}
 }
 
+// The header, the question and the record are at the places 0, 12 and 29.
+func TestMessagesStopAtTheFirstPartThatIsNotThere(t *testing.T) {
+	stops := func(octets string, wanted int) {
+		t.Helper()
+		if place, found := MessageFault([]byte(octets)); place != wanted || !found {
+			t.Errorf("%d octets: %d, %v, not %d", len(octets), place, found, wanted)
+		}
+	}
+	for length := range answerOctets {
+		switch {
+		case length < 12:
+			stops(answerOctets[:length], 0)
+		case length < 29:
+			stops(answerOctets[:length], 12)
+		default:
+			stops(answerOctets[:length], 29)
+		}
+	}
+	stops(answerOctets+"\x00", 45)
+	stops(answerOctets+strings.Repeat("\x00", 65535-45), 45)
+	stops(answerOctets+strings.Repeat("\x00", 65536-45), 65535)
+	if place, found := MessageFault([]byte(answerOctets)); place != 45 || found {
+		t.Error(place, found)
+	}
+}
+
 // ordered are the names of RFC 4034, 6.1, in the order that it gives.
 var ordered = []string{
 	"example.", "a.example.", "yljkjljk.a.example.", "Z.a.example.", "zABC.a.EXAMPLE.", "z.example.",

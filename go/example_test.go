@@ -3,9 +3,10 @@ package octseq_test
 import (
 	"fmt"
 	"io"
-	"octseq"
 	"os"
 	"strings"
+
+	octseq "github.com/octseq/octseq/go"
 )
 
 func ExampleLossy() {
@@ -58,4 +59,22 @@ func ExampleMessage_Answer() {
 	// id 7 opcode 0 rcode 0 flags QR RD RA
 	// question example.com. IN A
 	// answer example.com. 300 IN A 192.0.2.1
+}
+
+func ExampleData_Fields() {
+	octets := []byte("\x00\x0A\x04mail\aexample\x03com\x00")
+	data, err := octseq.NewData(octets, 0, len(octets), octseq.TypeMX, octseq.ClassIN)
+	if err != nil {
+		panic(err)
+	}
+	fields, err := data.Fields()
+	if err != nil {
+		panic(err)
+	}
+	for _, field := range fields {
+		fmt.Println(field)
+	}
+	// Output:
+	// number 10
+	// name mail.example.com.
 }

@@ -1,3 +1,3 @@
-module octseq
+module github.com/octseq/octseq/go
 
 go 1.19

@@ -85,3 +85,36 @@ func TestMessagesThatAreRewrittenHaveTheSameLines(t *testing.T) {
 		t.Errorf("%d messages were rewritten", rewritten)
 	}
 }
+
+// A message that is cut within an entry stops where that begins, and one with an octet more where it ends.
+func TestMessagesThatAreCutStopWhereTheyAreCut(t *testing.T) {
+	stops := func(octets []byte, wanted int) {
+		t.Helper()
+		if place, found := MessageFault(octets); place != wanted || !found {
+			t.Errorf("%d octets: %d, %v, not %d", len(octets), place, found, wanted)
+		}
+	}
+	withEach(t, func(octets []byte, lines string) {
+		place, found := MessageFault(octets)
+		if found != (lines == "malformed\n") || place > len(octets) || !found && place != len(octets) {
+			t.Errorf("%d, %v, not %s", place, found, lines)
+		}
+		message, err := ParseMessage(octets)
+		if err != nil {
+			return
+		}
+		entries, err := message.Entries()
+		if err != nil {
+			t.Fatal(err)
+		}
+		for at, entry := range entries {
+			begin, end := entry.Row().NameAt, len(octets)
+			if at+1 < len(entries) {
+				end = entries[at+1].Row().NameAt
+			}
+			stops(octets[:begin], begin)
+			stops(octets[:end-1], begin)
+		}
+		stops(append(message.Octets(), 0), len(octets))
+	})
+}

@@ -30,6 +30,12 @@ AT(octseq_dns_row, rclass, 30, 2);
 AT(octseq_dns_row, section, 32, 4);
 ASSERT(octseq_dns_row_size, sizeof(octseq_dns_row) == 40);
 
+AT(octseq_dns_field, at, 0, 8);
+AT(octseq_dns_field, len, 8, 8);
+AT(octseq_dns_field, number, 16, 4);
+AT(octseq_dns_field, kind, 20, 4);
+ASSERT(octseq_dns_field_size, sizeof(octseq_dns_field) == 24);
+
 AT(octseq_bgp_row, at, 0, 8);
 AT(octseq_bgp_row, len, 8, 8);
 AT(octseq_bgp_row, kind, 16, 4);

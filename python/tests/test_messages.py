@@ -132,7 +132,7 @@ class OfOneMessage(unittest.TestCase):
     def test_it_shows_itself(self) -> None:
         self.assertEqual(repr(self.message), "<Message 7, 45 octets>")
         self.assertEqual(repr(self.message.answers[0]), "<Record example.com. 300 IN A 1.2.3.4>")
-        self.assertEqual(repr(self.message.answers[0].rdata), "<Rdata 1.2.3.4>")
+        self.assertEqual(repr(self.message.answers[0].rdata), "<Rdata IN A 1.2.3.4>")
         self.assertEqual(str(self.message), self.message.to_text())
 
     def test_it_does_not_change_with_what_it_was_read_from(self) -> None:

@@ -7,7 +7,10 @@ pub mod BgpRoom
 pub mod BgpRows
 pub mod EdnsOptions
 pub mod EdnsQueries
+pub mod FilledFields
+pub mod KnownFields
 pub mod OneAnswer
+pub mod OneFields
 pub mod OneRewriting
 pub mod OneTexts
 pub mod Orders
@@ -17,5 +20,6 @@ pub mod Puts
 pub mod Reported
 pub mod RowsPushed
 pub mod SettledTexts
+pub mod TakenFields
 pub mod TwoPieces
 pub mod Wholes

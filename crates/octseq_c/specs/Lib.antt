@@ -2,6 +2,7 @@ pub mod BgpRoom
 pub mod BgpRows
 pub mod BgpSession
 pub mod Edns
+pub mod Fields
 pub mod LossyText
 pub mod Made
 pub mod Order

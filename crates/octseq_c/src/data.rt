@@ -85,7 +85,7 @@ pub fn data_of(
 }
 
 /// Returns a parser of the octets at a place, and one of the `len` octets there alone.
-fn place_of(octets: &[u8], place: usize, len: usize) -> Option<(Parser<&[u8]>, Parser<&[u8]>)>
+pub fn place_of(octets: &[u8], place: usize, len: usize) -> Option<(Parser<&[u8]>, Parser<&[u8]>)>
     ensures some { IfSome result (λ found. (place + len ≤ length octets.now)
         × (window found.0 ≡ at place (whole octets.now))
         × (window found.1 ≡ nested len (at place (whole octets.now)))) }

@@ -7,6 +7,7 @@ mod bgp;
 mod both;
 mod data;
 mod edns;
+mod fields;
 mod header;
 mod lines;
 mod lossy;

@@ -1,11 +1,15 @@
 """The calls of the C library.
 
+cffi makes them, by the module `_c`; where that can't be imported, as without cffi, ctypes does (`_by_ctypes`). `lib`
+and `ffi` are the same for this file: a call that octseq.h has is in both `lib`s, and of cffi only what `_by_ctypes`
+names is used here.
+
 The library is proved on what a caller promises (octseq.h). This file is what promises it: no other file of the package
-touches memory, and no proof covers this one. What it has to keep:
+makes pointers for it, but `_by_ctypes` does what cffi would do, and no proof covers these two. What it has to keep:
 
 - A pointer and the length after it are of one object, which lives until the call is over, and isn't moved till then.
-- Nobody writes to octets during a call. cffi lets other threads run meanwhile, so `frozen` copies all octets but those
-  of `bytes`. An object of a class made from `bytes` may tell another length, so it is copied too.
+- Nobody writes to octets during a call. Other threads run meanwhile, so `frozen` copies all octets but those of
+  `bytes`. An object of a class made from `bytes` may tell another length, so it is copied too.
 - What is written overlaps nothing: each call has room of its own, made for it.
 - What a call wrote is copied before its room goes, rows too: a row of an array doesn't keep the array.
 - No length is above PTRDIFF_MAX, which is `sys.maxsize`: so much room isn't asked for.
@@ -16,15 +20,23 @@ import sys
 from collections.abc import Callable, Sequence
 from typing import TYPE_CHECKING, Any, NamedTuple
 
-from ._c import ffi, lib
 from .errors import BadRow, BadState, Immovable, Malformed, TooLong, Unshown
+
+try:
+    from ._c import ffi, lib
+except ImportError:
+    from ._by_ctypes import ffi, lib
+
+    calls_by = "ctypes"
+else:
+    calls_by = "cffi"
 
 if TYPE_CHECKING:
     from typing_extensions import Buffer
 
 Call = Callable[..., int]
 _OCTETS, _ROWS, _SIZE = ffi.typeof("uint8_t[]"), ffi.typeof("octseq_dns_row[]"), ffi.typeof("size_t *")
-_BGP_ROWS = ffi.typeof("octseq_bgp_row[]")
+_BGP_ROWS, _FIELDS = ffi.typeof("octseq_bgp_row[]"), ffi.typeof("octseq_dns_field[]")
 _HEADER, _STATE = ffi.typeof("octseq_dns_header *"), ffi.typeof("octseq_lossy_state *")
 _ORDER, _NUMBER = ffi.typeof("int32_t *"), ffi.typeof("uint16_t *")
 _array_of = ffi.new_allocator(should_clear_after_alloc=False)
@@ -61,6 +73,15 @@ class Row(NamedTuple):
     section: int
 
 
+class FieldRow(NamedTuple):
+    """A field of a record's data, as `octseq_dns_field` has it. Places are counted from the first of the octets."""
+
+    at: int
+    len: int
+    number: int
+    kind: int
+
+
 class BgpRow(NamedTuple):
     """A prefix or a path attribute, as `octseq_bgp_row` has it. Places are counted from the message's first octet."""
 
@@ -89,7 +110,7 @@ def frozen(data: Buffer) -> bytes | memoryview:
 
 
 def _pointer(octets: bytes | memoryview) -> Any:
-    """Frozen octets as cffi takes them, without a copy."""
+    """Frozen octets as a call takes them. cffi copies none, ctypes those of a view."""
     return octets if type(octets) is bytes else ffi.from_buffer(_OCTETS, octets)
 
 
@@ -205,6 +226,27 @@ def dns_data_is_typed(data: bytes, row: Row) -> bool:
     """Whether the data of a row has the form of its type and class."""
     numbers = row.data_at, row.data_len, row.rtype, row.rclass
     return lib.octseq_dns_data_is_typed(data, len(data), *numbers) == 1
+
+
+def dns_data_fields(data: bytes, row: Row, room: int) -> list[FieldRow]:
+    """The fields of the data of a row. `room` is a guess of how many they are. Malformed."""
+    numbers = row.data_at, row.data_len, row.rtype, row.rclass
+    out, count = _filled(_FIELDS, room, lib.octseq_dns_data_fields, data, len(data), *numbers)
+    fields = (out[index] for index in range(count))
+    return [FieldRow(f.at, f.len, f.number, f.kind) for f in fields]
+
+
+def dns_message_place(data: bytes) -> tuple[bool, int]:
+    """Whether octets are a message, and where reading them stops."""
+    place = ffi.new(_SIZE)
+    return lib.octseq_dns_message_fault(data, len(data), place) == lib.OCTSEQ_OK, place[0]
+
+
+def bgp_message_place(data: bytes, session: int) -> int:
+    """Where reading octets as a message of a session stops."""
+    place = ffi.new(_SIZE)
+    lib.octseq_bgp_message_fault(data, len(data), session, place)
+    return place[0]
 
 
 def bgp_rows(data: bytes, session: int, room: int) -> list[BgpRow]:

@@ -5,6 +5,16 @@ from __future__ import annotations
 class Malformed(ValueError):
     """The octets, or the text, aren't what they were read as."""
 
+    place: int | None = None
+    """Where reading octets stopped, counted from the first of them, if that is known."""
+
+
+def malformed_at(place: int, message: str) -> Malformed:
+    """The error about octets, of which reading stopped at a place."""
+    error = Malformed(message)
+    error.place = place
+    return error
+
 
 class Immovable(ValueError):
     """Data of a record isn't of its type's form and may have pointers, so it can't be moved (RFC 3597, 4)."""

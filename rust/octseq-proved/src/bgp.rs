@@ -205,7 +205,7 @@ impl<'octets> Message<'octets> {
     ///
     /// # Errors
     ///
-    /// [`Error::Malformed`]: they are none.
+    /// [`Error::Malformed`]: they are none. [`first_fault`] tells where they stop being one.
     pub fn new(octets: &'octets [u8], session: Session) -> Result<Message<'octets>, Error> {
         match calls::bgp_rows(octets, session.flags(), &mut []) {
             (OK | NO_ROOM, count) => Ok(Message { octets, session, count }),
@@ -303,6 +303,17 @@ impl fmt::Debug for Message<'_> {
 impl fmt::Display for Message<'_> {
     fn fmt(&self, f: &mut fmt::Formatter<'_>) -> fmt::Result {
         f.write_str(&self.text().map_err(|_| fmt::Error)?)
+    }
+}
+
+/// Where octets stop being a message of a session, or `None`: they are one. It is 0 where they don't begin with the
+/// header of a message of this length; else where the first part is that isn't there: 19 for what each message of its
+/// type begins with (and for what follows the header of a KEEPALIVE), or the place of a parameter of an OPEN, a length,
+/// a prefix or an attribute of an UPDATE.
+pub fn first_fault(octets: &[u8], session: Session) -> Option<usize> {
+    match calls::bgp_message_fault(octets, session.flags()) {
+        (OK, _) => None,
+        (_, place) => Some(place),
     }
 }
 

@@ -11,7 +11,7 @@
 //! `usize` is `size_t` on each target that the library is built for.
 
 use crate::bgp;
-use crate::dns::{Class, Header, Row, Rtype};
+use crate::dns::{Class, FieldRow, Header, Row, Rtype};
 use core::mem::{align_of, offset_of, size_of};
 
 /// `OCTSEQ_OK`.
@@ -54,6 +54,9 @@ const _: () = {
     assert!(offset_of!(Row, name_at) == 0 && offset_of!(Row, data_at) == WORD && offset_of!(Row, data_len) == 2 * WORD);
     assert!(offset_of!(Row, ttl) == 3 * WORD && offset_of!(Row, rtype) == 3 * WORD + 4);
     assert!(offset_of!(Row, rclass) == 3 * WORD + 6 && offset_of!(Row, section) == 3 * WORD + 8);
+    assert!(size_of::<FieldRow>() == 2 * WORD + 8 && align_of::<FieldRow>() == align_of::<usize>());
+    assert!(offset_of!(FieldRow, at) == 0 && offset_of!(FieldRow, len) == WORD);
+    assert!(offset_of!(FieldRow, number) == 2 * WORD && offset_of!(FieldRow, kind) == 2 * WORD + 4);
     assert!(size_of::<bgp::Row>() == 2 * WORD + 16 && align_of::<bgp::Row>() == align_of::<usize>());
     assert!(offset_of!(bgp::Row, at) == 0 && offset_of!(bgp::Row, len) == WORD);
     assert!(offset_of!(bgp::Row, kind) == 2 * WORD && offset_of!(bgp::Row, path_id) == 2 * WORD + 4);
@@ -77,6 +80,7 @@ unsafe extern "C" {
     ) -> u32;
     fn octseq_lossy_end(state: *mut LossyState, out: *mut u8, room: usize, written: *mut usize) -> u32;
     fn octseq_dns_message_header(octets: *const u8, len: usize, header: *mut Header) -> u32;
+    fn octseq_dns_message_fault(octets: *const u8, len: usize, place: *mut usize) -> u32;
     fn octseq_dns_rows(octets: *const u8, len: usize, out: *mut Row, room: usize, count: *mut usize) -> u32;
     fn octseq_dns_message_text(octets: *const u8, len: usize, out: *mut u8, room: usize, written: *mut usize) -> u32;
     fn octseq_dns_rewrite(octets: *const u8, len: usize, out: *mut u8, room: usize, written: *mut usize) -> u32;
@@ -148,10 +152,22 @@ unsafe extern "C" {
         room: usize,
         written: *mut usize,
     ) -> u32;
+    fn octseq_dns_data_fields(
+        octets: *const u8,
+        len: usize,
+        data_at: usize,
+        data_len: usize,
+        rtype: u16,
+        rclass: u16,
+        out: *mut FieldRow,
+        room: usize,
+        count: *mut usize,
+    ) -> u32;
     fn octseq_dns_rtype_text(rtype: u16, out: *mut u8, room: usize, written: *mut usize) -> u32;
     fn octseq_dns_class_text(rclass: u16, out: *mut u8, room: usize, written: *mut usize) -> u32;
     fn octseq_dns_rtype_from_text(text: *const u8, len: usize, rtype: *mut u16) -> u32;
     fn octseq_dns_class_from_text(text: *const u8, len: usize, rclass: *mut u16) -> u32;
+    fn octseq_bgp_message_fault(octets: *const u8, len: usize, session: u32, place: *mut usize) -> u32;
     fn octseq_bgp_rows(
         octets: *const u8,
         len: usize,
@@ -216,6 +232,14 @@ pub fn message_header(octets: &[u8]) -> (u32, Header) {
     // SAFETY: `octets` is a slice that is borrowed for the call; `header` is a variable, whose layout is checked above.
     let status = unsafe { octseq_dns_message_header(octets.as_ptr(), octets.len(), &mut header) };
     (status, header)
+}
+
+/// The status, and where reading the octets as a message stops.
+pub fn message_fault(octets: &[u8]) -> (u32, usize) {
+    let mut place = 0;
+    // SAFETY: `octets` is a slice that is borrowed for the call; `place` is a variable.
+    let status = unsafe { octseq_dns_message_fault(octets.as_ptr(), octets.len(), &mut place) };
+    (status, place)
 }
 
 pub fn rows(octets: &[u8], out: &mut [Row]) -> Written {
@@ -347,6 +371,33 @@ pub fn data_text(
     (status, written)
 }
 
+pub fn data_fields(
+    octets: &[u8],
+    data_at: usize,
+    data_len: usize,
+    rtype: Rtype,
+    class: Class,
+    out: &mut [FieldRow],
+) -> Written {
+    let mut count = 0;
+    // SAFETY: `octets` and `out` are slices that are borrowed for the call, `out` alone; `count` is a variable. The
+    // layout of a row is checked above, and any numbers make a row. Any places may be asked.
+    let status = unsafe {
+        octseq_dns_data_fields(
+            octets.as_ptr(),
+            octets.len(),
+            data_at,
+            data_len,
+            rtype.0,
+            class.0,
+            out.as_mut_ptr(),
+            out.len(),
+            &mut count,
+        )
+    };
+    (status, count)
+}
+
 pub fn rtype_text(rtype: Rtype, out: &mut [u8]) -> Written {
     let mut written = 0;
     // SAFETY: `out` is a slice that is borrowed alone for the call; `written` is a variable.
@@ -375,6 +426,14 @@ pub fn class_from_text(text: &str) -> (u32, Class) {
     // SAFETY: the text's octets are a slice that is borrowed for the call; `number` is a variable.
     let status = unsafe { octseq_dns_class_from_text(text.as_ptr(), text.len(), &mut number) };
     (status, Class(number))
+}
+
+/// The status, and where reading the octets as a message of a session stops.
+pub fn bgp_message_fault(octets: &[u8], session: u32) -> (u32, usize) {
+    let mut place = 0;
+    // SAFETY: `octets` is a slice that is borrowed for the call; `place` is a variable. Any session may be asked.
+    let status = unsafe { octseq_bgp_message_fault(octets.as_ptr(), octets.len(), session, &mut place) };
+    (status, place)
 }
 
 pub fn bgp_rows(octets: &[u8], session: u32, out: &mut [bgp::Row]) -> Written {

@@ -1,7 +1,7 @@
 //! 318 BGP messages, of which 187 are of daemons and captures, with the lines that the readers of mrtparse make of
 //! them; and one message, part by part, in each session.
 use octseq_proved::NoRoom;
-use octseq_proved::bgp::{AddPath, Error, Kind, Message, Row, Session};
+use octseq_proved::bgp::{AddPath, Error, Kind, Message, Row, Session, first_fault};
 
 /// 10.1.0.0/16 is withdrawn, 10.0.0.0/8 is announced, and 2001::/16 isn't reached.
 const UPDATE: &[u8; 41] =
@@ -73,9 +73,49 @@ fn fronts_of_a_message_are_none() {
     }
 }
 
+/// Its parts are at the places 19, 21, 24, 26, 30 and 39: the length of the withdrawn prefixes and one of them, that of
+/// the attributes and two of them, and a prefix.
+#[test]
+fn updates_stop_at_the_first_part_that_is_not_there() {
+    assert_eq!(first_fault(UPDATE, Session::MODERN), None);
+    for len in 0..UPDATE.len() {
+        assert_eq!(first_fault(&UPDATE[..len], Session::MODERN), Some(0), "{len}");
+    }
+    let wrong = [(0, 0, 0), (16, 1, 0), (18, 6, 0), (19, 1, 19), (21, 33, 21), (25, 255, 24), (28, 255, 26)];
+    for (at, octet, place) in wrong.into_iter().chain([(32, 255, 30), (39, 16, 39), (39, 33, 39)]) {
+        let mut octets = *UPDATE;
+        octets[at] = octet;
+        assert_eq!(first_fault(&octets, Session::MODERN), Some(place), "{at} {octet}");
+    }
+    let session = Session { add_path: AddPath::all(true), ..Session::MODERN };
+    assert_eq!((first_fault(PATH, session), first_fault(PATH, Session::MODERN)), (None, Some(28)));
+}
+
+/// An OPEN of one parameter, which is at place 29, a KEEPALIVE, a NOTIFICATION and a ROUTE-REFRESH.
+#[test]
+fn other_messages_stop_after_their_header_or_at_a_parameter() {
+    let messages: [(&[u8], _); 9] = [
+        (b"\x01\x04\xFC\0\0\xB4\x0A\0\0\x01\x04\x02\x02\x06\0", None),
+        (b"\x01\x04\xFC\0\0\xB4\x0A\0\0\x01\x04\x02\x03\x06\0", Some(29)),
+        (b"\x01\x04\xFC\0\0\xB4\x0A\0\0\x01\x05\x02\x02\x06\0", Some(28)),
+        (b"\x04", None),
+        (b"\x04\0", Some(19)),
+        (b"\x03\x06\x02", None),
+        (b"\x03\x06", Some(19)),
+        (b"\x05\0\x01\0\x01", None),
+        (b"\x05\0\x01\0", Some(19)),
+    ];
+    for (after, place) in messages {
+        let (mut octets, len) = ([0xFF; 34], 18 + after.len());
+        octets[16..18].copy_from_slice(&(len as u16).to_be_bytes());
+        octets[18..len].copy_from_slice(after);
+        assert_eq!(first_fault(&octets[..len], Session::MODERN), place, "{after:?}");
+    }
+}
+
 #[cfg(feature = "alloc")]
 mod of_daemons {
-    use octseq_proved::bgp::{AddPath, Error, Kind, Message, Part, Session};
+    use octseq_proved::bgp::{AddPath, Error, Kind, Message, Part, Session, first_fault};
     use std::{fs, path::Path};
 
     fn file(name: &str) -> Vec<u8> {
@@ -119,8 +159,12 @@ mod of_daemons {
             Ok(message) => {
                 assert_eq!(message.text().unwrap(), lines);
                 assert_eq!(message.to_string(), lines);
+                assert_eq!(first_fault(octets, session), None);
             }
-            Err(error) => assert_eq!((error, lines), (Error::Malformed, "malformed\n")),
+            Err(error) => {
+                assert_eq!((error, lines), (Error::Malformed, "malformed\n"));
+                assert!(first_fault(octets, session).unwrap() <= octets.len());
+            }
         });
         assert_eq!(count, 318);
     }

@@ -1,7 +1,7 @@
 //! The calls that write into a room, which need no `alloc`.
-use octseq_proved::NoRoom;
 use octseq_proved::dns::{Class, Data, Error, Header, Message, Name, Row, Rtype, Section, flags, query_into};
 use octseq_proved::utf8::{Fault, LossyPieces, first_fault, from_utf8, is_utf8, lossy_into};
+use octseq_proved::{NoRoom, dns};
 
 /// The query for the address of `example.com.`, written down by RFC 1035, 4.1.
 const QUERY: &[u8; 29] = b"\x12\x34\x01\0\0\x01\0\0\0\0\0\0\x07example\x03com\0\0\x01\0\x01";
@@ -140,6 +140,21 @@ fn fronts_of_a_message_are_none() {
     for len in 0..ANSWER.len() {
         assert_eq!(Message::new(&ANSWER[..len]).err(), Some(Error::Malformed), "{len}");
     }
+}
+
+/// The header, the question and the record are at the places 0, 12 and 29.
+#[test]
+fn messages_stop_at_the_first_part_that_is_not_there() {
+    assert_eq!(dns::first_fault(ANSWER), None);
+    for len in 0..ANSWER.len() {
+        let place = [0, 12, 29][usize::from(len >= 12) + usize::from(len >= 29)];
+        assert_eq!(dns::first_fault(&ANSWER[..len]), Some(place), "{len}");
+    }
+    let mut longer = [0; 65536];
+    longer[..45].copy_from_slice(ANSWER);
+    assert_eq!(dns::first_fault(&longer[..46]), Some(45));
+    assert_eq!(dns::first_fault(&longer[..65535]), Some(45));
+    assert_eq!(dns::first_fault(&longer), Some(65535));
 }
 
 #[test]

@@ -7,6 +7,7 @@ from typing import TYPE_CHECKING, NamedTuple, Union
 
 from .. import _calls
 from .._calls import BgpRow, lib
+from ..errors import Malformed, malformed_at
 from .session import FAMILIES, Family, Session
 
 if TYPE_CHECKING:
@@ -70,14 +71,18 @@ class Message:
         """The message that the octets are, as `from_wire` has it."""
         self._octets = bytes(_calls.frozen(data))
         self._session = session
-        self._rows = _calls.bgp_rows(self._octets, session.flags(), len(self._octets) // 4)
+        try:
+            self._rows = _calls.bgp_rows(self._octets, session.flags(), len(self._octets) // 4)
+        except Malformed:
+            raise _malformed(self._octets, session.flags()) from None
 
     @classmethod
     def from_wire(cls, data: Buffer, session: Session = Session()) -> Message:
         """The message of a session that the octets are, all of them, with the header.
 
         Malformed where they are none: their length isn't that of the header, they are more than the session allows, or
-        what the header says isn't there. TypeError where `data` has no octets.
+        what the header says isn't there. Its `place` is 0, or that of the first part after the header that isn't there.
+        TypeError where `data` has no octets.
         """
         return cls(data, session)
 
@@ -162,3 +167,15 @@ class Message:
 
     def __repr__(self) -> str:
         return f"<Message {self.kind.name}, {len(self._octets)} octets>"
+
+
+def _malformed(octets: bytes, session: int) -> Malformed:
+    """The error about octets that are no message of a session."""
+    place = _calls.bgp_message_place(octets, session)
+    if place == 0:
+        reason = f"it doesn't begin with the header of a message of {len(octets)} octets in this session"
+    elif place == len(octets):
+        reason = f"it ends at octet {place}, where more has to come"
+    else:
+        reason = f"what has to be at octet {place} isn't there, or isn't whole"
+    return malformed_at(place, f"malformed BGP message: {reason}")

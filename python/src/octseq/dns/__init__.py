@@ -2,8 +2,8 @@
 
 What has the name of something in dnspython is that: `Message.from_wire`, `to_wire`, `to_text`, `id`, `flags`, `opcode`,
 `rcode`, `edns`, `ednsflags`, `payload`, `options`, `Name.from_text`, `labels`, `parent`, `is_subdomain`, `rdtype`,
-`rdclass`, `ttl`. A message's sections have other names, `questions`, `answers`, `authorities` and `additionals`,
-because they have single records, not sets of them.
+`rdclass`, `ttl`, and the fields of data, as `preference` and `exchange`. A message's sections have other names,
+`questions`, `answers`, `authorities` and `additionals`, because they have single records, not sets of them.
 """
 from .edns import EDNSFlag, Option
 from .message import Message, make_query, make_response
@@ -16,15 +16,19 @@ from .numbers import (
     rdatatype_from_text,
     rdatatype_to_text,
 )
-from .record import Question, Rdata, Record
+from .rdata import Field, Kind, Parameter, Rdata
+from .record import Question, Record
 
 __all__ = [
     "EDNSFlag",
+    "Field",
     "Flag",
+    "Kind",
     "Message",
     "Name",
     "NoParent",
     "Option",
+    "Parameter",
     "Question",
     "Rdata",
     "Record",

@@ -7,7 +7,7 @@ from typing import TYPE_CHECKING
 
 from .. import _calls
 from .._calls import Header, Row, lib
-from ..errors import TooLong
+from ..errors import Malformed, TooLong, malformed_at
 from .edns import OPT, Option, edns_of, options_of
 from .name import Name, name_of
 from .numbers import Flag, Section, ascii_of, rdataclass_of, rdatatype_of, within
@@ -35,7 +35,10 @@ class Message:
     def __init__(self, data: Buffer) -> None:
         """The message that the octets are, as `from_wire` has it."""
         self._octets = bytes(_calls.frozen(data))
-        self._header = _calls.dns_header(self._octets)
+        try:
+            self._header = _calls.dns_header(self._octets)
+        except Malformed:
+            raise _malformed(self._octets) from None
         self._records = {}
         self._rows = None
 
@@ -44,7 +47,8 @@ class Message:
         """The message that the octets are (RFC 1035, 4.1).
 
         Malformed where they are none: they end too early, go on after the last record, or are more than 65,535, or a
-        name isn't where one should be. TypeError where `data` has no octets.
+        name isn't where one should be. Its `place` is that of the first part that isn't there: the header, a question or
+        a record, or what follows the last. TypeError where `data` has no octets.
         """
         return cls(data)
 
@@ -167,6 +171,23 @@ class Message:
 def _is_opt(row: Row) -> bool:
     """Whether a row is that of an OPT record."""
     return row.rtype == OPT and row.section == Section.ADDITIONAL
+
+
+def _malformed(octets: bytes) -> Malformed:
+    """The error about octets that are no message."""
+    _, place = _calls.dns_message_place(octets)
+    size = len(octets)
+    if size > LONGEST_MESSAGE:
+        reason = f"it has {size} octets, and may have {LONGEST_MESSAGE}"
+    elif place == 0:
+        reason = f"it ends at octet {size}, within the header"
+    elif _calls.dns_message_place(octets[:place])[0]:
+        reason = f"it goes on at octet {place}, where its last record or question ends"
+    elif place == size:
+        reason = f"it ends at octet {size}, and its header counts more questions or records"
+    else:
+        reason = f"the question or record at octet {place} isn't whole, or has no name where one has to be"
+    return malformed_at(place, f"malformed DNS message: {reason}")
 
 
 def make_query(

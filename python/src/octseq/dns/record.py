@@ -4,7 +4,7 @@ from __future__ import annotations
 from typing import TYPE_CHECKING
 
 from .. import _calls
-from .._calls import Row, lib
+from .._calls import Row
 from .name import Name, name_of
 from .numbers import (
     Section,
@@ -14,62 +14,14 @@ from .numbers import (
     rdatatype_to_text,
     within,
 )
+from .rdata import Rdata
 
 if TYPE_CHECKING:
     from typing_extensions import Buffer
 
-_A, _AAAA, _IN = 1, 28, 1
-
 # Octets that have no name at any place, as many as a pointer can lead to. After them, data has no pointer to a name.
 _NO_NAMES = b"\x80" * (1 << 14)
 _EMPTY_MESSAGE = bytes(12)
-
-
-class Rdata:
-    """The data of a record."""
-
-    __slots__ = ("_row", "_source")
-
-    def __init__(self, source: bytes, row: Row) -> None:
-        """The data of a row of `source`. Records make it."""
-        self._source = source
-        self._row = row
-
-    @property
-    def octets(self) -> bytes:
-        """The octets of the data, as they are in the message: names in them may have pointers to places in it."""
-        return self._source[self._row.data_at : self._row.data_at + self._row.data_len]
-
-    @property
-    def is_typed(self) -> bool:
-        """Whether the data has the form of its type and class, which is one of the 27 that are known."""
-        return _calls.dns_data_is_typed(self._source, self._row)
-
-    @property
-    def address(self) -> str:
-        """The address that a record of type A or AAAA, class IN, has, as text (RFC 1035, 3.4.1; RFC 3596, 2.2).
-
-        AttributeError where the record is none, or the data isn't of that form.
-        """
-        if self._row.rtype not in (_A, _AAAA) or self._row.rclass != _IN or not self.is_typed:
-            raise AttributeError("the data has no address")
-        return self.to_text()
-
-    def to_text(self) -> str:
-        """The text of the data, in the form of its type.
-
-        It is `\\# n` and the octets in hexadecimal (RFC 3597, 5) where the data hasn't the form of a known type.
-        """
-        row = self._row
-        room = 4 * row.data_len + 1024
-        numbers = row.data_at, row.data_len, row.rtype, row.rclass
-        return _calls.text(room, lib.octseq_dns_data_text, self._source, *numbers)
-
-    def __str__(self) -> str:
-        return self.to_text()
-
-    def __repr__(self) -> str:
-        return f"<Rdata {self.to_text()}>"
 
 
 class _Entry:
@@ -186,8 +138,10 @@ class Record(_Entry):
 
     @property
     def rdata(self) -> Rdata:
-        """Its data."""
+        """Its data, whose fields are attributes: `record.rdata.preference`."""
         return Rdata(self._source, self._row)
+
+    data = rdata
 
     def in_section(self, section: Section) -> Record:
         """The same record, for another section of a message."""

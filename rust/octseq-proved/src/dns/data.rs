@@ -1,12 +1,16 @@
 //! The data of records.
-use super::{Class, Error, Rtype, text_of};
+use super::{Class, Error, Field, FieldRow, Rtype, done, text_of};
 use crate::calls;
 use core::{fmt, ops::Range};
 
 #[cfg(feature = "alloc")]
-use super::string_of;
+use super::{string_of, vec_of};
 #[cfg(feature = "alloc")]
-use alloc::string::String;
+use alloc::{string::String, vec::Vec};
+
+/// Most data has fewer fields.
+#[cfg(feature = "alloc")]
+const FIELDS: usize = 16;
 
 /// The data of a record, within the octets of its message. Names in it may have pointers into them.
 #[derive(Clone, Copy)]
@@ -45,7 +49,7 @@ impl<'octets> Data<'octets> {
         self.class
     }
 
-    /// Whether it has the form of its type and class; 27 types are known. Data of other types has none.
+    /// Whether it has the form of its type and class; 30 types are known. Data of other types has none.
     pub fn is_typed(self) -> bool {
         calls::data_is_typed(self.message, self.place, self.octets.len(), self.rtype, self.class)
     }
@@ -67,6 +71,46 @@ impl<'octets> Data<'octets> {
     #[cfg(feature = "alloc")]
     pub fn text(self) -> Result<String, Error> {
         string_of(128, |room| self.write_text(room))
+    }
+
+    /// Its fields as numbers, in the order that its type has them, in the front of a room of rows: of an MX a number
+    /// and a name. All character strings of a TXT, all parameters and all options are fields of their own. Data that
+    /// has not the form of a type that is known is one field of octets.
+    ///
+    /// # Errors
+    ///
+    /// [`Error::NoRoom`] where there are more of them than rows.
+    pub fn fields_into(self, room: &mut [FieldRow]) -> Result<&mut [FieldRow], Error> {
+        let count = done(self.write_fields(room))?;
+        Ok(&mut room[..count])
+    }
+
+    /// Its fields, in the order that its type has them. The room is for their rows.
+    ///
+    /// # Errors
+    ///
+    /// [`Error::NoRoom`] where there are more of them than rows.
+    pub fn fields_in<'room>(
+        self,
+        room: &'room mut [FieldRow],
+    ) -> Result<impl Iterator<Item = Field<'octets>> + use<'octets, 'room>, Error> {
+        let rows: &'room [FieldRow] = self.fields_into(room)?;
+        Ok(rows.iter().map(move |row| Field::of(self.message, *row)))
+    }
+
+    /// Its fields, in the order that its type has them.
+    ///
+    /// # Errors
+    ///
+    /// None is known: it is within its message.
+    #[cfg(feature = "alloc")]
+    pub fn fields(self) -> Result<Vec<Field<'octets>>, Error> {
+        let rows = vec_of(FIELDS, |room| self.write_fields(room))?;
+        Ok(rows.into_iter().map(|row| Field::of(self.message, row)).collect())
+    }
+
+    fn write_fields(self, room: &mut [FieldRow]) -> calls::Written {
+        calls::data_fields(self.message, self.place, self.octets.len(), self.rtype, self.class, room)
     }
 
     fn write_text(self, room: &mut [u8]) -> calls::Written {

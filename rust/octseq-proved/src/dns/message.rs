@@ -1,6 +1,6 @@
 //! Messages, and the questions and records that they have.
 use super::{Class, Data, Error, Name, Rtype, done, octets_of, text_of};
-use crate::calls;
+use crate::calls::{self, OK};
 use core::fmt;
 
 #[cfg(feature = "alloc")]
@@ -169,7 +169,7 @@ impl<'octets> Message<'octets> {
     ///
     /// # Errors
     ///
-    /// [`Error::Malformed`]: they are none.
+    /// [`Error::Malformed`]: they are none. [`first_fault`] tells where they stop being one.
     pub fn new(octets: &'octets [u8]) -> Result<Message<'octets>, Error> {
         let (status, header) = calls::message_header(octets);
         done((status, 0))?;
@@ -299,6 +299,16 @@ impl fmt::Debug for Message<'_> {
 impl fmt::Display for Message<'_> {
     fn fmt(&self, f: &mut fmt::Formatter<'_>) -> fmt::Result {
         f.write_str(&self.text().map_err(|_| fmt::Error)?)
+    }
+}
+
+/// Where octets stop being a message, or `None`: they are one. It is where the first part is that isn't there: 0 for
+/// the header, or a question or a record that it counts; or, if all of these are there, the place after the last; or
+/// 65,535 if there are more octets.
+pub fn first_fault(octets: &[u8]) -> Option<usize> {
+    match calls::message_fault(octets) {
+        (OK, _) => None,
+        (_, place) => Some(place),
     }
 }
 

@@ -10,14 +10,16 @@ use core::{error, fmt, str};
 use alloc::{string::String, vec, vec::Vec};
 
 mod data;
+mod field;
 mod message;
 mod name;
 mod numbers;
 
 pub use data::Data;
+pub use field::{Field, FieldRow, Types};
 #[cfg(feature = "alloc")]
 pub use message::query;
-pub use message::{Entry, Header, Message, Row, Section, query_into};
+pub use message::{Entry, Header, Message, Row, Section, first_fault, query_into};
 pub use name::Name;
 pub use numbers::{Class, Rtype, flags};
 
