@@ -9,7 +9,7 @@ use crate::both::put_both;
 use crate::names::spelled;
 use crate::status::{MALFORMED, TOO_LONG};
 use crate::write::{push, push_u16, wire_of};
-use octseq::{Array, Parser};
+use octseq::{Array, AsOctets, Parser};
 use octseq_dns::Name;
 use octseq_dns::opt::EdnsOption;
 use octseq_format::{Format, Of, Repeated};
@@ -61,12 +61,12 @@ pub extern "C" fn octseq_dns_query_edns(
 }
 
 /// Whether octets are options.
-fn are_options(options: &[u8]) -> bool
-    ensures { IsTrue result ↔ AreOptions options.now }
+fn are_options<R: AsOctets + Copy>(octets: R) -> bool
+    ensures { IsTrue result ↔ AreOptions (R.content octets) }
 {
-    let mut parser = Parser::from_ref(options);
-    match Repeated::<Of<EdnsOption<&[u8]>>>::parse(&mut parser) {
-        Ok(_) => true,
+    let mut parser = Parser::from_ref(octets);
+    match Repeated::<Of<EdnsOption<R>>>::parse(&mut parser) {
+        Ok(_walk) => true,
         Err(_) => false,
     }
 }
