@@ -1,7 +1,6 @@
 -- Queries with an OPT record: RFC 6891, 6.1.
 use Rattle.std.specs.Prelude.{◌≡◌, ◌⊎◌, ℕ, List, [], ◌∷◌, ◌++◌, length}
 use Rattle.octseq.specs.Integer.{octets_be}
-use Rattle.octseq.specs.Part.{part_of}
 use Rattle.octseq.specs.Window.{Window, whole}
 use Rattle.octseq_dns.specs.Wire.{wire}
 use Rattle.octseq_dns_message.specs.Opt.{EdnsOption, HasOption}
