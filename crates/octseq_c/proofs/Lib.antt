@@ -2,6 +2,7 @@ pub mod Anew
 pub mod AnswerBegun
 pub mod Appended
 pub mod BgpFilled
+pub mod BgpPath
 pub mod BgpRoom
 pub mod BgpRows
 pub mod FilledFields
