@@ -12,7 +12,8 @@ fill_asns-requires g c =
     let s = c.args.segment.now in
     let row = row_of_asn (segment_number s.kind) s.count in
     let asns = asns_left c.asns.result in
-    let same = ap (λ asns. length (map row asns)) (numbers_are s.wide (window s.octets) s.count asns c.asns.ensures s.whole) in
+    let same = ap (λ asns. length (map row asns))
+    (numbers_are s.wide (window s.octets) s.count asns c.asns.ensures s.whole) in
     let long = length-map asns row in
     let room = c.requires in
     omega (arith, room, same, long)
@@ -22,7 +23,8 @@ returns-clause-end g c =
     let s = c.args.segment.now in
     let row = row_of_asn (segment_number s.kind) s.count in
     let asns = asns_left c.asns.result in
-    let same = ap (λ asns. length (map row asns)) (numbers_are s.wide (window s.octets) s.count asns c.asns.ensures s.whole) in
+    let same = ap (λ asns. length (map row asns))
+    (numbers_are s.wide (window s.octets) s.count asns c.asns.ensures s.whole) in
     let long = length-map asns row in
     let end = c.fill_asns.ensures.end in
     omega (arith, end, same, long)

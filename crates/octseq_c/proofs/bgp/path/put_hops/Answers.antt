@@ -14,13 +14,14 @@ hops_count-requires g c =
 pub returns-then-count-out-clause-puts : goal.returns-then-count-out-clause-puts
 returns-then-count-out-clause-puts g c =
     puts_no_room (one_hops (session_of c.args.session) (g.R.AsOctets.content c.args.octets)) _
-    (are_hops _ _ _ c.in-Ok.ensures.path) (omega (arith, c.hops_count.ensures, c.if-count-out.true)) c.hops_count.ensures
+    (are_hops _ _ _ c.in-Ok.ensures.path) (omega (arith, c.hops_count.ensures, c.if-count-out.true))
+    c.hops_count.ensures
 
 pub returns-else-count-out-clause-puts : goal.returns-else-count-out-clause-puts
 returns-else-count-out-clause-puts g c =
     puts_ok (one_hops (session_of c.args.session) (g.R.AsOctets.content c.args.octets)) _
-    (are_hops _ _ _ c.in-Ok.ensures.path) (omega (arith, c.hops_count.ensures, c.if-count-out.false)) c.hops_count.ensures
-    c.fill_hops.ensures
+    (are_hops _ _ _ c.in-Ok.ensures.path) (omega (arith, c.hops_count.ensures, c.if-count-out.false))
+    c.hops_count.ensures c.fill_hops.ensures
 
 pub returns-in-Err-clause-puts : goal.returns-in-Err-clause-puts
 returns-in-Err-clause-puts g c =
