@@ -274,6 +274,19 @@ uint32_t octseq_bgp_rows(const uint8_t *octets, size_t len, uint32_t session, oc
 uint32_t octseq_bgp_message_text(const uint8_t *octets, size_t len, uint32_t session, uint8_t *out, size_t room,
                                  size_t *written);
 
+/* An AS number of an AS path. */
+typedef struct octseq_bgp_hop {
+    uint32_t asn;   /* the AS number */
+    uint16_t kind;  /* the type of its segment: 1 set, 2 sequence, 3 sequence and 4 set of a confederation (RFC 5065) */
+    uint16_t count; /* how many AS numbers the segment has: this one's row and those around it */
+} octseq_bgp_hop;
+
+/* The AS numbers of the AS path that the octets are, in their order: the octets of an AS_PATH of the session, or of an
+ * AS4_PATH or an AS_PATH of a RIB for session 0. A path may have none. OK, NO_ROOM, MALFORMED: the octets are no AS
+ * path of the session. */
+uint32_t octseq_bgp_as_path(const uint8_t *octets, size_t len, uint32_t session, octseq_bgp_hop *out, size_t room,
+                            size_t *count);
+
 #ifdef __cplusplus
 }
 #endif

@@ -137,6 +137,16 @@ static void check_bgp_rows(void) {
     note(count, rows, sizeof rows);
 }
 
+static void check_hops(void) {
+    static const uint8_t PATH[] = {1, 2, 1, 2, 3, 4, 5, 6, 7, 8};
+    octseq_bgp_hop hops[2];
+    size_t count = 0;
+    CHECK(octseq_bgp_as_path(PATH, sizeof PATH, 0, hops, 2, &count) == OCTSEQ_OK && count == 2);
+    CHECK(at(&hops[0], 0, 4) == 0x01020304 && at(&hops[0], 4, 2) == 1 && at(&hops[0], 6, 2) == 2);
+    CHECK(at(&hops[1], 0, 4) == 0x05060708 && at(&hops[1], 4, 2) == 1 && at(&hops[1], 6, 2) == 2);
+    note(count, hops, sizeof hops);
+}
+
 static void check_state(void) {
     octseq_lossy_state state;
     size_t written = 99;
@@ -153,6 +163,7 @@ int main(void) {
     check_rows(octets);
     check_read(octets);
     check_bgp_rows();
+    check_hops();
     check_state();
     return finish("layout");
 }

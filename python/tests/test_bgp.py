@@ -5,6 +5,7 @@ import unittest
 from corpus import bgp_samples
 from octseq import Malformed
 from octseq.bgp import Family, Kind, Message, Prefix, Session
+from octseq.bgp.path import parse_path
 from octseq.bgp.session import ALL
 
 MARKER = b"\xff" * 16
@@ -161,6 +162,23 @@ class WrongInput(unittest.TestCase):
         for data in ("text", 12, None, [0] * 19):
             with self.assertRaises(TypeError):
                 Message.from_wire(data)
+
+
+class OfPaths(unittest.TestCase):
+    def test_segments(self) -> None:
+        octets = bytes.fromhex("0202 0000fde9 0000fdea 0101 00000007 0302 00000001 00000002 0402 00000003 00000004")
+        path = parse_path(octets, 0)
+        self.assertEqual(str(path), "65001 65002 {7} (1 2) [3,4]")
+        self.assertEqual(path.asns, (65001, 65002, 7, 1, 2, 3, 4))
+        self.assertIsNone(path.origin)
+        self.assertEqual(parse_path(octets[:10], 0).origin, 65002)
+        self.assertEqual(parse_path(b"\x02\x01\xfd\xe9", Session(False).flags()).asns, (65001,))
+        self.assertEqual(parse_path(b"", 0).segments, ())
+
+    def test_what_is_no_path(self) -> None:
+        for octets in (b"\x02", b"\x02\x00", b"\x05\x01\0\0\0\1", b"\x02\x01\0\0\0"):
+            with self.assertRaises(Malformed):
+                parse_path(octets, 0)
 
 
 if __name__ == "__main__":

@@ -16,7 +16,7 @@ use Rattle.octseq_c.specs.BgpRoom.{attributes_room, message_room}
 
 -- what a number and a rest leave
 
-number_left : (k : ℕ) (w v : Window) (n : ℕ) → IsNumber k w n v → left v + k ≤ left w
+pub number_left : (k : ℕ) (w v : Window) (n : ℕ) → IsNumber k w n v → left v + k ≤ left w
 number_left k w v n is = (onward_fixed k be).less w n v is
 
 rest_left : (w inside v : Window) → IsRest w inside v → left inside ≤ left w

@@ -3,6 +3,7 @@ pub mod AnswerBegun
 pub mod AnswersWithin
 pub mod Appended
 pub mod BgpFilled
+pub mod BgpPath
 pub mod BgpRoom
 pub mod BgpRows
 pub mod EdnsOptions

@@ -1,3 +1,4 @@
+pub mod BgpPath
 pub mod BgpRoom
 pub mod BgpRows
 pub mod BgpSession

@@ -1,6 +1,7 @@
 //! BGP messages.
 
 mod message;
+mod path;
 mod rows;
 mod session;
 mod text;

@@ -16,6 +16,8 @@ makes pointers for it, but `_by_ctypes` does what cffi would do, and no proof co
 """
 from __future__ import annotations
 
+import functools
+import struct
 import sys
 from collections.abc import Callable, Sequence
 from typing import TYPE_CHECKING, Any, NamedTuple
@@ -37,8 +39,12 @@ if TYPE_CHECKING:
 Call = Callable[..., int]
 _OCTETS, _ROWS, _SIZE = ffi.typeof("uint8_t[]"), ffi.typeof("octseq_dns_row[]"), ffi.typeof("size_t *")
 _BGP_ROWS, _FIELDS = ffi.typeof("octseq_bgp_row[]"), ffi.typeof("octseq_dns_field[]")
+_ROW, _FIELD, _BGP_ROW = struct.Struct("@NNNIHHI4x"), struct.Struct("@NNII"), struct.Struct("@NNIIHHBBBB")
 _HEADER, _STATE = ffi.typeof("octseq_dns_header *"), ffi.typeof("octseq_lossy_state *")
 _ORDER, _NUMBER = ffi.typeof("int32_t *"), ffi.typeof("uint16_t *")
+_SIZES = {
+    it: ffi.sizeof(it) for it in ("octseq_dns_row", "octseq_dns_field", "octseq_bgp_hop", "octseq_bgp_row")
+}
 _array_of = ffi.new_allocator(should_clear_after_alloc=False)
 _RAISED: dict[int, tuple[type[Exception], str]] = {
     lib.OCTSEQ_MALFORMED: (Malformed, "it isn't what it is read as"),
@@ -97,6 +103,11 @@ class BgpRow(NamedTuple):
     type_code: int
 
 
+_row: Callable[[tuple[Any, ...]], Row] = functools.partial(tuple.__new__, Row)
+_field: Callable[[tuple[Any, ...]], FieldRow] = functools.partial(tuple.__new__, FieldRow)
+_bgp_row: Callable[[tuple[Any, ...]], BgpRow] = functools.partial(tuple.__new__, BgpRow)
+
+
 def frozen(data: Buffer) -> bytes | memoryview:
     """The octets of an object, where nobody can write to them: `bytes`, or a view of `bytes`.
 
@@ -134,6 +145,12 @@ def _filled(kind: Any, room: int, call: Call, *arguments: Any) -> tuple[Any, int
         room = written[0]
         if room > sys.maxsize:
             raise MemoryError("no memory has room for the answer")
+
+
+def _packed(unit: str, kind: Any, room: int, call: Call, *arguments: Any) -> bytes:
+    """The rows that a call wrote, as they are in memory. They are many, so nothing is made of each."""
+    out, count = _filled(kind, room, call, *arguments)
+    return ffi.buffer(out, count * _SIZES[unit])[:]
 
 
 def octets(room: int, call: Call, data: bytes, *numbers: int) -> bytes:
@@ -196,9 +213,8 @@ def dns_header(data: bytes) -> Header:
 
 def dns_rows(data: bytes, room: int) -> list[Row]:
     """The questions and the records of a message. `room` is a guess of how many they are. Malformed."""
-    out, count = _filled(_ROWS, room, lib.octseq_dns_rows, data, len(data))
-    rows = (out[index] for index in range(count))
-    return [Row(r.name_at, r.data_at, r.data_len, r.ttl, r.rtype, r.rclass, r.section) for r in rows]
+    rows = _packed("octseq_dns_row", _ROWS, room, lib.octseq_dns_rows, data, len(data))
+    return list(map(_row, _ROW.iter_unpack(rows)))
 
 
 def dns_query(number: int, flags: int, name: bytes, rtype: int, rclass: int) -> bytes:
@@ -231,9 +247,8 @@ def dns_data_is_typed(data: bytes, row: Row) -> bool:
 def dns_data_fields(data: bytes, row: Row, room: int) -> list[FieldRow]:
     """The fields of the data of a row. `room` is a guess of how many they are. Malformed."""
     numbers = row.data_at, row.data_len, row.rtype, row.rclass
-    out, count = _filled(_FIELDS, room, lib.octseq_dns_data_fields, data, len(data), *numbers)
-    fields = (out[index] for index in range(count))
-    return [FieldRow(f.at, f.len, f.number, f.kind) for f in fields]
+    rows = _packed("octseq_dns_field", _FIELDS, room, lib.octseq_dns_data_fields, data, len(data), *numbers)
+    return list(map(_field, _FIELD.iter_unpack(rows)))
 
 
 def dns_message_place(data: bytes) -> tuple[bool, int]:
@@ -251,9 +266,8 @@ def bgp_message_place(data: bytes, session: int) -> int:
 
 def bgp_rows(data: bytes, session: int, room: int) -> list[BgpRow]:
     """The parts of an UPDATE of a session. `room` is a guess of how many they are. Malformed."""
-    out, count = _filled(_BGP_ROWS, room, lib.octseq_bgp_rows, data, len(data), session)
-    fields = BgpRow._fields
-    return [BgpRow(*(getattr(out[index], field) for field in fields)) for index in range(count)]
+    rows = _packed("octseq_bgp_row", _BGP_ROWS, room, lib.octseq_bgp_rows, data, len(data), session)
+    return list(map(_bgp_row, _BGP_ROW.iter_unpack(rows)))
 
 
 def mnemonic(call: Call, number: int) -> str:
@@ -283,3 +297,11 @@ def dns_answer_within(query: bytes, flags: int, source: bytes, rows: Sequence[Ro
     arguments = query, len(query), flags, source, len(source), array, len(array), limit
     out, written = _filled(_OCTETS, limit, lib.octseq_dns_answer_within, *arguments)
     return ffi.buffer(out, written)[:]
+
+
+_HOPS = ffi.typeof("octseq_bgp_hop[]")
+
+
+def bgp_hops(data: bytes, session: int) -> bytes:
+    """The AS numbers of an AS path of a session, as `octseq_bgp_hop` has them. Malformed."""
+    return _packed("octseq_bgp_hop", _HOPS, len(data) // 2, lib.octseq_bgp_as_path, data, len(data), session)

@@ -5,6 +5,7 @@ messages have at most 4,096 octets or 65,535. Two speakers agree on that when th
 what they agreed on.
 """
 from .message import Attribute, Kind, Message, Prefix
+from .path import AsPath, Segment, SegmentKind
 from .session import Family, Session
 
-__all__ = ["Attribute", "Family", "Kind", "Message", "Prefix", "Session"]
+__all__ = ["AsPath", "Attribute", "Family", "Kind", "Message", "Prefix", "Segment", "SegmentKind", "Session"]

@@ -2,12 +2,14 @@
 from __future__ import annotations
 
 import enum
+import functools
 import ipaddress
 from typing import TYPE_CHECKING, NamedTuple, Union
 
 from .. import _calls
 from .._calls import BgpRow, lib
 from ..errors import Malformed, malformed_at
+from .path import AS_PATH, AsPath, parse_path
 from .session import FAMILIES, Family, Session
 
 if TYPE_CHECKING:
@@ -15,6 +17,13 @@ if TYPE_CHECKING:
 
 Network = Union[ipaddress.IPv4Network, ipaddress.IPv6Network]
 _KIND_AT = 18
+
+
+@functools.lru_cache(maxsize=1 << 16)
+def network_of(octets: bytes, afi: int, bits: int) -> Network:
+    """The prefix of an AFI that octets begin with. Prefixes come again and again, so the last ones are kept."""
+    size, kind = (4, ipaddress.IPv4Network) if afi == 1 else (16, ipaddress.IPv6Network)
+    return kind((octets.ljust(size, b"\0"), bits), strict=False)
 
 
 class Kind(enum.IntEnum):
@@ -134,6 +143,17 @@ class Message:
         starts = [at for at, row in enumerate(rows) if row.kind == lib.OCTSEQ_BGP_ATTRIBUTE]
         return tuple(self._attribute(rows[at], self._after(at + 1)) for at in starts)
 
+    @property
+    def as_path(self) -> AsPath | None:
+        """Its AS path: the first AS_PATH. None where it has none that has the form of its type."""
+        for row in self._rows:
+            if row.kind == lib.OCTSEQ_BGP_ATTRIBUTE and row.type_code == AS_PATH:
+                try:
+                    return parse_path(self._octets_of(row), self._session.flags())
+                except Malformed:
+                    return None
+        return None
+
     def _attribute(self, row: BgpRow, inside: list[BgpRow]) -> Attribute:
         """The attribute of a row, with the prefixes inside it."""
         reached = tuple(self._prefix(one) for one in inside if one.kind == lib.OCTSEQ_BGP_REACHED)
@@ -157,9 +177,7 @@ class Message:
 
     def _prefix(self, row: BgpRow) -> Prefix:
         """The prefix of a row. Its octets may have bits after its length, which have no meaning."""
-        size, kind = (4, ipaddress.IPv4Network) if row.afi == 1 else (16, ipaddress.IPv6Network)
-        address = self._octets_of(row).ljust(size, b"\0")
-        network = kind((address, row.bits), strict=False)
+        network = network_of(self._octets_of(row), row.afi, row.bits)
         return Prefix(network, FAMILIES[row.afi, row.safi], row.path_id if row.has_path_id else None)
 
     def __str__(self) -> str:
