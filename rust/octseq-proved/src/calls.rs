@@ -11,7 +11,7 @@
 //! `usize` is `size_t` on each target that the library is built for.
 
 use crate::bgp;
-use crate::dns::{Class, FieldRow, Header, Row, Rtype};
+use crate::dns::{Class, Edns, FieldRow, Header, Row, Rtype};
 use core::mem::{align_of, offset_of, size_of};
 
 /// `OCTSEQ_OK`.
@@ -95,6 +95,21 @@ unsafe extern "C" {
         room: usize,
         written: *mut usize,
     ) -> u32;
+    fn octseq_dns_query_edns(
+        id: u16,
+        flags: u16,
+        name: *const u8,
+        name_len: usize,
+        qtype: u16,
+        qclass: u16,
+        payload: u16,
+        edns_flags: u16,
+        options: *const u8,
+        options_len: usize,
+        out: *mut u8,
+        room: usize,
+        written: *mut usize,
+    ) -> u32;
     fn octseq_dns_answer(
         query: *const u8,
         query_len: usize,
@@ -103,6 +118,19 @@ unsafe extern "C" {
         source_len: usize,
         rows: *const Row,
         count: usize,
+        out: *mut u8,
+        room: usize,
+        written: *mut usize,
+    ) -> u32;
+    fn octseq_dns_answer_within(
+        query: *const u8,
+        query_len: usize,
+        flags: u16,
+        source: *const u8,
+        source_len: usize,
+        rows: *const Row,
+        count: usize,
+        limit: u16,
         out: *mut u8,
         room: usize,
         written: *mut usize,
@@ -277,6 +305,39 @@ pub fn query(id: u16, flags: u16, name: &str, rtype: Rtype, class: Class, out: &
     (status, written)
 }
 
+pub fn query_edns(
+    id: u16,
+    flags: u16,
+    name: &str,
+    rtype: Rtype,
+    class: Class,
+    edns: Edns<'_>,
+    out: &mut [u8],
+) -> Written {
+    let (name, options) = (name.as_bytes(), edns.options);
+    let mut written = 0;
+    // SAFETY: `name`, `options` and `out` are slices that are borrowed for the call, `out` alone; `written` is a
+    // variable.
+    let status = unsafe {
+        octseq_dns_query_edns(
+            id,
+            flags,
+            name.as_ptr(),
+            name.len(),
+            rtype.0,
+            class.0,
+            edns.payload,
+            edns.flags,
+            options.as_ptr(),
+            options.len(),
+            out.as_mut_ptr(),
+            out.len(),
+            &mut written,
+        )
+    };
+    (status, written)
+}
+
 pub fn answer(query: &[u8], flags: u16, source: &[u8], rows: &[Row], out: &mut [u8]) -> Written {
     let mut written = 0;
     // SAFETY: `query`, `source`, `rows` and `out` are slices that are borrowed for the call, `out` alone; `written` is
@@ -290,6 +351,28 @@ pub fn answer(query: &[u8], flags: u16, source: &[u8], rows: &[Row], out: &mut [
             source.len(),
             rows.as_ptr(),
             rows.len(),
+            out.as_mut_ptr(),
+            out.len(),
+            &mut written,
+        )
+    };
+    (status, written)
+}
+
+pub fn answer_within(query: &[u8], flags: u16, source: &[u8], rows: &[Row], limit: u16, out: &mut [u8]) -> Written {
+    let mut written = 0;
+    // SAFETY: `query`, `source`, `rows` and `out` are slices that are borrowed for the call, `out` alone; `written` is
+    // a variable. The layout of a row is checked above.
+    let status = unsafe {
+        octseq_dns_answer_within(
+            query.as_ptr(),
+            query.len(),
+            flags,
+            source.as_ptr(),
+            source.len(),
+            rows.as_ptr(),
+            rows.len(),
+            limit,
             out.as_mut_ptr(),
             out.len(),
             &mut written,

@@ -141,7 +141,7 @@ fn errors_are_shown() {
     let shown = [Error::Immovable, Error::TooLong, Error::BadRow, Error::Unshown].map(|error| error.to_string());
     let lines = [
         "data of an unknown form can't be moved",
-        "a message of more than 65,535 octets",
+        "a message of too many octets",
         "a row that is none of a record",
         "no text could be made",
     ];

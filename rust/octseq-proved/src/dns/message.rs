@@ -254,6 +254,27 @@ impl<'octets> Message<'octets> {
     ) -> Result<&'room mut [u8], Error> {
         octets_of(calls::answer(self.octets, flags, source, rows, room), room)
     }
+
+    /// The same answer within a limit of octets (RFC 2181, 9). If the records of all rows exceed it, it has those of
+    /// the rows that come before the first with which it would. The flag TC is set exactly if it lacks one; that of
+    /// `flags` is ignored. The rows are taken in the order that they have here, whatever their sections: so one that
+    /// has to stay, as an OPT record (RFC 6891, 7), comes first. The answer is composed once for each row that is
+    /// taken, so it takes long if there are thousands.
+    ///
+    /// # Errors
+    ///
+    /// [`Error::TooLong`]: its questions alone exceed the limit, or there are more than 65,535 rows.
+    /// [`Error::NoRoom`], [`Error::BadRow`], [`Error::Immovable`].
+    pub fn answer_within_into<'room>(
+        self,
+        flags: u16,
+        source: &[u8],
+        rows: &[Row],
+        limit: u16,
+        room: &'room mut [u8],
+    ) -> Result<&'room mut [u8], Error> {
+        octets_of(calls::answer_within(self.octets, flags, source, rows, limit, room), room)
+    }
 }
 
 /// The same with texts and vectors.
@@ -284,6 +305,16 @@ impl Message<'_> {
     /// [`Error::BadRow`], [`Error::Immovable`], [`Error::TooLong`].
     pub fn answer(self, flags: u16, source: &[u8], rows: &[Row]) -> Result<Vec<u8>, Error> {
         vec_of(512, |room| calls::answer(self.octets, flags, source, rows, room))
+    }
+
+    /// As [`answer_within_into`](Self::answer_within_into), and it makes a vector.
+    ///
+    /// # Errors
+    ///
+    /// [`Error::TooLong`]: its questions alone exceed the limit, or there are more than 65,535 rows.
+    /// [`Error::BadRow`], [`Error::Immovable`].
+    pub fn answer_within(self, flags: u16, source: &[u8], rows: &[Row], limit: u16) -> Result<Vec<u8>, Error> {
+        vec_of(limit.into(), |room| calls::answer_within(self.octets, flags, source, rows, limit, room))
     }
 }
 

@@ -10,12 +10,16 @@ use core::{error, fmt, str};
 use alloc::{string::String, vec, vec::Vec};
 
 mod data;
+mod edns;
 mod field;
 mod message;
 mod name;
 mod numbers;
 
 pub use data::Data;
+#[cfg(feature = "alloc")]
+pub use edns::query_edns;
+pub use edns::{Edns, query_edns_into};
 pub use field::{Field, FieldRow, Types};
 #[cfg(feature = "alloc")]
 pub use message::query;
@@ -32,7 +36,7 @@ pub enum Error {
     Malformed,
     /// Data that isn't of its type's form may have pointers, so it can't be moved to another message.
     Immovable,
-    /// A message would have more than 65,535 octets.
+    /// A message would have more than 65,535 octets, or an answer more than its limit.
     TooLong,
     /// A row's name isn't at its place, its data isn't in the octets, or its section has no records.
     BadRow,
@@ -46,7 +50,7 @@ impl fmt::Display for Error {
             Error::NoRoom(no_room) => return no_room.fmt(f),
             Error::Malformed => "malformed",
             Error::Immovable => "data of an unknown form can't be moved",
-            Error::TooLong => "a message of more than 65,535 octets",
+            Error::TooLong => "a message of too many octets",
             Error::BadRow => "a row that is none of a record",
             Error::Unshown => "no text could be made",
         };
