@@ -16,8 +16,8 @@ var (
 	ErrMalformed = errors.New("octseq: malformed")
 	// ErrImmovable says that data isn't of its type's form. It may have pointers, so it can't be moved.
 	ErrImmovable = errors.New("octseq: data of an unknown form can't be moved")
-	// ErrTooLong says that a message would have more than 65,535 octets.
-	ErrTooLong = errors.New("octseq: a message of more than 65,535 octets")
+	// ErrTooLong says that a message would have more than 65,535 octets, or an answer more than its limit.
+	ErrTooLong = errors.New("octseq: a message of too many octets")
 	// ErrBadRow says that a row's name isn't at its place, its data isn't in the octets, or its section has no records.
 	ErrBadRow = errors.New("octseq: a row that is none of a record")
 	// ErrUnshown says that no text could be made. No octets lead here, but no proof rules it out.
@@ -201,11 +201,27 @@ func query(id, flags uint16, name []byte, qtype Type, class Class) ([]byte, erro
 	})
 }
 
+func queryEDNS(id, flags uint16, name []byte, qtype Type, class Class, edns EDNS) ([]byte, error) {
+	return filled(282+len(edns.Options), func(to *room) C.uint32_t {
+		return C.octseq_dns_query_edns(C.uint16_t(id), C.uint16_t(flags), start(name), size(name), C.uint16_t(qtype),
+			C.uint16_t(class), C.uint16_t(edns.Payload), C.uint16_t(edns.Flags), start(edns.Options), size(edns.Options),
+			to.out, to.len, &to.written)
+	})
+}
+
 func answer(query []byte, flags uint16, source []byte, rows []Row) ([]byte, error) {
 	records := rowsOf(rows)
 	return filled(512, func(to *room) C.uint32_t {
 		return C.octseq_dns_answer(start(query), size(query), C.uint16_t(flags), start(source), size(source),
 			firstRow(records), C.size_t(len(records)), to.out, to.len, &to.written)
+	})
+}
+
+func answerWithin(query []byte, flags uint16, source []byte, rows []Row, limit uint16) ([]byte, error) {
+	records := rowsOf(rows)
+	return filled(int(limit), func(to *room) C.uint32_t {
+		return C.octseq_dns_answer_within(start(query), size(query), C.uint16_t(flags), start(source), size(source),
+			firstRow(records), C.size_t(len(records)), C.uint16_t(limit), to.out, to.len, &to.written)
 	})
 }
 

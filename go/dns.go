@@ -135,10 +135,36 @@ func (message Message) Answer(flags uint16, source []byte, rows []Row) ([]byte, 
 	return answer(message.octets, flags, source, rows)
 }
 
+// AnswerWithin is the same answer within a limit of octets (RFC 2181, 9). If the records of all rows exceed it, it has
+// those of the rows that come before the first with which it would. The flag TC is set exactly if it lacks one; that of
+// flags is ignored. The rows are taken in the order that they have here, whatever their sections: so one that has to
+// stay, as an OPT record (RFC 6891, 7), comes first. The answer is composed once for each row that is taken, so it
+// takes long if there are thousands. ErrTooLong: its questions alone exceed the limit, or there are more than 65,535
+// rows. ErrBadRow, ErrImmovable.
+func (message Message) AnswerWithin(flags uint16, source []byte, rows []Row, limit uint16) ([]byte, error) {
+	return answerWithin(message.octets, flags, source, rows, limit)
+}
+
 // Query is a message of one question. The name is text that ends with a full stop: `example.com.` (RFC 1035, 5.1).
 // ErrMalformed: it is no name.
 func Query(id, flags uint16, name string, qtype Type, class Class) ([]byte, error) {
 	return query(id, flags, []byte(name), qtype, class)
+}
+
+// EDNS is what an OPT record of EDNS version 0 says (RFC 6891, 6.1).
+type EDNS struct {
+	Payload uint16 // how many octets the largest UDP payload has that the sender accepts
+	Flags   uint16 // the 16 flags of the record
+	Options []byte // its options as they are in the record, each with its code and its length in two octets
+}
+
+// EDNSFlagDO is the one flag of an OPT record that has a meaning: records of DNSSEC are accepted (RFC 3225, 3).
+const EDNSFlagDO uint16 = 0x8000
+
+// QueryEDNS is the same query with an OPT record after the question. ErrMalformed: the name is none, or the options
+// aren't whole. ErrTooLong.
+func QueryEDNS(id, flags uint16, name string, qtype Type, class Class, edns EDNS) ([]byte, error) {
+	return queryEDNS(id, flags, []byte(name), qtype, class, edns)
 }
 
 // Entry is a question or a record of a message.
