@@ -2,6 +2,8 @@
 from __future__ import annotations
 
 import enum
+import functools
+from collections.abc import Callable
 from typing import TYPE_CHECKING, Any, NamedTuple, Union
 
 from .. import _calls
@@ -44,6 +46,10 @@ class Field(NamedTuple):
     kind: Kind
     value: Value
 
+
+_NUMBER, _NAME, _ADDRESS, _TYPES, _PARAMETER = 0, 1, 2, 5, 6
+_KINDS = tuple(Kind)
+_field: Callable[[tuple[Kind, Value]], Field] = functools.partial(tuple.__new__, Field)
 
 # The names of the fields of each type, as dnspython has them. A name after `*` is that of all fields that are left.
 _NAMES: dict[int, tuple[str, ...]] = {
@@ -181,7 +187,7 @@ class Rdata:
         """
         if self._fields is None:
             rows = _calls.dns_data_fields(self._source, self._row, _FEW_FIELDS)
-            self._fields = tuple(Field(Kind(row.kind), self._value(row)) for row in rows)
+            self._fields = tuple([_field((_KINDS[row.kind], self._value(row))) for row in rows])
         return self._fields
 
     def to_text(self) -> str:
@@ -199,17 +205,18 @@ class Rdata:
 
     def _value(self, row: FieldRow) -> Value:
         """The value of a field."""
-        if row.kind == Kind.NUMBER:
+        kind = row.kind
+        if kind == _NUMBER:
             return row.number
-        if row.kind == Kind.NAME:
+        if kind == _NAME:
             return Name._at(self._source, row.at)
-        octets = self._octets(row.at, row.len)
-        if row.kind == Kind.ADDRESS:
+        if kind == _ADDRESS:
             # (an address is all of the data of its type)
             return self.to_text()
-        if row.kind == Kind.TYPES:
+        octets = self._octets(row.at, row.len)
+        if kind == _TYPES:
             return _types_of(octets)
-        return Parameter(row.number, octets) if row.kind == Kind.PARAMETER else octets
+        return Parameter(row.number, octets) if kind == _PARAMETER else octets
 
     def _has_names(self) -> bool:
         """Whether the fields are those that the names of its type are for."""
