@@ -1,5 +1,6 @@
 -- Rows copied to a buffer after others.
-use Rattle.std.proofs.Common.{◌≡◌, ℕ, ◌+◌, ◌<◌, ◌≤◌, List, [], ◌∷◌, ◌++◌, length, take, drop, arith, ap, sym, ◌∙◌, refl, length-append}
+use Rattle.std.proofs.Common.{◌≡◌, ℕ, ◌+◌, ◌<◌, ◌≤◌, List, [], ◌∷◌, ◌++◌, length, take, drop, arith, ap, sym, ◌∙◌}
+use Rattle.std.proofs.Common.{refl, length-append}
 use Rattle.std.proofs.Math.Seq.{take-append_seam}
 use Rattle.octseq.specs.Window.{Window, left}
 use Rattle.octseq_format.specs.Laws.{Relation}
@@ -14,7 +15,8 @@ front_of rows more front n long is =
     ap (take n) is ∙ ap (λ n. take n (rows ++ more)) (sym long) ∙ take-append_seam rows more
 
 -- no more values are there than octets
-pub row_few : {A : Type 0} (Is : Relation A) (w v : Window) (row : List A) → Row (Moved Is) w row v → length row ≤ left w
+pub row_few : {A : Type 0} (Is : Relation A) (w v : Window) (row : List A) → Row (Moved Is) w row v
+    → length row ≤ left w
 row_few Is w v [] is = omega arith
 row_few Is w v (x ∷ row) (u, (it, less), more) = let few = row_few Is u v row more in omega (arith, less, few)
 
@@ -30,7 +32,8 @@ module _ {A : Type 0} (front more old : List A) (n count : ℕ) (many : length m
     reported = all_many;
     ok = λ _. (
       omega (arith, room, all_many, counted),
-      placed_after old mid new front more (length front) (length front + n) refl (ap (λ k. length front + k) (sym many)) m e
+      placed_after old mid new front more (length front) (length front + n) refl (ap (λ k. length front + k) (sym many))
+          m e
           ∙ ap (λ k. (front ++ more) ++ drop k old) (sym counted ∙ all_many),
     );
     no_room = λ failed. absurd (failed refl);

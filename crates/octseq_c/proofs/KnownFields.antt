@@ -1,5 +1,6 @@
 -- Which data has fields of its own, and how many a layout has before its last part.
-use Rattle.std.proofs.Common.{◌≡◌, ◌≢◌, ℕ, ◌≤◌, ◌⊎◌, List, [], ◌∷◌, length, inl, inr, refl, sym, ◌∙◌, subst, arith, cond}
+use Rattle.std.proofs.Common.{◌≡◌, ◌≢◌, ℕ, ◌≤◌, ◌⊎◌, List, [], ◌∷◌, length, inl, inr, refl, sym, ◌∙◌, subst, arith}
+use Rattle.std.proofs.Common.{cond}
 use Rattle.std.specs.Prelude.{Bool, true, false, Option, Some, None, ◌&&◌, not, nat_eq}
 use Rattle.octseq.specs.Window.{Window}
 use Rattle.octseq_dns_data.specs.Data.{ParsedRdata, IsTypedData}
@@ -35,95 +36,20 @@ either P false x y p q = q
 few_in : (types : List KnownType) → AllFew types → (n : ℕ) → FewRead (reading_in types n)
 few_in [] few n = tt
 few_in (it ∷ more) (one, few) n =
-    either FewRead (nat_eq it.number n) (Some (it.is_of_class_in, it.layout)) (reading_in more n) one (few_in more few n)
+    either FewRead (nat_eq it.number n) (Some (it.is_of_class_in, it.layout)) (reading_in more n) one
+    (few_in more few n)
+
+infixr 5 ◌and◌
+◌and◌ : {A B : Type 0} → A → B → A × B
+one and more = (one, more)
 
 -- the layouts of all types, one by one
 all_few : AllFew all_types
-all_few = (
-  omega arith,
-  (
-    omega arith,
-    (
-      omega arith,
-      (
-        omega arith,
-        (
-          omega arith,
-          (
-            omega arith,
-            (
-              omega arith,
-              (
-                omega arith,
-                (
-                  omega arith,
-                  (
-                    omega arith,
-                    (
-                      omega arith,
-                      (
-                        omega arith,
-                        (
-                          omega arith,
-                          (
-                            omega arith,
-                            (
-                              omega arith,
-                              (
-                                omega arith,
-                                (
-                                  omega arith,
-                                  (
-                                    omega arith,
-                                    (
-                                      omega arith,
-                                      (
-                                        omega arith,
-                                        (
-                                          omega arith,
-                                          (
-                                            omega arith,
-                                            (
-                                              omega arith,
-                                              (
-                                                omega arith,
-                                                (
-                                                  omega arith,
-                                                  (
-                                                    omega arith,
-                                                    (
-                                                      omega arith,
-                                                      (
-                                                        omega arith,
-                                                        (omega arith, (omega arith, tt)),
-                                                      ),
-                                                    ),
-                                                  ),
-                                                ),
-                                              ),
-                                            ),
-                                          ),
-                                        ),
-                                      ),
-                                    ),
-                                  ),
-                                ),
-                              ),
-                            ),
-                          ),
-                        ),
-                      ),
-                    ),
-                  ),
-                ),
-              ),
-            ),
-          ),
-        ),
-      ),
-    ),
-  ),
-)
+all_few = omega arith and omega arith and omega arith and omega arith and omega arith and omega arith and omega arith and
+    omega arith and omega arith and omega arith and omega arith and omega arith and omega arith and omega arith and
+    omega arith and omega arith and omega arith and omega arith and omega arith and omega arith and omega arith and
+    omega arith and omega arith and omega arith and omega arith and omega arith and omega arith and omega arith and
+    omega arith and omega arith and tt
 
 few_unless : (b : Bool) (layout : TextLayout) → Few layout → FewFound (cond b None (Some layout))
 few_unless true layout few = tt
@@ -170,5 +96,6 @@ module _ {message inside : Window} {rtype class : ℕ} where
       → ((rows : List FieldRow) → ¬ AreLayoutRows layout inside rows)
       → (rows : List FieldRow) → ¬ AreKnownFields message inside rtype class rows
   no_layout_rows other layout is none rows (inl typed) =
-      none rows (subst (λ layout. AreLayoutRows layout inside rows) (same_layout rtype class typed.layout_is is) typed.fields)
+      let same = same_layout rtype class typed.layout_is is in
+      none rows (subst (λ layout. AreLayoutRows layout inside rows) same typed.fields)
   no_layout_rows other layout is none rows (inr (it, are)) = other it

@@ -1,5 +1,6 @@
 -- Data has one list of fields.
-use Rattle.std.proofs.Common.{◌≡◌, ℕ, ◌+◌, ◌≤◌, ◌<◌, ◌⊎◌, List, [], ◌∷◌, ◌++◌, map, length, inl, inr, refl, ap, sym, ◌∙◌, subst, arith}
+use Rattle.std.proofs.Common.{◌≡◌, ℕ, ◌+◌, ◌≤◌, ◌<◌, ◌⊎◌, List, [], ◌∷◌, ◌++◌, map, length, inl, inr, refl, ap, sym}
+use Rattle.std.proofs.Common.{◌∙◌, subst, arith}
 use Rattle.std.specs.Prelude.{Option, Some, None}
 use Rattle.octseq.specs.Integer.{be}
 use Rattle.octseq.specs.Window.{Window, left, nested}
@@ -16,22 +17,23 @@ use Rattle.octseq_format.specs.Laws.{Relation, IsOne}
 use Rattle.octseq_format.specs.Pair.{◌one_then◌}
 use Rattle.octseq_format.specs.Rest.{one_rest}
 use Rattle.octseq_format.specs.Row.{Moved, Row, RowTo, moving_moved, one_moved, one_to}
-use Rattle.octseq_c.specs.Fields.{AreFields, AreFieldsIn, AreFieldsOf, AreKnownFields, AreLayoutRows, AreOptions}
-use Rattle.octseq_c.specs.Fields.{AreParameters, AreStrings, AreTailRows, AreTypedFields, IsAddress, IsCharacterString}
-use Rattle.octseq_c.specs.Fields.{IsField, IsNameField, IsNumber, IsParameter, IsString}
+use Rattle.octseq_c.specs.Fields.{AreFields, AreFieldsIn, AreFieldsOf, AreKnownFields, AreLayoutRows, AreOptionRows}
+use Rattle.octseq_c.specs.Fields.{AreParameters, AreStrings, AreTailRows, AreTypedFields, IsAddressField}
+use Rattle.octseq_c.specs.Fields.{IsCharacterString}
+use Rattle.octseq_c.specs.Fields.{IsField, IsNameField, IsNumberField, IsParameter, IsStringField}
 use Rattle.octseq_c.specs.Fields.{name_row, number_row, parameter_row, range_row}
 use Rattle.octseq_c.specs.declared.fields.FieldRow.{FieldRow}
 
 -- ---- a field
 
-one_number : (k : ℕ) → IsOne (IsNumber k)
+one_number : (k : ℕ) → IsOne (IsNumberField k)
 one_number k = record {
   same = λ w row other u v (n, is, shown) (m, it, told).
       let same = (one_fixed k be).same w n m u v is it in
       (shown ∙ ap number_row same.0 ∙ sym told, same.1);
 }
 
-one_address : (k : ℕ) → IsOne (IsAddress k)
+one_address : (k : ℕ) → IsOne (IsAddressField k)
 one_address k = record { same = λ w row other u v a b. (a.1 ∙ sym b.1, a.2 ∙ sym b.2) }
 
 one_name_field : IsOne IsNameField
@@ -44,7 +46,7 @@ one_name_field = record {
 one_character_string : IsOne IsCharacterString
 one_character_string = one_counted one_rest
 
-one_string : IsOne IsString
+one_string : IsOne IsStringField
 one_string = record {
   same = λ w row other u v (n, is, shown) (m, it, told).
       let same = one_character_string.same w n m u v is it in
@@ -110,7 +112,8 @@ one_layout : (layout : TextLayout) (w : Window) (rows others : List FieldRow) �
 one_layout layout w rows others a b =
     let front = (one_fields layout.fields).same w a.front b.front a.end b.end a.fields b.fields in
     let back =
-    one_tail layout.tail b.end a.back b.back (subst (λ end. AreTailRows layout.tail end a.back) front.1 a.after) b.after in
+    one_tail layout.tail b.end a.back b.back (subst (λ end. AreTailRows layout.tail end a.back) front.1 a.after)
+    b.after in
     a.rows_are ∙ ap (λ front. front ++ a.back) front.0 ∙ ap (λ back. b.front ++ back) back ∙ sym b.rows_are
 
 some_of : {A : Type 0} (default : A) → Option A → A
@@ -132,7 +135,8 @@ one_typed : (message inside : Window) (rtype class : ℕ) (rows others : List Fi
     → AreTypedFields message inside rtype class rows → AreTypedFields message inside rtype class others → rows ≡ others
 one_typed message inside rtype class rows others a b =
     one_layout b.layout inside rows others
-    (subst (λ layout. AreLayoutRows layout inside rows) (same_layout rtype class a.layout_is b.layout_is) a.fields) b.fields
+    (subst (λ layout. AreLayoutRows layout inside rows) (same_layout rtype class a.layout_is b.layout_is) a.fields)
+    b.fields
 
 -- typed data is not OPT
 not_options : {message inside : Window} {rtype class : ℕ} {rows : List FieldRow}

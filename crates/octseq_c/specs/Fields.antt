@@ -18,7 +18,8 @@ use Rattle.octseq_format.specs.Rest.{IsRest}
 use Rattle.octseq_format.specs.Row.{Moved, RowTo}
 use Rattle.octseq_c.specs.declared.fields.FieldRow.{FieldRow}
 
--- ---- rows: kind 0 is a number, 1 a name, 2 an address, 3 a character string, 4 octets, 5 a set of types, 6 a parameter
+-- ---- rows. Kind 0 is a number, 1 a name, 2 an address, 3 a character string, 4 octets, 5 a set of types, and 6 a
+-- parameter.
 
 abbrev pub number_row : ℕ → FieldRow
 number_row n = record { at = 0; len = 0; number = n; kind = 0 }
@@ -38,12 +39,12 @@ parameter_row param = record { at = param.1.position; len = left param.1; number
 -- ---- a field
 
 -- a number of k octets
-abbrev pub IsNumber : ℕ → Relation FieldRow
-IsNumber k w row v = (n : ℕ) × IsFixed k be w n v × (row ≡ number_row n)
+abbrev pub IsNumberField : ℕ → Relation FieldRow
+IsNumberField k w row v = (n : ℕ) × IsFixed k be w n v × (row ≡ number_row n)
 
 -- an address of k octets
-abbrev pub IsAddress : ℕ → Relation FieldRow
-IsAddress k w row v = (k ≤ left w) × (row ≡ range_row 2 (nested k w)) × (v ≡ past k w)
+abbrev pub IsAddressField : ℕ → Relation FieldRow
+IsAddressField k w row v = (k ≤ left w) × (row ≡ range_row 2 (nested k w)) × (v ≡ past k w)
 
 -- a domain name, which may have pointers
 abbrev pub IsNameField : Relation FieldRow
@@ -53,22 +54,22 @@ IsNameField w row v = (name : Name) × HasName w name v × (row ≡ name_row w v
 abbrev pub IsCharacterString : Relation Window
 IsCharacterString = Counted 1 0 IsRest
 
-abbrev pub IsString : Relation FieldRow
-IsString w row v = (inside : Window) × IsCharacterString w inside v × (row ≡ range_row 3 inside)
+abbrev pub IsStringField : Relation FieldRow
+IsStringField w row v = (inside : Window) × IsCharacterString w inside v × (row ≡ range_row 3 inside)
 
 abbrev pub IsField : Field → Relation FieldRow
-IsField field.U8 = IsNumber 1
-IsField field.U16 = IsNumber 2
-IsField field.U32 = IsNumber 4
-IsField field.Rtype = IsNumber 2
-IsField field.Time = IsNumber 4
-IsField field.Ipv4 = IsAddress 4
-IsField field.Ipv6 = IsAddress 16
+IsField field.U8 = IsNumberField 1
+IsField field.U16 = IsNumberField 2
+IsField field.U32 = IsNumberField 4
+IsField field.Rtype = IsNumberField 2
+IsField field.Time = IsNumberField 4
+IsField field.Ipv4 = IsAddressField 4
+IsField field.Ipv6 = IsAddressField 16
 IsField field.Name = IsNameField
-IsField field.String = IsString
-IsField field.Tag = IsString
-IsField field.Salt = IsString
-IsField field.OwnerHash = IsString
+IsField field.String = IsStringField
+IsField field.Tag = IsStringField
+IsField field.Salt = IsStringField
+IsField field.OwnerHash = IsStringField
 
 -- one after another
 abbrev pub AreFields : List Field → Relation (List FieldRow)
@@ -122,12 +123,12 @@ pub record AreTypedFields (message inside : Window) (rtype class : ℕ) (rows : 
   pub fields : AreLayoutRows layout inside rows
 
 -- the data of an OPT record is options, which are parameters: RFC 6891, 6.1.2
-abbrev pub AreOptions : Window → ℕ → List FieldRow → Type 0
-AreOptions inside rtype rows = (rtype ≡ 41) × AreLayoutRows (layout_value [] tail.Params) inside rows
+abbrev pub AreOptionRows : Window → ℕ → List FieldRow → Type 0
+AreOptionRows inside rtype rows = (rtype ≡ 41) × AreLayoutRows (layout_value [] tail.Params) inside rows
 
 abbrev pub AreKnownFields : Window → Window → ℕ → ℕ → List FieldRow → Type 0
 AreKnownFields message inside rtype class rows =
-    AreTypedFields message inside rtype class rows ⊎ AreOptions inside rtype rows
+    AreTypedFields message inside rtype class rows ⊎ AreOptionRows inside rtype rows
 
 -- the fields of data; data without a known form is one field of octets
 abbrev pub AreFieldsIn : Window → Window → ℕ → ℕ → List FieldRow → Type 0

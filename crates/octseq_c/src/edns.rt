@@ -6,6 +6,7 @@ ghost use Rattle.octseq_c.specs.Puts.{Puts};
 ghost use Rattle.octseq_c.specs.Status.{status_ok, status_no_room, status_malformed, status_too_long};
 
 use crate::both::put_both;
+use crate::fields::OPT;
 use crate::names::spelled;
 use crate::status::{MALFORMED, TOO_LONG};
 use crate::write::{push, push_u16, wire_of};
@@ -105,7 +106,7 @@ fn push_opt_head(made: &mut Array<FRONT_MAX>, payload: u16, flags: u16, len: u16
     ensures len { length made.new.content ≡ length made.old.content + 11 }
 {
     push(made, &[0]);
-    push_u16(made, 41);
+    push_u16(made, OPT);
     push_u16(made, payload);
     push_u16(made, 0);
     push_u16(made, flags);

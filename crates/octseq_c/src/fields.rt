@@ -6,9 +6,10 @@ ghost use Rattle.octseq.specs.Parser.{window};
 ghost use Rattle.octseq.specs.Window.{Window, left};
 ghost use Rattle.octseq_dns_data.specs.Layout.{layout_value};
 ghost use Rattle.octseq_format.specs.Walk.{items_left};
-ghost use Rattle.octseq_c.specs.Fields.{AreFields, AreFieldsIn, AreFieldsOf, AreKnownFields, AreLayoutRows, AreParameters};
-ghost use Rattle.octseq_c.specs.Fields.{AreStrings, AreTailRows, AreTypedFields, IsAddress, IsField, IsNameField};
-ghost use Rattle.octseq_c.specs.Fields.{IsNumber, IsString, name_row, number_row, parameter_row, range_row};
+ghost use Rattle.octseq_c.specs.Fields.{AreFields, AreFieldsIn, AreFieldsOf, AreKnownFields, AreLayoutRows};
+ghost use Rattle.octseq_c.specs.Fields.{AreParameters};
+ghost use Rattle.octseq_c.specs.Fields.{AreStrings, AreTailRows, AreTypedFields, IsAddressField, IsField, IsNameField};
+ghost use Rattle.octseq_c.specs.Fields.{IsNumberField, IsStringField, name_row, number_row, parameter_row, range_row};
 ghost use Rattle.octseq_c.specs.Puts.{Copies, Fills, Puts};
 ghost use Rattle.octseq_c.specs.Status.{status_ok, status_no_room, status_malformed};
 
@@ -42,6 +43,9 @@ const TYPES: u32 = 5;
 
 /// A parameter of SVCB and HTTPS, or an option of OPT.
 const PARAMETER: u32 = 6;
+
+/// The type OPT: RFC 6891, 6.1.1.
+pub const OPT: u16 = 41;
 
 /// One more than the maximum number of fields before the last part of data.
 const FRONT: usize = 9;
@@ -136,7 +140,7 @@ fn put_known<R: AsOctets + Copy>(
         → ¬ AreKnownFields (window message) (window inside) rtype class rows }
     ensures kept { IfNone result (out.new ≡ out.old) }
 {
-    if rtype == 41 {
+    if rtype == OPT {
         return put_layout(&OPTIONS, inside, out, count);
     }
     let (rtype, class) = (Rtype::from_int(rtype), Class::from_int(class));
@@ -218,8 +222,8 @@ fn take_field<R: AsOctets + Copy>(
 
 /// Takes a number of one octet.
 fn take_u8<R: AsOctets + Copy>(parser: &mut Parser<R>) -> Result<FieldRow, Malformed>
-    ensures ok { IfOk result (λ row. IsNumber 1 (window parser.old) row (window parser.new)) }
-    ensures malformed { IsErr result → (row : FieldRow) (end : Window) → ¬ IsNumber 1 (window parser.old) row end }
+    ensures ok { IfOk result (λ row. IsNumberField 1 (window parser.old) row (window parser.new)) }
+    ensures malformed { IsErr result → (row : FieldRow) (end : Window) → ¬ IsNumberField 1 (window parser.old) row end }
     ensures onward { left (window parser.new) ≤ left (window parser.old) }
 {
     let number = U8::parse(parser)?;
@@ -228,8 +232,8 @@ fn take_u8<R: AsOctets + Copy>(parser: &mut Parser<R>) -> Result<FieldRow, Malfo
 
 /// Takes a number of two octets.
 fn take_u16<R: AsOctets + Copy>(parser: &mut Parser<R>) -> Result<FieldRow, Malformed>
-    ensures ok { IfOk result (λ row. IsNumber 2 (window parser.old) row (window parser.new)) }
-    ensures malformed { IsErr result → (row : FieldRow) (end : Window) → ¬ IsNumber 2 (window parser.old) row end }
+    ensures ok { IfOk result (λ row. IsNumberField 2 (window parser.old) row (window parser.new)) }
+    ensures malformed { IsErr result → (row : FieldRow) (end : Window) → ¬ IsNumberField 2 (window parser.old) row end }
     ensures onward { left (window parser.new) ≤ left (window parser.old) }
 {
     let number = U16Be::parse(parser)?;
@@ -238,8 +242,8 @@ fn take_u16<R: AsOctets + Copy>(parser: &mut Parser<R>) -> Result<FieldRow, Malf
 
 /// Takes a number of four octets.
 fn take_u32<R: AsOctets + Copy>(parser: &mut Parser<R>) -> Result<FieldRow, Malformed>
-    ensures ok { IfOk result (λ row. IsNumber 4 (window parser.old) row (window parser.new)) }
-    ensures malformed { IsErr result → (row : FieldRow) (end : Window) → ¬ IsNumber 4 (window parser.old) row end }
+    ensures ok { IfOk result (λ row. IsNumberField 4 (window parser.old) row (window parser.new)) }
+    ensures malformed { IsErr result → (row : FieldRow) (end : Window) → ¬ IsNumberField 4 (window parser.old) row end }
     ensures onward { left (window parser.new) ≤ left (window parser.old) }
 {
     let number = U32Be::parse(parser)?;
@@ -251,8 +255,9 @@ fn take_address<R: AsOctets + Copy>(
     parser: &mut Parser<R>,
     len: usize,
 ) -> Result<FieldRow, Malformed>
-    ensures ok { IfOk result (λ row. IsAddress len (window parser.old) row (window parser.new)) }
-    ensures malformed { IsErr result → (row : FieldRow) (end : Window) → ¬ IsAddress len (window parser.old) row end }
+    ensures ok { IfOk result (λ row. IsAddressField len (window parser.old) row (window parser.new)) }
+    ensures malformed { IsErr result → (row : FieldRow) (end : Window)
+        → ¬ IsAddressField len (window parser.old) row end }
     ensures onward { left (window parser.new) ≤ left (window parser.old) }
 {
     let inside = parser.parse_parser(len)?;
@@ -277,8 +282,8 @@ fn take_name<R: AsOctets + Copy>(parser: &mut Parser<R>) -> Result<FieldRow, Mal
 
 /// Takes a character string.
 fn take_string<R: AsOctets + Copy>(parser: &mut Parser<R>) -> Result<FieldRow, Malformed>
-    ensures ok { IfOk result (λ row. IsString (window parser.old) row (window parser.new)) }
-    ensures malformed { IsErr result → (row : FieldRow) (end : Window) → ¬ IsString (window parser.old) row end }
+    ensures ok { IfOk result (λ row. IsStringField (window parser.old) row (window parser.new)) }
+    ensures malformed { IsErr result → (row : FieldRow) (end : Window) → ¬ IsStringField (window parser.old) row end }
     ensures onward { left (window parser.new) ≤ left (window parser.old) }
 {
     let inside = CharacterString::parse(parser)?;

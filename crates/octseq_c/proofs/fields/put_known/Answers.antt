@@ -6,9 +6,9 @@ use Rattle.octseq_dns_data.specs.Typed.{layout_of, rdata_of}
 use Rattle.octseq_c.proofs.KnownFields.{layout_few, no_layout_rows, no_list_of_options}
 use Rattle.octseq_c.proofs.fields.put_known.Goals as goal
 
-pub returns-then-rtype-eq41-clause-none : goal.returns-then-rtype-eq41-clause-none
-returns-then-rtype-eq41-clause-none g c = λ none.
-    no_list_of_options c.if-rtype-eq41.true (c.put_layout.ensures.none none)
+pub returns-then-rtype-eq-OPT-clause-none : goal.returns-then-rtype-eq-OPT-clause-none
+returns-then-rtype-eq-OPT-clause-none g c = λ none.
+    no_list_of_options c.if-rtype-eq-OPT.true (c.put_layout.ensures.none none)
 
 pub put_layout-requires-2-clause-fields : goal.put_layout-requires-2-clause-fields
 put_layout-requires-2-clause-fields g c =
@@ -38,4 +38,4 @@ pub returns-clause-none : goal.returns-clause-none
 returns-clause-none g c = λ none.
     let same : layout_of c.args.rtype c.args.class ≡ layout_of c.from_int-rtype.result c.from_int-class.result =
     λ i. layout_of (sym c.from_int-rtype.ensures i) (sym c.from_int-class.ensures i) in
-    no_layout_rows c.if-rtype-eq41.false _ (same ∙ sym c.in-Some.ensures) (c.put_layout-2.ensures.none none)
+    no_layout_rows c.if-rtype-eq-OPT.false _ (same ∙ sym c.in-Some.ensures) (c.put_layout-2.ensures.none none)

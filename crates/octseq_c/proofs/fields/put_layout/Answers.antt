@@ -14,7 +14,14 @@ returns-clause-some g c =
     let took = front_of rows _ _ (length fields) long written in
     IfSome_then c.put_tail.result c.put_tail.ensures.some (λ status (back, after, copied). (
       rows ++ back,
-      record { front = rows; back = back; end = window c.take_fields.new.parser; fields = are; after = after; rows_are = refl },
+      record {
+        front = rows;
+        back = back;
+        end = window c.take_fields.new.parser;
+        fields = are;
+        after = after;
+        rows_are = refl;
+      },
       subst (λ front. Copies (front ++ back) status c.args.out.now c.put_tail.new.out c.put_tail.new.count) took copied,
     ))
 
