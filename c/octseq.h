@@ -287,6 +287,64 @@ typedef struct octseq_bgp_hop {
 uint32_t octseq_bgp_as_path(const uint8_t *octets, size_t len, uint32_t session, octseq_bgp_hop *out, size_t room,
                             size_t *count);
 
+/* ---- records of MRT files (RFC 6396, RFC 8050) ---- */
+
+/* The header of a record: its first 12 octets as numbers. */
+typedef struct octseq_mrt_header {
+    size_t len;         /* how many octets the record has, with its header */
+    uint32_t timestamp; /* its time, in seconds since 1970 */
+    uint16_t type_code; /* its type: 13 TABLE_DUMP_V2, 16 BGP4MP, 17 BGP4MP_ET, or another */
+    uint16_t subtype;   /* its subtype */
+} octseq_mrt_header;
+
+/* The kinds of rows. */
+#define OCTSEQ_MRT_OPAQUE 0u       /* octets without the form of their type and subtype */
+#define OCTSEQ_MRT_TABLE 1u        /* a PEER_INDEX_TABLE */
+#define OCTSEQ_MRT_PEER 2u         /* a peer of a table */
+#define OCTSEQ_MRT_RIB 3u          /* a RIB: the routes to a prefix */
+#define OCTSEQ_MRT_ENTRY 4u        /* an entry of a RIB: a route */
+#define OCTSEQ_MRT_MESSAGE 5u      /* a BGP message */
+#define OCTSEQ_MRT_STATE_CHANGE 6u /* a change of a session's state */
+
+/* A part of a record. Places are counted from the first octet of the record. What a kind doesn't have is 0. */
+typedef struct octseq_mrt_row {
+    size_t at;              /* where the name of a table's view begins, the prefix of a RIB, a message, opaque octets */
+    size_t len;             /* how many octets there are; of a prefix (bits + 7) / 8 */
+    size_t count;           /* how many peers a table has, how many entries a RIB, how many attributes an entry */
+    uint32_t kind;          /* OCTSEQ_MRT_TABLE and so on */
+    uint32_t id;            /* a table's or peer's BGP identifier, a RIB's sequence number, an entry's path id */
+    uint32_t time;          /* when an entry came, in seconds since 1970; microseconds of a message, a state change */
+    uint32_t asn;           /* the AS number of a peer */
+    uint32_t local_asn;     /* of a message, a state change: the AS number of the collector */
+    uint32_t session;       /* how a message is read, as octseq_bgp_rows takes it */
+    uint32_t old_state;     /* the state before a state change, 1 to 6 (RFC 4271, 8.2.2) */
+    uint32_t new_state;     /* the state after it */
+    uint16_t index;         /* the number of an entry's peer in the table, from 0; of a message, .. : its interface */
+    uint16_t afi;           /* 1 where a prefix or an address is IPv4, 2 where it is IPv6 */
+    uint8_t safi;           /* 1 of a unicast RIB, 2 of a multicast one */
+    uint8_t bits;           /* the length of a RIB's prefix in bits */
+    uint8_t has_number;     /* 1 of an entry with a path id, and of a message, .. with microseconds, else 0 */
+    uint8_t addr_len;       /* how many octets the address of a peer has: 4 or 16 */
+    uint8_t addr[16];       /* the address of a peer; zeros follow it */
+    uint8_t local_addr[16]; /* the address of the collector; zeros follow it */
+} octseq_mrt_row;
+
+/* The header at the front of octets. OK, MALFORMED: there are fewer than 12 octets; `*header` is as it was. After OK a
+ * whole record is at the front exactly if `header->len` is at most `len`. So who reads a file takes 12 octets, then as
+ * many more as the header says. A length may be up to 4,294,967,307. */
+uint32_t octseq_mrt_record_header(const uint8_t *octets, size_t len, octseq_mrt_header *header);
+
+/* The parts of the record that the octets are, all of them, in their order: a table and its peers, a RIB and its
+ * entries, a message, a state change, or opaque octets. An entry may have a number that no peer has. A message may be
+ * malformed. OK, NO_ROOM, MALFORMED: the octets aren't one record. */
+uint32_t octseq_mrt_rows(const uint8_t *octets, size_t len, octseq_mrt_row *out, size_t room, size_t *count);
+
+/* The path attributes of all entries of the RIB that the octets are, in their order, as rows of OCTSEQ_BGP_ATTRIBUTE.
+ * The row of an entry says how many are its own. Their AS numbers have four octets. An MP_REACH_NLRI may have only next
+ * hops, after their length (RFC 6396, 4.3.4). Other records have none. OK, NO_ROOM, MALFORMED: the octets aren't one
+ * record. */
+uint32_t octseq_mrt_attributes(const uint8_t *octets, size_t len, octseq_bgp_row *out, size_t room, size_t *count);
+
 #ifdef __cplusplus
 }
 #endif

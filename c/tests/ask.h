@@ -149,6 +149,18 @@ static inline uint32_t bgp_message_text(const struct given *given, uint8_t *out,
     return octseq_bgp_message_text(given->octets, given->len, given->session, out, room, written);
 }
 
+static inline uint32_t bgp_as_path(const struct given *given, uint8_t *out, size_t room, size_t *written) {
+    return octseq_bgp_as_path(given->octets, given->len, given->session, (octseq_bgp_hop *)(void *)out, room, written);
+}
+
+static inline uint32_t mrt_rows(const struct given *given, uint8_t *out, size_t room, size_t *written) {
+    return octseq_mrt_rows(given->octets, given->len, (octseq_mrt_row *)(void *)out, room, written);
+}
+
+static inline uint32_t mrt_attributes(const struct given *given, uint8_t *out, size_t room, size_t *written) {
+    return octseq_mrt_attributes(given->octets, given->len, (octseq_bgp_row *)(void *)out, room, written);
+}
+
 static inline uint32_t class_text(const struct given *given, uint8_t *out, size_t room, size_t *written) {
     return octseq_dns_class_text(given->rclass, out, room, written);
 }

@@ -147,6 +147,46 @@ static void check_hops(void) {
     note(count, hops, sizeof hops);
 }
 
+/* The numbers that each kind of row of a record has. */
+static void check_mrt_event(void) {
+    static const uint8_t RECORD[] = {0x65, 0x53, 0xF1, 0, 0, 17, 0, 5, 0, 0, 0, 52, 0, 1, 2, 3, 0, 1, 0xFD, 0xE9, 0, 2,
+                                     0xFD, 0xEA, 0, 7, 0, 2, 0x20, 1, 0, 0, 0, 0, 0, 0, 0, 0, 0, 0, 0, 0, 0, 9, 0x20,
+                                     1, 0, 0, 0, 0, 0, 0, 0, 0, 0, 0, 0, 0, 0, 8, 0, 3, 0, 4};
+    octseq_mrt_header header;
+    octseq_mrt_row row;
+    size_t count = 0;
+    CHECK(octseq_mrt_record_header(RECORD, 12, &header) == OCTSEQ_OK);
+    CHECK(at(&header, 0, 8) == sizeof RECORD && at(&header, 8, 4) == 0x6553F100);
+    CHECK(at(&header, 12, 2) == 17 && at(&header, 14, 2) == 5);
+    CHECK(octseq_mrt_rows(RECORD, sizeof RECORD, &row, 1, &count) == OCTSEQ_OK && count == 1);
+    CHECK(at(&row, 0, 8) == 0 && at(&row, 8, 8) == 0 && at(&row, 16, 8) == 0);
+    CHECK(at(&row, 24, 4) == OCTSEQ_MRT_STATE_CHANGE && at(&row, 28, 4) == 0 && at(&row, 32, 4) == 0x00010203);
+    CHECK(at(&row, 36, 4) == 0x0001FDE9 && at(&row, 40, 4) == 0x0002FDEA && at(&row, 44, 4) == 0);
+    CHECK(at(&row, 48, 4) == 3 && at(&row, 52, 4) == 4 && at(&row, 56, 2) == 7 && at(&row, 58, 2) == 2);
+    CHECK(at(&row, 60, 1) == 0 && at(&row, 61, 1) == 0 && at(&row, 62, 1) == 1 && at(&row, 63, 1) == 16);
+    CHECK(memcmp((const uint8_t *)&row + 64, RECORD + 28, 32) == 0);
+    note(count, &row, sizeof row);
+}
+
+static void check_mrt_rib(void) {
+    static const uint8_t RECORD[] = {0, 0, 0, 0, 0, 13, 0, 9, 0, 0, 0, 24, 1, 2, 3, 4, 12, 10, 0xF0, 0, 1, 0x12, 0x34, 9,
+                                     8, 7, 6, 5, 4, 3, 2, 0, 3, 0xC0, 99, 0};
+    octseq_mrt_row rows[2];
+    octseq_bgp_row attribute;
+    size_t count = 0;
+    CHECK(octseq_mrt_rows(RECORD, sizeof RECORD, rows, 2, &count) == OCTSEQ_OK && count == 2);
+    CHECK(at(&rows[0], 0, 8) == 17 && at(&rows[0], 8, 8) == 2 && at(&rows[0], 16, 8) == 1);
+    CHECK(at(&rows[0], 24, 4) == OCTSEQ_MRT_RIB && at(&rows[0], 28, 4) == 0x01020304 && at(&rows[0], 32, 8) == 0);
+    CHECK(at(&rows[0], 58, 2) == 1 && at(&rows[0], 60, 1) == 2 && at(&rows[0], 61, 1) == 12);
+    CHECK(at(&rows[1], 0, 8) == 0 && at(&rows[1], 8, 8) == 0 && at(&rows[1], 16, 8) == 1);
+    CHECK(at(&rows[1], 24, 4) == OCTSEQ_MRT_ENTRY && at(&rows[1], 28, 4) == 0x05040302);
+    CHECK(at(&rows[1], 32, 4) == 0x09080706 && at(&rows[1], 56, 2) == 0x1234 && at(&rows[1], 62, 1) == 1);
+    CHECK(octseq_mrt_attributes(RECORD, sizeof RECORD, &attribute, 1, &count) == OCTSEQ_OK && count == 1);
+    CHECK(at(&attribute, 0, 8) == sizeof RECORD && at(&attribute, 8, 8) == 0);
+    CHECK(at(&attribute, 16, 4) == OCTSEQ_BGP_ATTRIBUTE && at(&attribute, 30, 1) == 0xC0 && at(&attribute, 31, 1) == 99);
+    note(count, rows, sizeof rows);
+}
+
 static void check_state(void) {
     octseq_lossy_state state;
     size_t written = 99;
@@ -164,6 +204,8 @@ int main(void) {
     check_read(octets);
     check_bgp_rows();
     check_hops();
+    check_mrt_event();
+    check_mrt_rib();
     check_state();
     return finish("layout");
 }

@@ -1,5 +1,5 @@
-"""The messages of crates/octseq_dns_messages and crates/octseq_bgp_messages, with the texts that other readers, dnspython
-and mrtparse, make of them."""
+"""The messages of crates/octseq_dns_messages and crates/octseq_bgp_messages, and the records of crates/octseq_mrt_tests,
+with the texts that other readers, dnspython and mrtparse, make of them."""
 from __future__ import annotations
 
 import pathlib
@@ -8,6 +8,7 @@ from typing import NamedTuple
 CRATES = pathlib.Path(__file__).resolve().parents[2] / "crates"
 FOLDER = CRATES / "octseq_dns_messages"
 BGP_FOLDER = CRATES / "octseq_bgp_messages"
+MRT_FOLDER = CRATES / "octseq_mrt_tests"
 
 
 class Sample(NamedTuple):
@@ -51,3 +52,14 @@ def bgp_samples() -> list[BgpSample]:
     if at != len(stream):
         raise ValueError(f"{BGP_FOLDER} has a text too few or too many")
     return found
+
+
+def mrt_stream() -> bytes:
+    """Files of MRT records that four daemons wrote, one after another, and then records that were made."""
+    return (MRT_FOLDER / "stdin").read_bytes()
+
+
+def mrt_texts() -> list[list[str]]:
+    """The lines of each record's text."""
+    blocks = (MRT_FOLDER / "stdout").read_text(encoding="utf-8").split("\n\n")
+    return [block.split("\n") for block in blocks[:-1]]

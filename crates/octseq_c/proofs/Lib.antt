@@ -10,6 +10,8 @@ pub mod EdnsOptions
 pub mod EdnsQueries
 pub mod FilledFields
 pub mod KnownFields
+pub mod MrtHeader
+pub mod MrtRows
 pub mod OneAnswer
 pub mod OneFields
 pub mod OneRewriting

@@ -1,5 +1,5 @@
 -- The session of BGP messages, as C says it.
-use Rattle.std.specs.Prelude.{ℕ, ◌/◌, ◌%◌, Bool, not, nat_eq}
+use Rattle.std.specs.Prelude.{ℕ, ◌/◌, ◌%◌, ◌+◌, Bool, true, false, not, nat_eq}
 use Rattle.octseq_bgp.specs.declared.session.SessionConfig.{SessionConfig}
 
 -- the flag of a weight is set
@@ -19,3 +19,14 @@ session_of flags = record {
   };
   extended_message = is_set 2 flags;
 }
+
+-- the weight of a flag that is set, otherwise 0
+abbrev pub weight_of : Bool → ℕ → ℕ
+weight_of true weight = weight
+weight_of false weight = 0
+
+-- the flags of a session
+abbrev pub flags_of : SessionConfig → ℕ
+flags_of s = weight_of (not s.four_octet_asn) 1 + (weight_of s.extended_message 2
+    + (weight_of s.add_path.ipv4_unicast 4 + (weight_of s.add_path.ipv4_multicast 8
+    + (weight_of s.add_path.ipv6_unicast 16 + weight_of s.add_path.ipv6_multicast 32))))

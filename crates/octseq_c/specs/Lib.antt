@@ -5,6 +5,7 @@ pub mod BgpSession
 pub mod Edns
 pub mod Fields
 pub mod LossyText
+pub mod MrtRows
 pub mod Made
 pub mod Order
 pub mod OwnText

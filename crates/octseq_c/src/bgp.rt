@@ -2,6 +2,6 @@
 
 mod message;
 mod path;
-mod rows;
-mod session;
+pub mod rows;
+pub mod session;
 mod text;

@@ -1,5 +1,5 @@
-//! The library for C. Each call does what a call of `octseq`, `octseq_dns` or `octseq_bgp` does, over octets that the
-//! caller lends. It requests no memory, keeps no pointer, and returns a status.
+//! The library for C. Each call does what a call of `octseq`, `octseq_dns`, `octseq_bgp` or `octseq_mrt` does, over
+//! octets that the caller lends. It requests no memory, keeps no pointer, and returns a status.
 #![tactic(auto)]
 
 mod answer;
@@ -12,6 +12,7 @@ mod header;
 mod lines;
 mod lossy;
 mod message;
+mod mrt;
 mod names;
 mod numbers;
 mod pieces;

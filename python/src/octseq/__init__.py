@@ -1,8 +1,8 @@
-"""UTF-8 texts, DNS and BGP messages, read and written by calls that are formally proved.
+"""UTF-8 texts, DNS and BGP messages, and MRT files, read and written by calls that are formally proved.
 
 The calls are those of the C library `octseq`, which is a part of this package: for all octets each of them returns,
 touches no memory but its own, and answers what its contract says. `octseq.dns` has the names and messages of DNS,
-`octseq.bgp` the messages of BGP.
+`octseq.bgp` the messages of BGP, `octseq.mrt` the files of its collectors.
 
 `octseq.calls_by` is "cffi" where that is installed, or else "ctypes", by which calls take longer.
 """

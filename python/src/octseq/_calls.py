@@ -45,6 +45,10 @@ _ORDER, _NUMBER = ffi.typeof("int32_t *"), ffi.typeof("uint16_t *")
 _SIZES = {
     it: ffi.sizeof(it) for it in ("octseq_dns_row", "octseq_dns_field", "octseq_bgp_hop", "octseq_bgp_row")
 }
+_BGP_ROW = struct.Struct("@NNIIHHBBBB")
+_HEADER, _STATE = ffi.typeof("octseq_dns_header *"), ffi.typeof("octseq_lossy_state *")
+_ORDER, _NUMBER = ffi.typeof("int32_t *"), ffi.typeof("uint16_t *")
+_SIZES = {it: ffi.sizeof(it) for it in ("octseq_bgp_hop", "octseq_bgp_row", "octseq_mrt_row")}
 _array_of = ffi.new_allocator(should_clear_after_alloc=False)
 _RAISED: dict[int, tuple[type[Exception], str]] = {
     lib.OCTSEQ_MALFORMED: (Malformed, "it isn't what it is read as"),
@@ -300,8 +304,33 @@ def dns_answer_within(query: bytes, flags: int, source: bytes, rows: Sequence[Ro
 
 
 _HOPS = ffi.typeof("octseq_bgp_hop[]")
+# ---- AS paths and records of MRT files ----
+
+_HOPS, _MRT_HEADER = ffi.typeof("octseq_bgp_hop[]"), ffi.typeof("octseq_mrt_header *")
+_MRT_ROWS = ffi.typeof("octseq_mrt_row[]")
+
 
 
 def bgp_hops(data: bytes, session: int) -> bytes:
     """The AS numbers of an AS path of a session, as `octseq_bgp_hop` has them. Malformed."""
     return _packed("octseq_bgp_hop", _HOPS, len(data) // 2, lib.octseq_bgp_as_path, data, len(data), session)
+
+
+def mrt_header(data: bytes) -> tuple[int, int, int, int] | None:
+    """Of the record that octets begin with: how many octets it has, its time, type and subtype. None: more octets are
+    needed to tell."""
+    header = ffi.new(_MRT_HEADER)
+    if lib.octseq_mrt_record_header(data, len(data), header) != lib.OCTSEQ_OK:
+        return None
+    return header.len, header.timestamp, header.type_code, header.subtype
+
+
+def mrt_rows(data: bytes, room: int) -> bytes:
+    """The parts of a record, as `octseq_mrt_row` has them. `room` is a guess of how many they are. Malformed."""
+    return _packed("octseq_mrt_row", _MRT_ROWS, room, lib.octseq_mrt_rows, data, len(data))
+
+
+def mrt_attributes(data: bytes, room: int) -> bytes:
+    """The attributes of all entries of a RIB, as `octseq_bgp_row` has them. `room` is a guess of how many they are.
+    Malformed."""
+    return _packed("octseq_bgp_row", _BGP_ROWS, room, lib.octseq_mrt_attributes, data, len(data))

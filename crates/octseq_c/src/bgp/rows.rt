@@ -281,7 +281,7 @@ fn prefix_row<R: AsOctets + Copy>(kind: u32, safi: u8, nlri: &Nlri<R>) -> BgpRow
 }
 
 /// Returns the row of an attribute.
-fn attribute_row<R: AsOctets + Copy>(attribute: &PathAttribute<R>) -> BgpRow
+pub fn attribute_row<R: AsOctets + Copy>(attribute: &PathAttribute<R>) -> BgpRow
     ensures { result ≡ row_of_attribute (attribute_of attribute.now) }
 {
     BgpRow {

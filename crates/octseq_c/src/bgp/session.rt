@@ -1,6 +1,6 @@
 //! The session of BGP messages, as flags.
 ghost use Rattle.std.specs.Prelude.{◌≡◌, ◌≤◌};
-ghost use Rattle.octseq_c.specs.BgpSession.{is_set, session_of};
+ghost use Rattle.octseq_c.specs.BgpSession.{flags_of, is_set, session_of, weight_of};
 
 use octseq_bgp::session::{AddPath, SessionConfig};
 
@@ -44,4 +44,26 @@ pub fn session_of(flags: u32) -> SessionConfig
         },
         extended_message: is_set(EXTENDED_MESSAGE, flags),
     }
+}
+
+/// Returns `weight` if a flag is set, otherwise 0.
+fn weight_of(set: bool, weight: u32) -> u32
+    ensures value { result ≡ weight_of set weight }
+    ensures most { result ≤ weight }
+{
+    if set { weight } else { 0 }
+}
+
+/// Returns the flags of a session.
+pub fn flags_of(session: &SessionConfig) -> u32
+    ensures { result ≡ flags_of session.now }
+{
+    let paths = session.add_path;
+    let width = weight_of(!session.four_octet_asn, TWO_OCTET_ASN);
+    let size = weight_of(session.extended_message, EXTENDED_MESSAGE);
+    let ipv4 = weight_of(paths.ipv4_unicast, ADD_PATH_IPV4_UNICAST)
+        + weight_of(paths.ipv4_multicast, ADD_PATH_IPV4_MULTICAST);
+    let ipv6 = weight_of(paths.ipv6_unicast, ADD_PATH_IPV6_UNICAST)
+        + weight_of(paths.ipv6_multicast, ADD_PATH_IPV6_MULTICAST);
+    width + size + ipv4 + ipv6
 }

@@ -41,4 +41,4 @@ class Session(NamedTuple):
         """The session as the C library takes it."""
         narrow = 0 if self.four_octet_asn else lib.OCTSEQ_BGP_TWO_OCTET_ASN
         extended = lib.OCTSEQ_BGP_EXTENDED_MESSAGE if self.extended_message else 0
-        return narrow | extended | (self.add_path & ALL)
+        return narrow | extended | int(self.add_path) & lib.OCTSEQ_BGP_ADD_PATH

@@ -1,0 +1,7 @@
+//! MRT records.
+
+mod attributes;
+mod header;
+mod record;
+mod row;
+mod rows;
