@@ -1,7 +1,8 @@
 /* octseq.h: the proved calls of octseq, for C and C++.
  *
- * No call requests memory, keeps a pointer, or has a state of its own: what it answers depends on its arguments alone,
- * and calls may run in any number of threads.
+ * No call keeps a pointer, or has a state of its own: what it answers depends on its arguments alone, and calls may run
+ * in any number of threads. No call requests memory but the two that read a record or a message from its text: they do
+ * so by the program's malloc, realloc and free, and give back all of it before they return.
  *
  * What a caller promises. A pointer and the length after it name that many octets (or rows), which the call may read,
  * or write where the pointer isn't const, until it returns. The pointer may be NULL where the length is 0. What is
@@ -9,7 +10,9 @@
  * uninitialised. No length after a pointer is above PTRDIFF_MAX; of rows their octets count, which are the row's
  * `sizeof` times as many. Any other pointer (`written`, `count`, `state` and the like) is to one such
  * thing, and isn't NULL.
- * All other numbers, as places, types and the fields of a row, may be any.
+ * All other numbers, as places, types and the fields of a row, may be any. The program's malloc, realloc and free are
+ * of one allocator and align a block as C asks of them. The two calls that use them aren't made by a signal handler,
+ * nor by the forked child of a process with threads.
  *
  * What a call promises. For all octets: it returns, touches no other memory, and answers what its comment says. `out`
  * has what was written in its first `*written` octets (or rows) after OCTSEQ_OK, and all that follows them is as it
@@ -40,6 +43,7 @@ extern "C" {
 #define OCTSEQ_BAD_ROW 6u   /* a row's name isn't at its place, its data isn't in the octets, or its section is none */
 #define OCTSEQ_BAD_STATE 7u /* the octets of a state are more than three, or begin no character */
 #define OCTSEQ_UNSHOWN 8u   /* no text could be made. No octets lead here, but no proof rules it out */
+#define OCTSEQ_MEMORY 9u    /* a request for memory was refused */
 
 /* ---- UTF-8 (the Unicode Standard, 3.9) ---- */
 
@@ -157,6 +161,22 @@ uint32_t octseq_dns_answer(const uint8_t *query, size_t query_len, uint16_t flag
 uint32_t octseq_dns_answer_within(const uint8_t *query, size_t query_len, uint16_t flags, const uint8_t *source,
                                   size_t source_len, const octseq_dns_row *rows, size_t count, uint16_t limit,
                                   uint8_t *out, size_t room, size_t *written);
+
+/* The octets of the record that a text is, one line without its end, as RFC 1035, 5.1 has it: `example.com. 300 IN MX
+ * 10 mail.example.com.`. The TTL and the class come in either order, and each name ends with a full stop. The octets
+ * are those of the owner, the type, the class, the TTL, the length of the data and the data, and no name has a
+ * pointer. Memory is requested for data that ends in a list of types or of parameters. OK, NO_ROOM, MALFORMED:
+ * `*offset` is the place of the first word that isn't what has to come there, where the end of the text counts as a
+ * word; TOO_LONG: the data has more than 65,535 octets; MEMORY. `*offset` is 0 but after MALFORMED. */
+uint32_t octseq_dns_record_from_text(const uint8_t *text, size_t len, uint8_t *out, size_t room, size_t *written,
+                                     size_t *offset);
+
+/* The message that a text is, in the form that octseq_dns_message_text has, with its names compressed. Memory is
+ * requested as for a record. OK, NO_ROOM, MALFORMED: `*line` is the number, from 1 on, of the line that has the first
+ * word which isn't what has to come there, and `*offset` the place of that word in the line; TOO_LONG, MEMORY. Both
+ * are 0 but after MALFORMED. */
+uint32_t octseq_dns_message_from_text(const uint8_t *text, size_t len, uint8_t *out, size_t room, size_t *written,
+                                      size_t *line, size_t *offset);
 
 /* ---- DNS names (RFC 1035, 3.1) ---- */
 

@@ -52,6 +52,7 @@ class Statuses(unittest.TestCase):
         "OCTSEQ_BAD_ROW": (octseq.BadRow, ValueError),
         "OCTSEQ_BAD_STATE": (octseq.BadState, ValueError),
         "OCTSEQ_UNSHOWN": (octseq.Unshown, RuntimeError),
+        "OCTSEQ_MEMORY": (MemoryError, Exception),
     }
 
     def test_each_raises_its_own(self) -> None:

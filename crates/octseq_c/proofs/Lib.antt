@@ -24,5 +24,6 @@ pub mod Reported
 pub mod RowsPushed
 pub mod SettledTexts
 pub mod TakenFields
+pub mod TextRecords
 pub mod TwoPieces
 pub mod Wholes

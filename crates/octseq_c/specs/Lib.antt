@@ -4,6 +4,7 @@ pub mod BgpRows
 pub mod BgpSession
 pub mod Edns
 pub mod Fields
+pub mod FromText
 pub mod LossyText
 pub mod MrtRows
 pub mod Made

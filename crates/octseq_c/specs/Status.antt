@@ -36,3 +36,7 @@ status_bad_state = 7
 -- a value wrote no text
 abbrev pub status_unshown : ℕ
 status_unshown = 8
+
+-- a request for memory was refused
+abbrev pub status_memory : ℕ
+status_memory = 9

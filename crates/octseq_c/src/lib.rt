@@ -1,5 +1,6 @@
-//! The library for C. Each call does what a call of `octseq`, `octseq_dns`, `octseq_bgp` or `octseq_mrt` does, over
-//! octets that the caller lends. It requests no memory, keeps no pointer, and returns a status.
+//! The library for C. Each call does what a call of `octseq`, `octseq_dns`, `octseq_dns_compose`, `octseq_bgp` or
+//! `octseq_mrt` does, over octets that the caller lends. It keeps no pointer, and returns a status. None but those of
+//! `from_text` requests memory.
 #![tactic(auto)]
 
 mod answer;
@@ -8,6 +9,7 @@ mod both;
 mod data;
 mod edns;
 mod fields;
+mod from_text;
 mod header;
 mod lines;
 mod lossy;

@@ -26,3 +26,6 @@ pub const BAD_STATE: u32 = 7;
 
 /// A value wrote no text. This never happens, but no contract of `fmt` rules it out.
 pub const UNSHOWN: u32 = 8;
+
+/// A request for memory was refused.
+pub const MEMORY: u32 = 9;

@@ -57,6 +57,7 @@ _RAISED: dict[int, tuple[type[Exception], str]] = {
     lib.OCTSEQ_BAD_ROW: (BadRow, "a record isn't in its octets, or its section is none"),
     lib.OCTSEQ_BAD_STATE: (BadState, "no reading in pieces left this state"),
     lib.OCTSEQ_UNSHOWN: (Unshown, "no text could be made"),
+    lib.OCTSEQ_MEMORY: (MemoryError, "a request for memory was refused"),
 }
 
 
@@ -334,3 +335,31 @@ def mrt_attributes(data: bytes, room: int) -> bytes:
     """The attributes of all entries of a RIB, as `octseq_bgp_row` has them. `room` is a guess of how many they are.
     Malformed."""
     return _packed("octseq_bgp_row", _BGP_ROWS, room, lib.octseq_mrt_attributes, data, len(data))
+
+
+def dns_record_from_text(text: str) -> bytes:
+    """The octets of the record that a text is, which is ASCII. Malformed, with the place; TooLong, MemoryError."""
+    octets, offset = text.encode("ascii"), ffi.new(_SIZE)
+
+    def call(*arguments: Any) -> int:
+        return lib.octseq_dns_record_from_text(*arguments, offset)
+
+    try:
+        out, written = _filled(_OCTETS, len(octets) + 512, call, octets, len(octets))
+    except Malformed:
+        raise Malformed._at(text, 1, offset[0]) from None
+    return ffi.buffer(out, written)[:]
+
+
+def dns_message_from_text(text: str) -> bytes:
+    """The message that a text is, which is ASCII. Malformed, with the place; TooLong, MemoryError."""
+    octets, line, offset = text.encode("ascii"), ffi.new(_SIZE), ffi.new(_SIZE)
+
+    def call(*arguments: Any) -> int:
+        return lib.octseq_dns_message_from_text(*arguments, line, offset)
+
+    try:
+        out, written = _filled(_OCTETS, 65_535, call, octets, len(octets))
+    except Malformed:
+        raise Malformed._at(text, line[0], offset[0]) from None
+    return ffi.buffer(out, written)[:]

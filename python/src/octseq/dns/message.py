@@ -52,6 +52,16 @@ class Message:
         """
         return cls(data)
 
+    @classmethod
+    def from_text(cls, text: str) -> Message:
+        """The message that a text is, in the form that `to_text` has, with its names compressed.
+
+        Malformed where it is none: the error shows the line and the word that is refused, and has their place in `line`
+        and `offset`. TooLong where the message would have more than 65,535 octets.
+        """
+        ascii_of(text)
+        return cls(_calls.dns_message_from_text(text))
+
     @property
     def octets(self) -> bytes:
         """The octets that it was read from."""

@@ -1,6 +1,7 @@
 """Questions and records of DNS messages (RFC 1035, 4.1.2 and 4.1.3)."""
 from __future__ import annotations
 
+import struct
 from typing import TYPE_CHECKING
 
 from .. import _calls
@@ -8,6 +9,7 @@ from .._calls import Row
 from .name import Name, name_of
 from .numbers import (
     Section,
+    ascii_of,
     rdataclass_of,
     rdataclass_to_text,
     rdatatype_of,
@@ -115,6 +117,21 @@ class Record(_Entry):
         self._source = wire + octets
         self._is_alone = True
         _calls.dns_answer(_EMPTY_MESSAGE, 0, _NO_NAMES + self._source, [_moved(self._row, len(_NO_NAMES))])
+
+    @classmethod
+    def from_text(cls, text: str, *, section: Section = Section.ANSWER) -> Record:
+        """The record that a line is, as `to_text` has it: `example.com. 300 IN A 192.0.2.1` (RFC 1035, 5.1).
+
+        The TTL and the class come in either order, and each name ends with a full stop. Malformed where it is none: the
+        error shows the word that is refused, and has its place in `line`, which is 1, and `offset`. Immovable where
+        octets that are given as such may have pointers; TooLong where no message has room for the record.
+        """
+        ascii_of(text)
+        octets = _calls.dns_record_from_text(text)
+        name = Name.read(octets)
+        middle = len(name.to_wire())
+        rtype, rclass, ttl = struct.unpack_from(">HHI", octets, middle)
+        return cls(name, rtype, ttl, octets[middle + 10 :], rdclass=rclass, section=section)
 
     @classmethod
     def _of_row(cls, source: bytes, row: Row) -> Record:
