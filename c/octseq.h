@@ -218,7 +218,7 @@ uint32_t octseq_dns_data_text(const uint8_t *octets, size_t len, size_t data_at,
 #define OCTSEQ_DNS_STRING 3u    /* a character string, without the octet of its length */
 #define OCTSEQ_DNS_OCTETS 4u    /* octets that are no other field: a key, a digest, a signature, unknown data */
 #define OCTSEQ_DNS_TYPES 5u     /* a set of record types (RFC 4034, 4.1.2) */
-#define OCTSEQ_DNS_PARAMETER 6u /* a parameter of SVCB or HTTPS (RFC 9460, 2.2), or an option of OPT (RFC 6891, 6.1.2) */
+#define OCTSEQ_DNS_PARAMETER 6u /* a parameter of SVCB or HTTPS (RFC 9460, 2.2) or an option of OPT (RFC 6891, 6.1.2) */
 
 /* A field of data. Places are counted from the first of the octets. */
 typedef struct octseq_dns_field {

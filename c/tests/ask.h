@@ -137,8 +137,35 @@ static inline uint32_t data_text(const struct given *given, uint8_t *out, size_t
                                 out, room, written);
 }
 
+static inline uint32_t data_fields(const struct given *given, uint8_t *out, size_t room, size_t *written) {
+    return octseq_dns_data_fields(given->octets, given->len, given->place, given->data_len, given->rtype, given->rclass,
+                                  (octseq_dns_field *)(void *)out, room, written);
+}
+
 static inline uint32_t rtype_text(const struct given *given, uint8_t *out, size_t room, size_t *written) {
     return octseq_dns_rtype_text(given->rtype, out, room, written);
+}
+
+/* Where the last text was refused. */
+static struct {
+    size_t line, offset;
+} refused;
+
+static inline uint32_t record_from_text(const struct given *given, uint8_t *out, size_t room, size_t *written) {
+    refused.offset = 99;
+    uint32_t status =
+        octseq_dns_record_from_text(given->octets, given->len, out, room, written, &refused.offset);
+    CHECK(status == OCTSEQ_MALFORMED || refused.offset == 0);
+    return status;
+}
+
+static inline uint32_t message_from_text(const struct given *given, uint8_t *out, size_t room, size_t *written) {
+    refused.line = refused.offset = 99;
+    uint32_t status = octseq_dns_message_from_text(given->octets, given->len, out, room, written, &refused.line,
+                                                   &refused.offset);
+    CHECK(status == OCTSEQ_MALFORMED || (refused.line == 0 && refused.offset == 0));
+    CHECK(status != OCTSEQ_MALFORMED || refused.line > 0);
+    return status;
 }
 
 static inline uint32_t bgp_rows(const struct given *given, uint8_t *out, size_t room, size_t *written) {

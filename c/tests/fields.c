@@ -8,11 +8,6 @@
 #include "ask.h"
 #include "messages.h"
 
-static uint32_t data_fields(const struct given *given, uint8_t *out, size_t room, size_t *written) {
-    return octseq_dns_data_fields(given->octets, given->len, given->place, given->data_len, given->rtype, given->rclass,
-                                  (octseq_dns_field *)(void *)out, room, written);
-}
-
 /* ---- the forms ---- */
 
 /* The form of a type, a letter for each part: 1, 2 and 4 a number of so many octets, a and A an address of 4 and of 16,

@@ -34,24 +34,6 @@ void *__wrap_realloc(void *block, size_t size) {
 }
 #endif
 
-/* Where the last text was refused. */
-static size_t line, offset;
-
-static uint32_t record_from_text(const struct given *given, uint8_t *out, size_t room, size_t *written) {
-    offset = 99;
-    uint32_t status = octseq_dns_record_from_text(given->octets, given->len, out, room, written, &offset);
-    CHECK(status == OCTSEQ_MALFORMED || offset == 0);
-    return status;
-}
-
-static uint32_t message_from_text(const struct given *given, uint8_t *out, size_t room, size_t *written) {
-    line = offset = 99;
-    uint32_t status = octseq_dns_message_from_text(given->octets, given->len, out, room, written, &line, &offset);
-    CHECK(status == OCTSEQ_MALFORMED || (line == 0 && offset == 0));
-    CHECK(status != OCTSEQ_MALFORMED || line > 0);
-    return status;
-}
-
 static struct answer of_text(call *it, const char *text, size_t len, uint32_t may) {
     struct given given;
     uint8_t *octets = block_with(text, len);
@@ -151,7 +133,7 @@ static void check_records(void) {
                                        MAY_OK | MAY(OCTSEQ_MALFORMED));
         CHECK(answer.status == (RECORDS[i].octets ? OCTSEQ_OK : OCTSEQ_MALFORMED));
         CHECK(answer.len == RECORDS[i].len && is_same(answer.out, RECORDS[i].octets, answer.len));
-        CHECK(answer.status == OCTSEQ_OK || offset == RECORDS[i].place);
+        CHECK(answer.status == OCTSEQ_OK || refused.offset == RECORDS[i].place);
         release(answer.out);
     }
 }
@@ -177,7 +159,7 @@ static void check_no_messages(void) {
         const char *text = NO_MESSAGES[i].text;
         struct answer answer = of_text(message_from_text, text, strlen(text), MAY(OCTSEQ_MALFORMED));
         CHECK(answer.status == OCTSEQ_MALFORMED);
-        CHECK(line == NO_MESSAGES[i].line && offset == NO_MESSAGES[i].place);
+        CHECK(refused.line == NO_MESSAGES[i].line && refused.offset == NO_MESSAGES[i].place);
     }
 }
 

@@ -126,6 +126,9 @@ static int check_readers(const struct given *given, octseq_dns_row *kept, size_t
     uint32_t status = octseq_dns_message_header(given->octets, given->len, &header);
     CHECK(status == OCTSEQ_OK || status == OCTSEQ_MALFORMED);
     uint32_t may = status == OCTSEQ_OK ? MAY_OK : MAY(OCTSEQ_MALFORMED);
+    size_t stop = given->len + 1;
+    CHECK(octseq_dns_message_fault(given->octets, given->len, &stop) == status);
+    CHECK(status == OCTSEQ_OK ? stop == given->len : stop <= given->len);
     struct answer answer = ask_units(rows, given, sizeof(octseq_dns_row), may);
     *kept_count = answer.len < MOST_ROWS ? answer.len : MOST_ROWS;
     if (*kept_count)
@@ -237,9 +240,17 @@ static void check_data(struct given given) {
         CHECK(is_typed == 0);
     note(is_typed, NULL, 0);
     release(text.out);
+    struct answer fields = ask_units(data_fields, &given, sizeof(octseq_dns_field),
+                                     is_within ? MAY_OK : MAY(OCTSEQ_MALFORMED));
+    for (size_t i = 0; i < fields.len; i++) {
+        const octseq_dns_field *field = (const octseq_dns_field *)(void *)fields.out + i;
+        CHECK(field->kind <= OCTSEQ_DNS_PARAMETER);
+        CHECK(field->kind == OCTSEQ_DNS_NUMBER || (field->at >= given.place && field->len <= given.len - field->at));
+    }
+    release(fields.out);
 }
 
-/* The octets as a text that may spell a name, a type or a class. */
+/* The octets as a text that may spell a name, a type or a class, a record or a message. */
 static void check_spelt(struct given given) {
     uint16_t rtype = 99, rclass = 99;
     given.len = given.len < 40 ? given.len : below(40);
@@ -257,6 +268,10 @@ static void check_spelt(struct given given) {
     status = octseq_dns_class_from_text(text, given.len, &rclass);
     CHECK(status == OCTSEQ_OK || (status == OCTSEQ_MALFORMED && rclass == 0));
     note(rtype, &rclass, sizeof rclass);
+    answer = ask(record_from_text, &given, MAY_OK | MAY(OCTSEQ_MALFORMED));
+    release(answer.out);
+    answer = ask(message_from_text, &given, MAY(OCTSEQ_MALFORMED));
+    release(answer.out);
     release(text);
 }
 

@@ -10,6 +10,7 @@
 
 #define THREADS 4
 #define MOST_ROWS 4096
+#define MOST_FIELDS 4096
 
 /* What a thread has of its own. */
 struct room {
@@ -18,6 +19,7 @@ struct room {
     uint32_t refused; /* how many answers were of no status that there may be */
     uint8_t out[1 << 16];
     octseq_dns_row rows[MOST_ROWS];
+    octseq_dns_field fields[MOST_FIELDS];
 };
 
 static struct room in_threads[THREADS], alone;
@@ -44,7 +46,8 @@ static void read_texts_of(struct room *room, const struct message *message) {
 }
 
 static void read_message(struct room *room, const struct message *message) {
-    size_t written = 0, count = 0;
+    size_t written = 0, count = 0, count_of_fields = 0, place = 0;
+    take(room, octseq_dns_message_fault(message->octets, message->len, &place), &place, sizeof place);
     take(room, octseq_dns_message_text(message->octets, message->len, room->out, sizeof room->out, &written),
          room->out, written);
     take(room, octseq_dns_rewrite(message->octets, message->len, room->out, sizeof room->out, &written), room->out,
@@ -57,6 +60,9 @@ static void read_message(struct room *room, const struct message *message) {
                                         &written), room->out, written);
         take(room, octseq_dns_data_text(message->octets, message->len, row->data_at, row->data_len, row->rtype,
                                         row->rclass, room->out, sizeof room->out, &written), room->out, written);
+        take(room, octseq_dns_data_fields(message->octets, message->len, row->data_at, row->data_len, row->rtype,
+                                          row->rclass, room->fields, MOST_FIELDS, &count_of_fields), room->fields,
+             count_of_fields * sizeof *room->fields);
     }
 }
 

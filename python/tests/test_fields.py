@@ -3,7 +3,7 @@ import base64
 import unittest
 
 from corpus import samples
-from octseq.dns import Kind, Message, Name, Parameter, Rdata, Record, Section, rdatatype_to_text
+from octseq.dns import FieldKind, Message, Name, Option, Rdata, Record, Section, rdatatype_to_text
 
 SECTIONS = (Section.ANSWER, Section.AUTHORITY, Section.ADDITIONAL)
 KEYS = {
@@ -134,7 +134,7 @@ class OnSamples(unittest.TestCase):
             if line[5] == "\\#" and line[4] != "OPT":
                 size, *digits = line[6].split(" ")
                 octets = bytes.fromhex("".join(digits))
-                self.assertEqual(record.data.fields, ((Kind.OCTETS, octets),))
+                self.assertEqual(record.data.fields, ((FieldKind.OCTETS, octets),))
                 self.assertEqual(len(octets), int(size))
                 count += 1
         self.assertGreater(count, 10)
@@ -144,7 +144,7 @@ class OnSamples(unittest.TestCase):
         for record, line in self.records:
             if line[4] == "OPT":
                 made = b"".join(
-                    option.key.to_bytes(2, "big") + len(option.value).to_bytes(2, "big") + option.value
+                    option.otype.to_bytes(2, "big") + len(option.data).to_bytes(2, "big") + option.data
                     for option in record.data.options
                 )
                 self.assertEqual(made.hex(), "".join(line[6].split(" ")[1:]))
@@ -160,7 +160,7 @@ def mx(name: str, preference: int = 10) -> Rdata:
 class ByHand(unittest.TestCase):
     def test_fields(self) -> None:
         data = mx("mail.example.com.")
-        self.assertEqual(data.fields, ((Kind.NUMBER, 10), (Kind.NAME, Name.from_text("mail.example.com."))))
+        self.assertEqual(data.fields, ((FieldKind.NUMBER, 10), (FieldKind.NAME, Name.from_text("mail.example.com."))))
         self.assertEqual((data.preference, data.exchange.to_text()), (10, "mail.example.com."))
 
     def test_a_name_may_be_a_pointer(self) -> None:
@@ -193,7 +193,7 @@ class ByHand(unittest.TestCase):
         (record,) = Message.from_wire(
             bytes.fromhex("000784000000000100000000" "00" "00010001" "0000012c" "0003" "010203")
         ).answers
-        self.assertEqual(record.data.fields, ((Kind.OCTETS, b"\x01\x02\x03"),))
+        self.assertEqual(record.data.fields, ((FieldKind.OCTETS, b"\x01\x02\x03"),))
         with self.assertRaises(AttributeError):
             record.data.address
 
@@ -202,7 +202,15 @@ class ByHand(unittest.TestCase):
         octets = bytes.fromhex("000784000000000000000001" "00" "0029" "04d0" "00000000" "000c")
         octets += bytes.fromhex("000a0008" "0102030405060708")
         (record,) = Message.from_wire(octets).additionals
-        self.assertEqual(record.data.options, (Parameter(10, bytes(range(1, 9))),))
+        self.assertEqual(record.data.options, (Option(10, bytes(range(1, 9))),))
+        self.assertEqual(record.data.fields, ((FieldKind.PARAMETER, Option(10, bytes(range(1, 9)))),))
+
+    def test_options_that_are_cut_off(self) -> None:
+        octets = bytes.fromhex("000784000000000000000001" "00" "0029" "04d0" "00000000" "0005" "000a0008" "01")
+        (record,) = Message.from_wire(octets).additionals
+        self.assertEqual(record.data.fields, ((FieldKind.OCTETS, bytes.fromhex("000a000801")),))
+        with self.assertRaises(AttributeError):
+            record.data.options
 
 
 if __name__ == "__main__":

@@ -22,7 +22,7 @@ import sys
 from collections.abc import Callable, Sequence
 from typing import TYPE_CHECKING, Any, NamedTuple
 
-from .errors import BadRow, BadState, Immovable, Malformed, TooLong, Unshown
+from .errors import BadRow, BadState, Immovable, Malformed, TooLong, Unshown, malformed_in
 
 try:
     from ._c import ffi, lib
@@ -39,16 +39,14 @@ if TYPE_CHECKING:
 Call = Callable[..., int]
 _OCTETS, _ROWS, _SIZE = ffi.typeof("uint8_t[]"), ffi.typeof("octseq_dns_row[]"), ffi.typeof("size_t *")
 _BGP_ROWS, _FIELDS = ffi.typeof("octseq_bgp_row[]"), ffi.typeof("octseq_dns_field[]")
+_HOPS, _MRT_ROWS = ffi.typeof("octseq_bgp_hop[]"), ffi.typeof("octseq_mrt_row[]")
 _ROW, _FIELD, _BGP_ROW = struct.Struct("@NNNIHHI4x"), struct.Struct("@NNII"), struct.Struct("@NNIIHHBBBB")
 _HEADER, _STATE = ffi.typeof("octseq_dns_header *"), ffi.typeof("octseq_lossy_state *")
-_ORDER, _NUMBER = ffi.typeof("int32_t *"), ffi.typeof("uint16_t *")
+_ORDER, _NUMBER, _MRT_HEADER = ffi.typeof("int32_t *"), ffi.typeof("uint16_t *"), ffi.typeof("octseq_mrt_header *")
 _SIZES = {
-    it: ffi.sizeof(it) for it in ("octseq_dns_row", "octseq_dns_field", "octseq_bgp_hop", "octseq_bgp_row")
+    it: ffi.sizeof(it)
+    for it in ("octseq_dns_row", "octseq_dns_field", "octseq_bgp_hop", "octseq_bgp_row", "octseq_mrt_row")
 }
-_BGP_ROW = struct.Struct("@NNIIHHBBBB")
-_HEADER, _STATE = ffi.typeof("octseq_dns_header *"), ffi.typeof("octseq_lossy_state *")
-_ORDER, _NUMBER = ffi.typeof("int32_t *"), ffi.typeof("uint16_t *")
-_SIZES = {it: ffi.sizeof(it) for it in ("octseq_bgp_hop", "octseq_bgp_row", "octseq_mrt_row")}
 _array_of = ffi.new_allocator(should_clear_after_alloc=False)
 _RAISED: dict[int, tuple[type[Exception], str]] = {
     lib.OCTSEQ_MALFORMED: (Malformed, "it isn't what it is read as"),
@@ -304,14 +302,6 @@ def dns_answer_within(query: bytes, flags: int, source: bytes, rows: Sequence[Ro
     return ffi.buffer(out, written)[:]
 
 
-_HOPS = ffi.typeof("octseq_bgp_hop[]")
-# ---- AS paths and records of MRT files ----
-
-_HOPS, _MRT_HEADER = ffi.typeof("octseq_bgp_hop[]"), ffi.typeof("octseq_mrt_header *")
-_MRT_ROWS = ffi.typeof("octseq_mrt_row[]")
-
-
-
 def bgp_hops(data: bytes, session: int) -> bytes:
     """The AS numbers of an AS path of a session, as `octseq_bgp_hop` has them. Malformed."""
     return _packed("octseq_bgp_hop", _HOPS, len(data) // 2, lib.octseq_bgp_as_path, data, len(data), session)
@@ -347,7 +337,7 @@ def dns_record_from_text(text: str) -> bytes:
     try:
         out, written = _filled(_OCTETS, len(octets) + 512, call, octets, len(octets))
     except Malformed:
-        raise Malformed._at(text, 1, offset[0]) from None
+        raise malformed_in(text, 1, offset[0]) from None
     return ffi.buffer(out, written)[:]
 
 
@@ -361,5 +351,5 @@ def dns_message_from_text(text: str) -> bytes:
     try:
         out, written = _filled(_OCTETS, 65_535, call, octets, len(octets))
     except Malformed:
-        raise Malformed._at(text, line[0], offset[0]) from None
+        raise malformed_in(text, line[0], offset[0]) from None
     return ffi.buffer(out, written)[:]

@@ -8,11 +8,26 @@ class Malformed(ValueError):
     place: int | None = None
     """Where reading octets stopped, counted from the first of them, if that is known."""
 
+    line: int | None = None
+    """The number of the line that is refused of the text of a record or a message, from 1 on."""
+
+    offset: int | None = None
+    """How many characters of that line come before the word that is refused."""
+
 
 def malformed_at(place: int, message: str) -> Malformed:
     """The error about octets, of which reading stopped at a place."""
     error = Malformed(message)
     error.place = place
+    return error
+
+
+def malformed_in(text: str, line: int, offset: int) -> Malformed:
+    """The error about a text, of which a word is refused. It shows the line, with a mark under the word."""
+    shown = text.split("\n")[line - 1]
+    blanks = "".join("\t" if character == "\t" else " " for character in shown[:offset])
+    error = Malformed(f"line {line}, offset {offset}: something else has to come here\n{shown}\n{blanks}^")
+    error.line, error.offset = line, offset
     return error
 
 

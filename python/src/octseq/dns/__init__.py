@@ -5,7 +5,7 @@ What has the name of something in dnspython is that: `Message.from_wire`, `to_wi
 `rdclass`, `ttl`, and the fields of data, as `preference` and `exchange`. A message's sections have other names,
 `questions`, `answers`, `authorities` and `additionals`, because they have single records, not sets of them.
 """
-from .edns import EDNSFlag, Option
+from .edns import EDNSFlag
 from .message import Message, make_query, make_response
 from .name import Name, NoParent
 from .numbers import (
@@ -16,14 +16,14 @@ from .numbers import (
     rdatatype_from_text,
     rdatatype_to_text,
 )
-from .rdata import Field, Kind, Parameter, Rdata
+from .rdata import Field, FieldKind, Option, Parameter, Rdata
 from .record import Question, Record
 
 __all__ = [
     "EDNSFlag",
     "Field",
+    "FieldKind",
     "Flag",
-    "Kind",
     "Message",
     "Name",
     "NoParent",

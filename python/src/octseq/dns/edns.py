@@ -6,12 +6,9 @@ from collections.abc import Iterable
 from typing import NamedTuple
 
 from .._calls import lib
-from ..errors import Malformed
 from .numbers import Section, within
+from .rdata import OPT
 from .record import Record
-
-OPT = 41
-"""The type of OPT records."""
 
 DEFAULT_EDNS_PAYLOAD = 1232
 """How many octets of a UDP payload are accepted unless it is said: those that fit the least MTU of IPv6."""
@@ -22,13 +19,6 @@ class EDNSFlag(enum.IntFlag):
 
     DO = lib.OCTSEQ_DNS_DO
     """Records of DNSSEC are accepted (RFC 3225, 3)."""
-
-
-class Option(NamedTuple):
-    """An option of an OPT record: its code, and its octets (RFC 6891, 6.1.2)."""
-
-    otype: int
-    data: bytes
 
 
 class Edns(NamedTuple):
@@ -70,15 +60,3 @@ def wire_of(options: Iterable[tuple[int, bytes]]) -> bytes:
         parts.append(within(otype, 16, "the code of an option").to_bytes(2, "big"))
         parts.append(within(len(octets), 16, "the length of an option").to_bytes(2, "big") + octets)
     return b"".join(parts)
-
-
-def options_of(octets: bytes) -> tuple[Option, ...]:
-    """The options that the data of an OPT record has. Malformed where it isn't options up to its end."""
-    found, at = [], 0
-    while at < len(octets):
-        end = at + 4 + int.from_bytes(octets[at + 2 : at + 4], "big")
-        if at + 4 > len(octets) or end > len(octets):
-            raise Malformed("the data of an OPT record isn't options")
-        found.append(Option(int.from_bytes(octets[at : at + 2], "big"), octets[at + 4 : end]))
-        at = end
-    return tuple(found)

@@ -8,9 +8,10 @@ from typing import TYPE_CHECKING
 from .. import _calls
 from .._calls import Header, Row, lib
 from ..errors import Malformed, TooLong, malformed_at
-from .edns import OPT, Option, edns_of, options_of
+from .edns import edns_of
 from .name import Name, name_of
 from .numbers import Flag, Section, ascii_of, rdataclass_of, rdatatype_of, within
+from .rdata import OPT, Option
 from .record import Question, Record, gather
 
 if TYPE_CHECKING:
@@ -47,8 +48,8 @@ class Message:
         """The message that the octets are (RFC 1035, 4.1).
 
         Malformed where they are none: they end too early, go on after the last record, or are more than 65,535, or a
-        name isn't where one should be. Its `place` is that of the first part that isn't there: the header, a question or
-        a record, or what follows the last. TypeError where `data` has no octets.
+        name isn't where one should be. Its `place` is that of the first part that isn't there: the header, a question
+        or a record, or what follows the last. TypeError where `data` has no octets.
         """
         return cls(data)
 
@@ -110,7 +111,10 @@ class Message:
     def options(self) -> tuple[Option, ...]:
         """The options of the OPT record. Malformed where its data isn't options up to its end (RFC 6891, 6.1.2)."""
         opt = self._opt()
-        return () if opt is None else options_of(opt.rdata.octets)
+        options: tuple[Option, ...] | None = () if opt is None else getattr(opt.rdata, "options", None)
+        if options is None:
+            raise Malformed("the data of an OPT record isn't options")
+        return options
 
     def _opt(self) -> Record | None:
         """The first OPT record."""

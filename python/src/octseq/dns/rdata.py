@@ -11,10 +11,11 @@ from .._calls import FieldRow, Row, lib
 from .name import Name
 from .numbers import rdataclass_to_text, rdatatype_to_text
 
-_IN, _OPT = 1, 41
+OPT = 41
+"""The type of OPT records."""
 
 
-class Kind(enum.IntEnum):
+class FieldKind(enum.IntEnum):
     """What a field is."""
 
     NUMBER = 0
@@ -27,29 +28,36 @@ class Kind(enum.IntEnum):
 
 
 class Parameter(NamedTuple):
-    """A parameter of SVCB or HTTPS (RFC 9460, 2.2), or an option of OPT (RFC 6891, 6.1.2)."""
+    """A parameter of SVCB or HTTPS (RFC 9460, 2.2)."""
 
     key: int
     value: bytes
 
 
-Value = Union[int, Name, str, bytes, "tuple[int, ...]", Parameter]
+class Option(NamedTuple):
+    """An option of an OPT record: its code, and its octets (RFC 6891, 6.1.2)."""
+
+    otype: int
+    data: bytes
+
+
+Value = Union[int, Name, str, bytes, "tuple[int, ...]", Parameter, Option]
 
 
 class Field(NamedTuple):
     """A field of data. Its value is, by its kind:
 
     NUMBER an int, NAME a `Name`, ADDRESS a text, STRING and OCTETS bytes, TYPES the numbers of the types in ascending
-    order, PARAMETER a `Parameter`.
+    order, PARAMETER a `Parameter`, or an `Option` of OPT.
     """
 
-    kind: Kind
+    kind: FieldKind
     value: Value
 
 
 _NUMBER, _NAME, _ADDRESS, _TYPES, _PARAMETER = 0, 1, 2, 5, 6
-_KINDS = tuple(Kind)
-_field: Callable[[tuple[Kind, Value]], Field] = functools.partial(tuple.__new__, Field)
+_KINDS = tuple(FieldKind)
+_field: Callable[[tuple[FieldKind, Value]], Field] = functools.partial(tuple.__new__, Field)
 
 # The names of the fields of each type, as dnspython has them. A name after `*` is that of all fields that are left.
 _NAMES: dict[int, tuple[str, ...]] = {
@@ -134,7 +142,7 @@ class Rdata:
         mname: Name
         mtype: int
         next: Name | bytes
-        options: tuple[Parameter, ...]
+        options: tuple[Option, ...]
         order: int
         original_ttl: int
         os: bytes
@@ -216,11 +224,15 @@ class Rdata:
         octets = self._octets(row.at, row.len)
         if kind == _TYPES:
             return _types_of(octets)
-        return Parameter(row.number, octets) if kind == _PARAMETER else octets
+        if kind == _PARAMETER:
+            return (Option if self._row.rtype == OPT else Parameter)(row.number, octets)
+        return octets
 
     def _has_names(self) -> bool:
         """Whether the fields are those that the names of its type are for."""
-        return self._row.rtype in _NAMES and (self._row.rtype == _OPT or self.is_typed)
+        if self._row.rtype == OPT:
+            return all(field.kind == _PARAMETER for field in self.fields)
+        return self._row.rtype in _NAMES and self.is_typed
 
     def __getattr__(self, name: str) -> Any:
         # (it is called where there is no such attribute otherwise)
