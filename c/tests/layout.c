@@ -169,8 +169,8 @@ static void check_mrt_event(void) {
 }
 
 static void check_mrt_rib(void) {
-    static const uint8_t RECORD[] = {0, 0, 0, 0, 0, 13, 0, 9, 0, 0, 0, 24, 1, 2, 3, 4, 12, 10, 0xF0, 0, 1, 0x12, 0x34, 9,
-                                     8, 7, 6, 5, 4, 3, 2, 0, 3, 0xC0, 99, 0};
+    static const uint8_t RECORD[] = {0,    0, 0, 0, 0, 13, 0, 9, 0, 0, 0, 24, 1,    2,  3, 4, 12, 10,
+                                     0xF0, 0, 1, 0x12, 0x34, 9, 8, 7, 6, 5, 4, 3, 2, 0, 3, 0xC0, 99, 0};
     octseq_mrt_row rows[2];
     octseq_bgp_row attribute;
     size_t count = 0;
@@ -183,7 +183,8 @@ static void check_mrt_rib(void) {
     CHECK(at(&rows[1], 32, 4) == 0x09080706 && at(&rows[1], 56, 2) == 0x1234 && at(&rows[1], 62, 1) == 1);
     CHECK(octseq_mrt_attributes(RECORD, sizeof RECORD, &attribute, 1, &count) == OCTSEQ_OK && count == 1);
     CHECK(at(&attribute, 0, 8) == sizeof RECORD && at(&attribute, 8, 8) == 0);
-    CHECK(at(&attribute, 16, 4) == OCTSEQ_BGP_ATTRIBUTE && at(&attribute, 30, 1) == 0xC0 && at(&attribute, 31, 1) == 99);
+    CHECK(at(&attribute, 16, 4) == OCTSEQ_BGP_ATTRIBUTE);
+    CHECK(at(&attribute, 30, 1) == 0xC0 && at(&attribute, 31, 1) == 99);
     note(count, rows, sizeof rows);
 }
 

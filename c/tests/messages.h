@@ -1,6 +1,7 @@
 /* The messages of real traffic: `stdin` has each after its length in two octets, `stdout` what another reader made of
- * them. Where BGP_MESSAGES is defined, there is an octet with the session of the message before that length. First it has the text of each and an empty line, `malformed` where there is no message. Then come lines of
- * numbers, one for each message of at most 512 octets. */
+ * them. Where BGP_MESSAGES is defined, there is an octet with the session of the message before that length. First it
+ * has the text of each and an empty line, `malformed` where there is no message. Then come lines of numbers, one for
+ * each message of at most 512 octets. */
 #ifndef MESSAGES_H
 #define MESSAGES_H
 

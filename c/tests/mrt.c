@@ -135,7 +135,8 @@ static void check_attribute(struct text *text, const uint8_t *octets, const octs
         text->at = strchr(text->at, '\n') + 1;
     }
     char *to = wanted + strlen(wanted);
-    to += sprintf(to, "%s%s%s", row->flags & 0x80 ? "O" : "", row->flags & 0x40 ? "T" : "", row->flags & 0x20 ? "P" : "");
+    to += sprintf(to, "%s", row->flags & 0x80 ? "O" : "");
+    to += sprintf(to, "%s%s", row->flags & 0x40 ? "T" : "", row->flags & 0x20 ? "P" : "");
     sprintf(to, "%s ", to[-1] == ' ' ? "-" : "");
     CHECK(begins_with(text, wanted));
     struct text line = {text->at, strchr(text->at, '\n')};

@@ -4,7 +4,7 @@ use Rattle.std.proofs.Common.{refl, length-append}
 use Rattle.std.proofs.Math.Seq.{take-append_seam}
 use Rattle.octseq.specs.Window.{Window, left}
 use Rattle.octseq_format.specs.Laws.{Relation}
-use Rattle.octseq_format.specs.Row.{Moved, Row, RowTo}
+use Rattle.octseq_format.specs.Row.{Moved, Row}
 use Rattle.octseq_c.specs.Puts.{Copies}
 use Rattle.octseq_c.proofs.Placed.{placed_after}
 

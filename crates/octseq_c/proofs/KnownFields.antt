@@ -1,5 +1,5 @@
 -- Which data has fields of its own, and how many a layout has before its last part.
-use Rattle.std.proofs.Common.{◌≡◌, ◌≢◌, ℕ, ◌≤◌, ◌⊎◌, List, [], ◌∷◌, length, inl, inr, refl, sym, ◌∙◌, subst, arith}
+use Rattle.std.proofs.Common.{◌≡◌, ◌≢◌, ℕ, ◌≤◌, List, [], ◌∷◌, length, inl, inr, sym, ◌∙◌, subst, arith}
 use Rattle.std.proofs.Common.{cond}
 use Rattle.std.specs.Prelude.{Bool, true, false, Option, Some, None, ◌&&◌, not, nat_eq}
 use Rattle.octseq.specs.Window.{Window}

@@ -1,9 +1,9 @@
 -- The header at the front of octets, and whether the whole record is there.
-use Rattle.std.proofs.Common.{◌≡◌, ℕ, ◌+◌, ◌≤◌, ◌<◌, ◌↔◌, ◌++◌, List, length, take, drop, ap, sym, refl, ◌∙◌, arith}
+use Rattle.std.proofs.Common.{◌≡◌, ℕ, ◌+◌, ◌≤◌, ◌↔◌, List, length, take, drop, ap, sym, refl, ◌∙◌, arith}
 use Rattle.std.proofs.Common.{length-append, take-append-drop}
 use Rattle.std.proofs.lemmas.List.{length-take}
 use Rattle.octseq.specs.Integer.{be}
-use Rattle.octseq.specs.Window.{Window, left, next, past, whole}
+use Rattle.octseq.specs.Window.{Window, next, past, whole}
 use Rattle.octseq_bgp.specs.Parts.{IsNumber}
 use Rattle.octseq_format.specs.Pair.{◌then◌}
 use Rattle.octseq_mrt.specs.Header.{IsHeader}

@@ -1,9 +1,9 @@
 -- Data has one list of fields.
-use Rattle.std.proofs.Common.{◌≡◌, ℕ, ◌+◌, ◌≤◌, ◌<◌, ◌⊎◌, List, [], ◌∷◌, ◌++◌, map, length, inl, inr, refl, ap, sym}
-use Rattle.std.proofs.Common.{◌∙◌, subst, arith}
+use Rattle.std.proofs.Common.{◌≡◌, ℕ, List, [], ◌∷◌, ◌++◌, map, inl, inr, ap, sym}
+use Rattle.std.proofs.Common.{◌∙◌, subst}
 use Rattle.std.specs.Prelude.{Option, Some, None}
 use Rattle.octseq.specs.Integer.{be}
-use Rattle.octseq.specs.Window.{Window, left, nested}
+use Rattle.octseq.specs.Window.{Window}
 use Rattle.octseq_dns_data.specs.Layout.{TextLayout, layout_value}
 use Rattle.octseq_dns_data.specs.Typed.{layout_of}
 use Rattle.octseq_dns_data.specs.declared.layout.Field.{Field}
@@ -11,13 +11,13 @@ use Rattle.octseq_dns_data.specs.declared.layout.Field.TheVariants as field
 use Rattle.octseq_dns_data.specs.declared.layout.Tail.{Tail}
 use Rattle.octseq_dns_data.specs.declared.layout.Tail.TheVariants as tail
 use Rattle.octseq_dns_name.specs.NameFormat.{one_named}
-use Rattle.octseq_format.specs.Counted.{Counted, one_counted}
+use Rattle.octseq_format.specs.Counted.{one_counted}
 use Rattle.octseq_format.specs.Fixed.{one_fixed}
-use Rattle.octseq_format.specs.Laws.{Relation, IsOne}
+use Rattle.octseq_format.specs.Laws.{IsOne}
 use Rattle.octseq_format.specs.Pair.{◌one_then◌}
 use Rattle.octseq_format.specs.Rest.{one_rest}
-use Rattle.octseq_format.specs.Row.{Moved, Row, RowTo, moving_moved, one_moved, one_to}
-use Rattle.octseq_c.specs.Fields.{AreFields, AreFieldsIn, AreFieldsOf, AreKnownFields, AreLayoutRows, AreOptionRows}
+use Rattle.octseq_format.specs.Row.{Moved, moving_moved, one_moved, one_to}
+use Rattle.octseq_c.specs.Fields.{AreFields, AreFieldsIn, AreFieldsOf, AreKnownFields, AreLayoutRows}
 use Rattle.octseq_c.specs.Fields.{AreParameters, AreStrings, AreTailRows, AreTypedFields, IsAddressField}
 use Rattle.octseq_c.specs.Fields.{IsCharacterString}
 use Rattle.octseq_c.specs.Fields.{IsField, IsNameField, IsNumberField, IsParameter, IsStringField}

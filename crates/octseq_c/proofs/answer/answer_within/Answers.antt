@@ -1,4 +1,4 @@
-use Rattle.std.proofs.Common.{ap, ◌∙◌, length, sym, arith}
+use Rattle.std.proofs.Common.{ap, ◌∙◌, length, arith}
 use Rattle.octseq_c.proofs.Puts.{copies}
 use Rattle.octseq_c.proofs.answer.answer_within.Goals as goal
 

@@ -1,6 +1,6 @@
 use Rattle.std.proofs.Common.{subst}
 use Rattle.octseq.specs.Parser.{window}
-use Rattle.octseq.specs.Window.{at, nested, whole}
+use Rattle.octseq.specs.Window.{at, whole}
 use Rattle.octseq_c.proofs.OneFields.{one_fields_of}
 use Rattle.octseq_c.proofs.Puts.{puts_copies}
 use Rattle.octseq_c.specs.Fields.{AreFieldsIn}

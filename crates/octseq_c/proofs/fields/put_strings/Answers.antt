@@ -1,4 +1,4 @@
-use Rattle.std.proofs.Common.{map, length, ap, arith, refl}
+use Rattle.std.proofs.Common.{map, length, arith, refl}
 use Rattle.std.proofs.lemmas.List.{length-map}
 use Rattle.octseq.specs.Parser.{window}
 use Rattle.octseq_format.specs.Walk.{items_left}

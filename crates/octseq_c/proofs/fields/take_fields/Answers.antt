@@ -1,4 +1,4 @@
-use Rattle.std.proofs.Common.{◌+◌, ◌++◌, ◌∷◌, [], length, drop, refl, ap, arith, length-append}
+use Rattle.std.proofs.Common.{◌+◌, ◌++◌, ◌∷◌, [], ap, arith, length-append}
 use Rattle.std.proofs.lemmas.List.{drop_more}
 use Rattle.octseq_c.proofs.TakenFields.{ahead_fields, more_fields, written_row}
 use Rattle.octseq_c.proofs.fields.take_fields.Goals as goal

@@ -1,4 +1,4 @@
-use Rattle.std.proofs.Common.{arith, length}
+use Rattle.std.proofs.Common.{arith}
 use Rattle.octseq_c.proofs.OneRewriting.{no_memory}
 use Rattle.octseq_c.proofs.write.rewrite_to.Goals as goal
 

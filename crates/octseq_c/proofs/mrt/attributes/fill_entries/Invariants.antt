@@ -1,5 +1,5 @@
 -- The rows that were written, and those of the entries that are left, are all rows. What follows them is unchanged.
-use Rattle.std.proofs.Common.{◌≡◌, ◌+◌, ◌++◌, List, drop, length, flat_map}
+use Rattle.std.proofs.Common.{◌≡◌, ◌++◌, List, drop, length, flat_map}
 use Rattle.octseq_mrt.specs.Parsed.{entries_left}
 use Rattle.octseq_c.specs.MrtRows.{rows_of_attributes}
 use Rattle.octseq_c.specs.declared.bgp.rows.BgpRow.{BgpRow}
