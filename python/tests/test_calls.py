@@ -1,6 +1,8 @@
 """What the calls of the C library are given, and what their statuses become."""
 import sys
+import threading
 import unittest
+from unittest import mock
 
 import octseq
 from corpus import samples
@@ -12,9 +14,14 @@ TOLD = (1 << 8 * _calls.ffi.sizeof("size_t")) - 1
 
 
 class Room(unittest.TestCase):
-    """Each call is made with no room at all, and so is made again with what it takes."""
+    """Each call is made with the room that is guessed, none at all, and so is made again with what it takes."""
 
     def setUp(self) -> None:
+        for unit in (_calls._OCTETS, _calls._ROWS):
+            # (no room is kept)
+            patch = mock.patch.object(unit, "few", -1)
+            patch.start()
+            self.addCleanup(patch.stop)
         self.octets, self.text = next(sample for sample in samples() if sample.text != "malformed\n")
 
     def test_texts(self) -> None:
@@ -41,7 +48,53 @@ class Room(unittest.TestCase):
                 return lib.OCTSEQ_NO_ROOM
 
             with self.assertRaises(MemoryError):
-                _calls._filled(_calls.ffi.typeof("uint8_t[]"), 5, call)
+                _calls._filled(_calls._OCTETS, 5, call)
+
+
+class KeptRoom(unittest.TestCase):
+    """Room for a few is used again, by one call at a time."""
+
+    def setUp(self) -> None:
+        self.unit = _calls._Unit("uint8_t", 8)
+        self.rooms: list = []
+
+    def write(self, octet: int, inside=lambda: None):
+        """A call that writes an octet eight times. Before it returns, `inside` is called."""
+
+        def call(out, room, written) -> int:
+            self.rooms.append(out)
+            for at in range(8):
+                out[at] = octet
+            inside()
+            written[0] = 8
+            return lib.OCTSEQ_OK
+
+        return _calls._filled(self.unit, 3, call)
+
+    def test_it_is_used_again(self) -> None:
+        self.assertEqual([self.write(octet) for octet in (1, 2)], [b"\1" * 8, b"\2" * 8])
+        self.assertIs(*self.rooms)
+
+    def test_a_call_within_a_call_has_another(self) -> None:
+        self.assertEqual(self.write(1, lambda: self.write(2)), b"\1" * 8)
+        self.assertIsNot(*self.rooms)
+        self.assertEqual(self.write(3, lambda: self.write(4)), b"\3" * 8)
+        self.assertEqual(len(self.unit.kept), 2)
+
+    def test_threads_have_one_each(self) -> None:
+        wrong: list = []
+
+        def work(octet: int) -> None:
+            for _ in range(2000):
+                if self.write(octet) != bytes([octet]) * 8:
+                    wrong.append(octet)
+
+        threads = [threading.Thread(target=work, args=(octet,)) for octet in range(4)]
+        for thread in threads:
+            thread.start()
+        for thread in threads:
+            thread.join()
+        self.assertEqual(wrong, [])
 
 
 class Statuses(unittest.TestCase):

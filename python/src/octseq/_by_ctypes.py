@@ -7,7 +7,7 @@ of cffi, under cffi's names, so that `_calls` is one text for both: `NULL`, `new
 ctypes passes what it is given: it cuts numbers, takes a number for an address, and lets a call write to `bytes`. So
 each argument is compared with the declaration first, and what cffi refuses is refused here: OverflowError for a number
 that the type hasn't, TypeError for a pointer to something else, or for another number of arguments. What a call writes
-to is made by `new`, and is never moved. What it only reads may be `bytes` too. `buffer` and `from_buffer` copy.
+to is made by `new`, and is never moved. What it only reads may be `bytes` too. `from_buffer` copies.
 """
 from __future__ import annotations
 
@@ -180,14 +180,14 @@ def _new(kind: str | _Kind, value: Any = None) -> Any:
     return made
 
 
-def _buffer(thing: Any, size: int | None = None) -> bytes:
-    """The first octets of a thing, or all of them."""
-    octets = thing.memory if isinstance(thing, _Array) else bytes(thing)
+def _buffer(thing: Any, size: int | None = None) -> memoryview:
+    """The first octets of a thing, or all of them, as they are in memory."""
+    octets = memoryview(thing.memory if isinstance(thing, _Array) else bytes(thing))
     if size is None:
-        return bytes(octets)
+        return octets
     if not 0 <= size <= len(octets):
         raise ValueError(f"{len(octets)} octets have no first {size}")
-    return bytes(memoryview(octets)[:size])
+    return octets[:size]
 
 
 def _from_buffer(kind: str | _Kind, data: Any) -> bytes:

@@ -10,8 +10,8 @@ makes pointers for it, but `_by_ctypes` does what cffi would do, and no proof co
 - A pointer and the length after it are of one object, which lives until the call is over, and isn't moved till then.
 - Nobody writes to octets during a call. Other threads run meanwhile, so `frozen` copies all octets but those of
   `bytes`. An object of a class made from `bytes` may tell another length, so it is copied too.
-- What is written overlaps nothing: each call has room of its own, made for it.
-- What a call wrote is copied before its room goes, rows too: a row of an array doesn't keep the array.
+- What is written overlaps nothing: each call has room that nobody else has meanwhile.
+- What a call wrote is copied before its room goes, or is another's, rows too.
 - No length is above PTRDIFF_MAX, which is `sys.maxsize`: so much room isn't asked for.
 """
 from __future__ import annotations
@@ -19,7 +19,7 @@ from __future__ import annotations
 import functools
 import struct
 import sys
-from collections.abc import Callable, Sequence
+from collections.abc import Callable, Iterator, Sequence
 from typing import TYPE_CHECKING, Any, NamedTuple
 
 from .errors import BadRow, BadState, Immovable, Malformed, TooLong, Unshown, malformed_in
@@ -37,17 +37,34 @@ if TYPE_CHECKING:
     from typing_extensions import Buffer
 
 Call = Callable[..., int]
-_OCTETS, _ROWS, _SIZE = ffi.typeof("uint8_t[]"), ffi.typeof("octseq_dns_row[]"), ffi.typeof("size_t *")
-_BGP_ROWS, _FIELDS = ffi.typeof("octseq_bgp_row[]"), ffi.typeof("octseq_dns_field[]")
-_HOPS, _MRT_ROWS = ffi.typeof("octseq_bgp_hop[]"), ffi.typeof("octseq_mrt_row[]")
-_ROW, _FIELD, _BGP_ROW = struct.Struct("@NNNIHHI4x"), struct.Struct("@NNII"), struct.Struct("@NNIIHHBBBB")
-_HEADER, _STATE = ffi.typeof("octseq_dns_header *"), ffi.typeof("octseq_lossy_state *")
-_ORDER, _NUMBER, _MRT_HEADER = ffi.typeof("int32_t *"), ffi.typeof("uint16_t *"), ffi.typeof("octseq_mrt_header *")
-_SIZES = {
-    it: ffi.sizeof(it)
-    for it in ("octseq_dns_row", "octseq_dns_field", "octseq_bgp_hop", "octseq_bgp_row", "octseq_mrt_row")
-}
+_Room = tuple[Any, int, Any, Any]
+"""What a call writes to, how many have room in it, where it writes how many there are, and the octets of it all."""
 _array_of = ffi.new_allocator(should_clear_after_alloc=False)
+_OK, _NO_ROOM = lib.OCTSEQ_OK, lib.OCTSEQ_NO_ROOM
+_SIZE, _ORDER, _NUMBER = ffi.typeof("size_t *"), ffi.typeof("int32_t *"), ffi.typeof("uint16_t *")
+_HEADER, _STATE = ffi.typeof("octseq_dns_header *"), ffi.typeof("octseq_lossy_state *")
+_MRT_HEADER = ffi.typeof("octseq_mrt_header *")
+_HEADER_NUMBERS, _MRT_NUMBERS = struct.Struct("@6H"), struct.Struct("@NIHH")
+_ROW, _FIELD, _BGP_ROW = struct.Struct("@NNNIHHI4x"), struct.Struct("@NNII"), struct.Struct("@NNIIHHBBBB")
+
+
+class _Unit:
+    """What calls write: octets, or rows of a kind. Rooms for a few are kept: who takes one is its only user."""
+
+    __slots__ = ("few", "kept", "kind", "size")
+
+    def __init__(self, name: str, few: int) -> None:
+        self.kind, self.size, self.few = ffi.typeof(f"{name}[]"), ffi.sizeof(name), few
+        self.kept: list[_Room] = []
+
+    def room(self, size: int) -> _Room:
+        """Room for so many."""
+        out = _array_of(self.kind, size)
+        return out, size, ffi.new(_SIZE), ffi.buffer(out)
+
+
+_OCTETS, _ROWS, _FIELDS = _Unit("uint8_t", 1024), _Unit("octseq_dns_row", 64), _Unit("octseq_dns_field", 64)
+_BGP_ROWS, _HOPS, _MRT_ROWS = _Unit("octseq_bgp_row", 64), _Unit("octseq_bgp_hop", 64), _Unit("octseq_mrt_row", 64)
 _RAISED: dict[int, tuple[type[Exception], str]] = {
     lib.OCTSEQ_MALFORMED: (Malformed, "it isn't what it is read as"),
     lib.OCTSEQ_IMMOVABLE: (Immovable, "data of a record isn't of its type's form and may have pointers"),
@@ -82,15 +99,6 @@ class Row(NamedTuple):
     section: int
 
 
-class FieldRow(NamedTuple):
-    """A field of a record's data, as `octseq_dns_field` has it. Places are counted from the first of the octets."""
-
-    at: int
-    len: int
-    number: int
-    kind: int
-
-
 class BgpRow(NamedTuple):
     """A prefix or a path attribute, as `octseq_bgp_row` has it. Places are counted from the message's first octet."""
 
@@ -107,7 +115,6 @@ class BgpRow(NamedTuple):
 
 
 _row: Callable[[tuple[Any, ...]], Row] = functools.partial(tuple.__new__, Row)
-_field: Callable[[tuple[Any, ...]], FieldRow] = functools.partial(tuple.__new__, FieldRow)
 _bgp_row: Callable[[tuple[Any, ...]], BgpRow] = functools.partial(tuple.__new__, BgpRow)
 
 
@@ -125,7 +132,7 @@ def frozen(data: Buffer) -> bytes | memoryview:
 
 def _pointer(octets: bytes | memoryview) -> Any:
     """Frozen octets as a call takes them. cffi copies none, ctypes those of a view."""
-    return octets if type(octets) is bytes else ffi.from_buffer(_OCTETS, octets)
+    return octets if type(octets) is bytes else ffi.from_buffer(_OCTETS.kind, octets)
 
 
 def _check(status: int) -> None:
@@ -135,37 +142,35 @@ def _check(status: int) -> None:
         raise raised(message)
 
 
-def _filled(kind: Any, room: int, call: Call, *arguments: Any) -> tuple[Any, int]:
-    """An array that a call wrote to, and how many octets or rows it wrote. `room` is a guess of how many they are."""
-    written = ffi.new(_SIZE)
+def _filled(unit: _Unit, room: int, call: Call, *arguments: Any) -> bytes:
+    """What a call wrote: octets, or rows as they are in memory. `room` is a guess of how many they are."""
     while True:
-        out = _array_of(kind, room)
-        status = call(*arguments, out, room, written)
-        if status == lib.OCTSEQ_OK:
-            return out, written[0]
-        if status != lib.OCTSEQ_NO_ROOM:
+        try:
+            lent = unit.kept.pop() if room <= unit.few else unit.room(room)
+        except IndexError:
+            lent = unit.room(unit.few)
+        out, size, count, written = lent
+        status = call(*arguments, out, size, count)
+        room = count[0]
+        made = bytes(written[: room * unit.size]) if status == _OK else b""
+        if size == unit.few:
+            unit.kept.append(lent)
+        if status == _OK:
+            return made
+        if status != _NO_ROOM:
             _check(status)
-        room = written[0]
         if room > sys.maxsize:
             raise MemoryError("no memory has room for the answer")
 
 
-def _packed(unit: str, kind: Any, room: int, call: Call, *arguments: Any) -> bytes:
-    """The rows that a call wrote, as they are in memory. They are many, so nothing is made of each."""
-    out, count = _filled(kind, room, call, *arguments)
-    return ffi.buffer(out, count * _SIZES[unit])[:]
-
-
 def octets(room: int, call: Call, data: bytes, *numbers: int) -> bytes:
     """The octets that a call makes of frozen ones. `room` is a guess of how many they are."""
-    out, written = _filled(_OCTETS, room, call, _pointer(data), len(data), *numbers)
-    return ffi.buffer(out, written)[:]
+    return _filled(_OCTETS, room, call, _pointer(data), len(data), *numbers)
 
 
 def text(room: int, call: Call, data: bytes | memoryview, *numbers: int) -> str:
     """The text that a call makes of frozen octets. `room` is a guess of how many octets it has."""
-    out, written = _filled(_OCTETS, room, call, _pointer(data), len(data), *numbers)
-    return str(ffi.buffer(out, written), "utf-8")
+    return str(_filled(_OCTETS, room, call, _pointer(data), len(data), *numbers), "utf-8")
 
 
 def is_utf8(data: bytes | memoryview) -> bool:
@@ -192,14 +197,13 @@ def lossy_piece(held: bytes, data: bytes | memoryview) -> tuple[str, bytes]:
     """The text of frozen octets that come after those that are held, and what is held after them. BadState."""
     state = _state_of(held)
     room = lossy_room(len(held) + len(data))
-    out, written = _filled(_OCTETS, room, lib.octseq_lossy_piece, state, _pointer(data), len(data))
-    return str(ffi.buffer(out, written), "utf-8"), bytes(state.octets[0 : state.len])
+    written = _filled(_OCTETS, room, lib.octseq_lossy_piece, state, _pointer(data), len(data))
+    return str(written, "utf-8"), bytes(state.octets[0 : state.len])
 
 
 def lossy_end(held: bytes) -> str:
     """The text of the octets that are held, where none come after them. BadState."""
-    out, written = _filled(_OCTETS, 3, lib.octseq_lossy_end, _state_of(held))
-    return str(ffi.buffer(out, written), "utf-8")
+    return str(_filled(_OCTETS, 3, lib.octseq_lossy_end, _state_of(held)), "utf-8")
 
 
 def lossy_room(size: int) -> int:
@@ -211,27 +215,25 @@ def dns_header(data: bytes) -> Header:
     """The header of a message. Malformed."""
     header = ffi.new(_HEADER)
     _check(lib.octseq_dns_message_header(data, len(data), header))
-    return Header(header.id, header.flags, header.qdcount, header.ancount, header.nscount, header.arcount)
+    return Header._make(_HEADER_NUMBERS.unpack(ffi.buffer(header)))
 
 
 def dns_rows(data: bytes, room: int) -> list[Row]:
     """The questions and the records of a message. `room` is a guess of how many they are. Malformed."""
-    rows = _packed("octseq_dns_row", _ROWS, room, lib.octseq_dns_rows, data, len(data))
+    rows = _filled(_ROWS, room, lib.octseq_dns_rows, data, len(data))
     return list(map(_row, _ROW.iter_unpack(rows)))
 
 
 def dns_query(number: int, flags: int, name: bytes, rtype: int, rclass: int) -> bytes:
     """The query for a name, which is text. Malformed."""
-    out, written = _filled(_OCTETS, 271, lib.octseq_dns_query, number, flags, name, len(name), rtype, rclass)
-    return ffi.buffer(out, written)[:]
+    return _filled(_OCTETS, 271, lib.octseq_dns_query, number, flags, name, len(name), rtype, rclass)
 
 
 def dns_answer(query: bytes, flags: int, source: bytes, rows: Sequence[Row]) -> bytes:
     """The answer to a message, with rows whose places are in `source`. Malformed, BadRow, Immovable, TooLong."""
-    array = ffi.new(_ROWS, rows)
+    array = ffi.new(_ROWS.kind, rows)
     arguments = query, len(query), flags, source, len(source), array, len(array)
-    out, written = _filled(_OCTETS, 65_535, lib.octseq_dns_answer, *arguments)
-    return ffi.buffer(out, written)[:]
+    return _filled(_OCTETS, 65_535, lib.octseq_dns_answer, *arguments)
 
 
 def dns_name_compare(one: bytes, one_place: int, other: bytes, other_place: int) -> int:
@@ -247,11 +249,12 @@ def dns_data_is_typed(data: bytes, row: Row) -> bool:
     return lib.octseq_dns_data_is_typed(data, len(data), *numbers) == 1
 
 
-def dns_data_fields(data: bytes, row: Row, room: int) -> list[FieldRow]:
-    """The fields of the data of a row. `room` is a guess of how many they are. Malformed."""
-    numbers = row.data_at, row.data_len, row.rtype, row.rclass
-    rows = _packed("octseq_dns_field", _FIELDS, room, lib.octseq_dns_data_fields, data, len(data), *numbers)
-    return list(map(_field, _FIELD.iter_unpack(rows)))
+def dns_data_fields(data: bytes, row: Row, room: int) -> Iterator[tuple[int, int, int, int]]:
+    """Of each field of the data of a row the place, the length, the number and the kind, as `octseq_dns_field` has them.
+    `room` is a guess of how many fields there are. Malformed."""
+    _, at, size, _, rtype, rclass, _ = row
+    rows = _filled(_FIELDS, room, lib.octseq_dns_data_fields, data, len(data), at, size, rtype, rclass)
+    return _FIELD.iter_unpack(rows)
 
 
 def dns_message_place(data: bytes) -> tuple[bool, int]:
@@ -269,14 +272,13 @@ def bgp_message_place(data: bytes, session: int) -> int:
 
 def bgp_rows(data: bytes, session: int, room: int) -> list[BgpRow]:
     """The parts of an UPDATE of a session. `room` is a guess of how many they are. Malformed."""
-    rows = _packed("octseq_bgp_row", _BGP_ROWS, room, lib.octseq_bgp_rows, data, len(data), session)
+    rows = _filled(_BGP_ROWS, room, lib.octseq_bgp_rows, data, len(data), session)
     return list(map(_bgp_row, _BGP_ROW.iter_unpack(rows)))
 
 
 def mnemonic(call: Call, number: int) -> str:
     """The mnemonic of a type or a class."""
-    out, written = _filled(_OCTETS, 32, call, number)
-    return str(ffi.buffer(out, written), "utf-8")
+    return str(_filled(_OCTETS, 32, call, number), "utf-8")
 
 
 def number_of(call: Call, name: bytes) -> int:
@@ -290,21 +292,19 @@ def dns_query_edns(query: tuple[int, int, bytes, int, int], payload: int, flags:
     """The query for a name, as `dns_query` takes it, with an OPT record. Malformed, TooLong."""
     number, flags_of_query, name, rtype, rclass = query
     arguments = number, flags_of_query, name, len(name), rtype, rclass, payload, flags, options, len(options)
-    out, written = _filled(_OCTETS, 282 + len(options), lib.octseq_dns_query_edns, *arguments)
-    return ffi.buffer(out, written)[:]
+    return _filled(_OCTETS, 282 + len(options), lib.octseq_dns_query_edns, *arguments)
 
 
 def dns_answer_within(query: bytes, flags: int, source: bytes, rows: Sequence[Row], limit: int) -> bytes:
     """The answer to a message within a limit. Malformed, BadRow, Immovable, TooLong."""
-    array = ffi.new(_ROWS, rows)
+    array = ffi.new(_ROWS.kind, rows)
     arguments = query, len(query), flags, source, len(source), array, len(array), limit
-    out, written = _filled(_OCTETS, limit, lib.octseq_dns_answer_within, *arguments)
-    return ffi.buffer(out, written)[:]
+    return _filled(_OCTETS, limit, lib.octseq_dns_answer_within, *arguments)
 
 
 def bgp_hops(data: bytes, session: int) -> bytes:
     """The AS numbers of an AS path of a session, as `octseq_bgp_hop` has them. Malformed."""
-    return _packed("octseq_bgp_hop", _HOPS, len(data) // 2, lib.octseq_bgp_as_path, data, len(data), session)
+    return _filled(_HOPS, len(data) // 2, lib.octseq_bgp_as_path, data, len(data), session)
 
 
 def mrt_header(data: bytes) -> tuple[int, int, int, int] | None:
@@ -313,18 +313,18 @@ def mrt_header(data: bytes) -> tuple[int, int, int, int] | None:
     header = ffi.new(_MRT_HEADER)
     if lib.octseq_mrt_record_header(data, len(data), header) != lib.OCTSEQ_OK:
         return None
-    return header.len, header.timestamp, header.type_code, header.subtype
+    return _MRT_NUMBERS.unpack(ffi.buffer(header))
 
 
 def mrt_rows(data: bytes, room: int) -> bytes:
     """The parts of a record, as `octseq_mrt_row` has them. `room` is a guess of how many they are. Malformed."""
-    return _packed("octseq_mrt_row", _MRT_ROWS, room, lib.octseq_mrt_rows, data, len(data))
+    return _filled(_MRT_ROWS, room, lib.octseq_mrt_rows, data, len(data))
 
 
 def mrt_attributes(data: bytes, room: int) -> bytes:
     """The attributes of all entries of a RIB, as `octseq_bgp_row` has them. `room` is a guess of how many they are.
     Malformed."""
-    return _packed("octseq_bgp_row", _BGP_ROWS, room, lib.octseq_mrt_attributes, data, len(data))
+    return _filled(_BGP_ROWS, room, lib.octseq_mrt_attributes, data, len(data))
 
 
 def dns_record_from_text(text: str) -> bytes:
@@ -335,10 +335,9 @@ def dns_record_from_text(text: str) -> bytes:
         return lib.octseq_dns_record_from_text(*arguments, offset)
 
     try:
-        out, written = _filled(_OCTETS, len(octets) + 512, call, octets, len(octets))
+        return _filled(_OCTETS, len(octets) + 512, call, octets, len(octets))
     except Malformed:
         raise malformed_in(text, 1, offset[0]) from None
-    return ffi.buffer(out, written)[:]
 
 
 def dns_message_from_text(text: str) -> bytes:
@@ -349,7 +348,6 @@ def dns_message_from_text(text: str) -> bytes:
         return lib.octseq_dns_message_from_text(*arguments, line, offset)
 
     try:
-        out, written = _filled(_OCTETS, 65_535, call, octets, len(octets))
+        return _filled(_OCTETS, 65_535, call, octets, len(octets))
     except Malformed:
         raise malformed_in(text, line[0], offset[0]) from None
-    return ffi.buffer(out, written)[:]

@@ -30,7 +30,7 @@ class Message:
     __slots__ = ("_header", "_octets", "_records", "_rows")
     _header: Header
     _octets: bytes
-    _records: dict[Section, tuple[Record, ...]]
+    _records: list[tuple[Record, ...]] | None
     _rows: list[Row] | None
 
     def __init__(self, data: Buffer) -> None:
@@ -40,7 +40,7 @@ class Message:
             self._header = _calls.dns_header(self._octets)
         except Malformed:
             raise _malformed(self._octets) from None
-        self._records = {}
+        self._records = None
         self._rows = None
 
     @classmethod
@@ -149,9 +149,12 @@ class Message:
         return self._rows
 
     def _in_section(self, section: Section) -> tuple[Record, ...]:
-        if section not in self._records:
-            rows = (row for row in self._entries() if row.section == section)
-            self._records[section] = tuple(Record._of_row(self._octets, row) for row in rows)
+        if self._records is None:
+            records: list[list[Record]] = [[] for _ in range(Section.ADDITIONAL + 1)]
+            for row in self._entries():
+                if row.section:
+                    records[row.section].append(Record._of_row(self._octets, row))
+            self._records = [tuple(found) for found in records]
         return self._records[section]
 
     def to_text(self) -> str:

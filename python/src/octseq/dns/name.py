@@ -34,8 +34,10 @@ class Name:
     labels in small letters.
     """
 
-    __slots__ = ("_wire",)
-    _wire: bytes
+    __slots__ = ("_place", "_source", "_whole")
+    _place: int
+    _source: bytes
+    _whole: bytes | None
 
     def __init__(self, labels: Iterable[bytes]) -> None:
         """The name of these labels, from the first to that of the root, which has no octet.
@@ -46,9 +48,9 @@ class Name:
         labels = tuple(labels)
         if any(len(label) > LONGEST_LABEL for label in labels):
             raise Malformed(f"a label has more than {LONGEST_LABEL} octets")
-        wire = b"".join(bytes([len(label)]) + label for label in labels)
-        self._wire = _calls.octets(LONGEST_WIRE, lib.octseq_dns_name_wire, wire, 0)
-        if self._wire != wire:
+        self._source, self._place = b"".join(bytes([len(label)]) + label for label in labels), 0
+        self._whole = _wire_at(self._source, 0)
+        if self._whole != self._source:
             raise Malformed("a label of no octets isn't the last one")
 
     @classmethod
@@ -60,12 +62,11 @@ class Name:
         more than 63 octets, or the name has more than 255 in wire form.
         """
         octets = ascii_of(text)
-        name = cls.__new__(cls)
         try:
-            name._wire = _calls.octets(LONGEST_WIRE, lib.octseq_dns_name_from_text, octets)
+            wire = _calls.octets(LONGEST_WIRE, lib.octseq_dns_name_from_text, octets)
         except Malformed:
-            name._wire = _wire_of_unended(octets)
-        return name
+            wire = _wire_of_unended(octets)
+        return cls._known(wire, 0, wire)
 
     @classmethod
     def read(cls, data: Buffer, place: int = 0) -> Name:
@@ -76,18 +77,25 @@ class Name:
         octets = _calls.frozen(data)
         if not 0 <= place <= len(octets):
             raise Malformed(f"octets from 0 to {len(octets)} have no place {place}")
-        return cls._at(octets, place)
+        wire = _wire_at(octets, place)
+        return cls._known(wire, 0, wire)
 
     @classmethod
-    def _at(cls, octets: bytes | memoryview, place: int) -> Name:
-        """The name at a place of frozen octets. Malformed."""
+    def _known(cls, octets: bytes, place: int, wire: bytes | None = None) -> Name:
+        """The name that there is at a place of octets. Its wire form is made when it is first asked for."""
         name = cls.__new__(cls)
-        name._wire = _calls.octets(LONGEST_WIRE, lib.octseq_dns_name_wire, octets, place)
+        name._source, name._place, name._whole = octets, place, wire
         return name
+
+    @property
+    def _wire(self) -> bytes:
+        if self._whole is None:
+            self._whole = _wire_at(self._source, self._place)
+        return self._whole
 
     def to_text(self) -> str:
         """The text of the name, with a full stop at its end and the escapes of RFC 1035, 5.1."""
-        return _calls.text(LONGEST_TEXT, lib.octseq_dns_name_text, self._wire, 0)
+        return _calls.text(LONGEST_TEXT, lib.octseq_dns_name_text, self._source, self._place)
 
     def to_wire(self) -> bytes:
         """The wire form of the name, without pointers: at most 255 octets."""
@@ -103,7 +111,7 @@ class Name:
         """The name without its first label. NoParent where it is the root."""
         if self._wire[0] == 0:
             raise NoParent("the root has no parent")
-        return Name._at(self._wire, 1 + self._wire[0])
+        return Name._known(self._wire, 1 + self._wire[0])
 
     def is_subdomain(self, other: Name) -> bool:
         """Whether the name is the other one, or below it."""
@@ -119,7 +127,7 @@ class Name:
         return places
 
     def _compare(self, other: Name) -> int:
-        return _calls.dns_name_compare(self._wire, 0, other._wire, 0)
+        return _calls.dns_name_compare(self._source, self._place, other._source, other._place)
 
     def __eq__(self, other: object) -> bool:
         return self._compare(other) == 0 if isinstance(other, Name) else NotImplemented
@@ -145,6 +153,11 @@ class Name:
 
     def __repr__(self) -> str:
         return f"<Name {self.to_text()}>"
+
+
+def _wire_at(octets: bytes | memoryview, place: int) -> bytes:
+    """The wire form of the name at a place of frozen octets. Malformed."""
+    return _calls.octets(LONGEST_WIRE, lib.octseq_dns_name_wire, octets, place)
 
 
 def _wire_of_unended(octets: bytes) -> bytes:

@@ -7,7 +7,7 @@ from collections.abc import Callable
 from typing import TYPE_CHECKING, Any, NamedTuple, Union
 
 from .. import _calls
-from .._calls import FieldRow, Row, lib
+from .._calls import Row, lib
 from .name import Name
 from .numbers import rdataclass_to_text, rdatatype_to_text
 
@@ -57,6 +57,7 @@ class Field(NamedTuple):
 
 _NUMBER, _NAME, _ADDRESS, _TYPES, _PARAMETER = 0, 1, 2, 5, 6
 _KINDS = tuple(FieldKind)
+_IPV4 = 4
 _field: Callable[[tuple[FieldKind, Value]], Field] = functools.partial(tuple.__new__, Field)
 
 # The names of the fields of each type, as dnspython has them. A name after `*` is that of all fields that are left.
@@ -194,8 +195,11 @@ class Rdata:
         Data that hasn't the form of its type, or whose type isn't known, is one field of octets.
         """
         if self._fields is None:
-            rows = _calls.dns_data_fields(self._source, self._row, _FEW_FIELDS)
-            self._fields = tuple([_field((_KINDS[row.kind], self._value(row))) for row in rows])
+            value_of, rows = self._value, _calls.dns_data_fields(self._source, self._row, _FEW_FIELDS)
+            self._fields = tuple([
+                _field((_KINDS[kind], number if kind == _NUMBER else value_of(kind, at, size, number)))
+                for at, size, number, kind in rows
+            ])
         return self._fields
 
     def to_text(self) -> str:
@@ -211,21 +215,18 @@ class Rdata:
     def _octets(self, at: int, size: int) -> bytes:
         return self._source[at : at + size]
 
-    def _value(self, row: FieldRow) -> Value:
-        """The value of a field."""
-        kind = row.kind
-        if kind == _NUMBER:
-            return row.number
+    def _value(self, kind: int, at: int, size: int, number: int) -> Value:
+        """The value of a field that isn't a number."""
         if kind == _NAME:
-            return Name._at(self._source, row.at)
+            return Name._known(self._source, at)
         if kind == _ADDRESS:
             # (an address is all of the data of its type)
-            return self.to_text()
-        octets = self._octets(row.at, row.len)
+            return "%d.%d.%d.%d" % tuple(self._octets(at, size)) if size == _IPV4 else self.to_text()
+        octets = self._octets(at, size)
         if kind == _TYPES:
             return _types_of(octets)
         if kind == _PARAMETER:
-            return (Option if self._row.rtype == OPT else Parameter)(row.number, octets)
+            return (Option if self._row.rtype == OPT else Parameter)(number, octets)
         return octets
 
     def _has_names(self) -> bool:

@@ -38,7 +38,7 @@ class _Entry:
     def name(self) -> Name:
         """Its name, read when it is first asked for."""
         if self._name is None:
-            self._name = Name._at(self._source, self._row.name_at)
+            self._name = Name._known(self._source, self._row.name_at)
         return self._name
 
     @property
