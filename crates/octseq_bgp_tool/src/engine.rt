@@ -24,25 +24,25 @@ mod tests;
 
 /// The help text of the program.
 const HELP: &str = "\
-octseq_bgp_tool reads BGP messages and MRT records, and shows them as text or writes them anew.
+./bgp reads BGP messages and MRT records, and shows them as text or writes them anew.
 
-usage: octseq_bgp_tool [COMMAND [FILE]]
+usage: ./bgp [COMMAND [FILE]]
 
 It reads the file, or standard input where none is named, or -.
 
 commands, the first where none is named:
   message   shows one BGP message
-            octseq_bgp_tool message FILE
+            ./bgp message FILE
   stream    shows BGP messages, one after another, with an empty line after each
-            octseq_bgp_tool stream,two-octet < FILE
+            ./bgp stream,two-octet < FILE
   rewrite   writes such messages anew: without bits that mean nothing, and no length longer than it has to be; it
             leaves out what is no message
-            octseq_bgp_tool rewrite FILE > OUTPUT
+            ./bgp rewrite FILE > OUTPUT
   mrt       shows MRT records, with an empty line after each
-            octseq_bgp_tool mrt FILE
+            ./bgp mrt FILE
   messages  writes the messages of the MRT records that have one, as a stream; it leaves out what is no message
-            octseq_bgp_tool messages FILE > OUTPUT
-  --help    writes this
+            ./bgp messages FILE > OUTPUT
+  --help    writes this, and so does -h; --version writes the version, the kit and the licence
 
 message, stream and rewrite may be followed by these words, in this order, each after a comma:
   two-octet  AS numbers have two octets
@@ -60,6 +60,9 @@ status:
   3  there was not enough memory
   4  a read or a write failed
 ";
+
+/// The end of the line about an unknown word.
+const USAGE: &str = "usage: ./bgp [COMMAND [FILE]]; ./bgp --help lists the commands\n";
 
 /// The commands of the program.
 #[derive(Clone, Copy, Debug, PartialEq, Eq)]
@@ -102,13 +105,13 @@ fn after<'a>(word: &'a str, front: &str) -> Option<&'a str>
 }
 
 impl Commands for Command {
-    ghost use Rattle.octseq_bgp_tool.specs.declared.engine.TheConstants.{HELP};
+    ghost use Rattle.octseq_bgp_tool.specs.declared.engine.TheConstants.{HELP, USAGE};
 
     ghost name_of = { name_of };
 
     ghost default_word = { codes "message" };
 
-    ghost help = { HELP.now };
+    ghost said = { record { help = HELP.now; usage = USAGE.now } };
 
     ghost out = { Out };
 
@@ -137,6 +140,10 @@ impl Commands for Command {
 
     fn help() -> &'static str {
         HELP
+    }
+
+    fn usage() -> &'static str {
+        USAGE
     }
 
     fn carry_out<R: Read, W: Write, E: Write>(

@@ -2,10 +2,10 @@
 use Rattle.std.specs.Fmt.{debug_str}
 use Rattle.std.specs.Io.KnownBytes.{Appends}
 use Rattle.std.specs.declared.io.Error.{Error}
-use Rattle.std.specs.Prelude.{◌≡◌, ⊤, ℕ, List, ◌++◌, codes, Bool, Option, Some, None, IfSome}
+use Rattle.std.specs.Prelude.{◌≡◌, ⊤, ℕ, List, [], ◌++◌, codes, Bool, true, false, Option, Some, None, IfSome}
 use Rattle.octseq_cli.specs.Run.{IsPart}
 use Rattle.octseq_cli.specs.declared.report.Failure.{Failure}
-use Rattle.octseq_cli.specs.declared.report.Failure.TheVariants.{Memory, Open, Read, Write, Note}
+use Rattle.octseq_cli.specs.declared.report.Failure.TheVariants.{Memory, Open, Read, Write, Closed, Note}
 use Rattle.octseq_cli.specs.declared.status.ProgramFault.{ProgramFault}
 use Rattle.octseq_cli.specs.declared.status.ProgramFault.TheVariants as faults
 
@@ -21,12 +21,13 @@ IsReasoned action path (Some error) line = (source : List ℕ) × (reason : List
 IsReasoned action path None line = (source : List ℕ) × IsSource path source
     × (line ≡ codes "cannot " ++ action ++ codes " " ++ source ++ codes "\n")
 
--- the line of a failure, by the path of the input
+-- the line of a failure, by the path of the input; none of a pipe that its reader closed
 abbrev pub IsLine : Failure → Option (List ℕ) → List ℕ → Type 0
 IsLine Memory path line = line ≡ codes "out of memory\n"
 IsLine (Open error) path line = IsReasoned (codes "open") path (Some error) line
 IsLine (Read reason) path line = IsReasoned (codes "read") path reason line
 IsLine Write path line = line ≡ codes "cannot write the output\n"
+IsLine Closed path line = line ≡ []
 IsLine Note path line = line ≡ codes "cannot write to standard error\n"
 
 -- the fault of a failure
@@ -35,14 +36,16 @@ fault_of Memory = faults.Memory
 fault_of (Open error) = faults.Read
 fault_of (Read reason) = faults.Read
 fault_of Write = faults.Write
+fault_of Closed = faults.Write
 fault_of Note = faults.Note
 
--- the failure of a fault, with the error of the last read that failed
-abbrev pub failure_of : ProgramFault → Option Error → Failure
-failure_of faults.Memory error = Memory
-failure_of faults.Read error = Read error
-failure_of faults.Write error = Write
-failure_of faults.Note error = Note
+-- the failure of a fault, with the error of the last read that failed, and whether the output's reader closed its pipe
+abbrev pub failure_of : ProgramFault → Option Error → Bool → Failure
+failure_of faults.Memory error is_closed = Memory
+failure_of faults.Read error is_closed = Read error
+failure_of faults.Write error true = Closed
+failure_of faults.Write error false = Write
+failure_of faults.Note error is_closed = Note
 
 -- the line has the text of a reason, for which memory is requested
 abbrev pub HasReason : Failure → Type 0

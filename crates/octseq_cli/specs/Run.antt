@@ -1,9 +1,10 @@
 -- A run of a program: what a word asks for, what is made of the whole input, and what is written.
-use Rattle.std.specs.Prelude.{◌≡◌, ℕ, List, [], ◌++◌, codes, Bool, true, false, IsTrue, Option, Some, None, IfSome}
+use Rattle.std.specs.Prelude.{◌≡◌, ◌⊎◌, ℕ, List, [], ◌++◌, codes, Bool, true, false, IsTrue, Option, Some, None, IfSome}
 use Rattle.std.specs.Io.KnownBytes.{Appends, Consumes, IsAtEnd}
 use Rattle.octseq.specs.Parts.{IsFront}
 use Rattle.octseq_cli.specs.declared.request.Asked.{Asked}
-use Rattle.octseq_cli.specs.declared.request.Asked.TheVariants.{Command, Help, Unknown}
+use Rattle.octseq_cli.specs.declared.request.Asked.TheVariants.{Command, Help, Version, Unknown}
+use Rattle.octseq_cli.specs.declared.engine.TheConstants.{VERSION}
 use Rattle.octseq_cli.specs.declared.status.Status.{Status}
 use Rattle.octseq_cli.specs.declared.status.Status.TheVariants.{Fine, Usage}
 
@@ -16,19 +17,42 @@ abbrev pub IsNamed : {C : Type 0} → (C → List ℕ) → List ℕ → Option C
 IsNamed name_of word (Some command) = word ≡ name_of command
 IsNamed name_of word None = ¬ IsCommand name_of word
 
--- what the word asks for: a command, or help, or nothing that is known
+-- the words for help, and that for the version
+abbrev pub IsHelpWord : List ℕ → Type 0
+IsHelpWord word = (word ≡ codes "--help") ⊎ (word ≡ codes "-h")
+
+abbrev pub IsVersionWord : List ℕ → Type 0
+IsVersionWord word = word ≡ codes "--version"
+
+-- the words that no other word may follow
+abbrev pub StandsAlone : List ℕ → Type 0
+StandsAlone word = IsHelpWord word ⊎ IsVersionWord word
+
+-- what the word asks for: a command, or help, or the version, or nothing that is known
 abbrev pub IsAsked : {C : Type 0} → (C → List ℕ) → List ℕ → Asked C → Type 0
 IsAsked name_of word (Command command) = word ≡ name_of command
-IsAsked name_of word Help = ¬ IsCommand name_of word × (word ≡ codes "--help")
-IsAsked name_of word Unknown = ¬ IsCommand name_of word × ¬ (word ≡ codes "--help")
+IsAsked name_of word Help = ¬ IsCommand name_of word × IsHelpWord word
+IsAsked name_of word Version = ¬ IsCommand name_of word × IsVersionWord word
+IsAsked name_of word Unknown = ¬ IsCommand name_of word × ¬ StandsAlone word
+
+-- What a program says of itself: its help text, and the end of the line about an unknown word, which says how it is used.
+pub record Said : Type 0 where
+  pub help : List ℕ
+  pub usage : List ℕ
+
+-- the line about an unknown word
+abbrev pub unknown_line : List ℕ → List ℕ → List ℕ
+unknown_line usage word = codes "no command '" ++ (word ++ (codes "'; " ++ usage))
 
 -- what is written, on standard output and on standard error, and how the program ends: `out` of a command and its
--- input, or the help text, on standard error if the word is unknown
-abbrev pub Writes : {C : Type 0} → (C → List ℕ → List ℕ → List ℕ → Status → Type 0) → List ℕ → Asked C
+-- input, or the help text, or the version, or the line about an unknown word
+abbrev pub Writes : {C : Type 0} → (C → List ℕ → List ℕ → List ℕ → Status → Type 0) → Said → List ℕ → Asked C
     → List ℕ → List ℕ → List ℕ → Status → Type 0
-Writes out help (Command command) input output errors status = out command input output errors status
-Writes out help Help input output errors status = (output ≡ help) × (errors ≡ []) × (status ≡ Fine)
-Writes out help Unknown input output errors status = (output ≡ []) × (errors ≡ help) × (status ≡ Usage)
+Writes out said word (Command command) input output errors status = out command input output errors status
+Writes out said word Help input output errors status = (output ≡ said.help) × (errors ≡ []) × (status ≡ Fine)
+Writes out said word Version input output errors status = (output ≡ VERSION.now) × (errors ≡ []) × (status ≡ Fine)
+Writes out said word Unknown input output errors status =
+    (output ≡ []) × (errors ≡ unknown_line said.usage word) × (status ≡ Usage)
 
 -- A complete run: what the reader had left, and what the two writers held before and after. The known octets of the
 -- reader are the whole input.
@@ -78,17 +102,17 @@ pub record Unnoted (out : List ℕ → List ℕ → List ℕ → Status → Type
   pub noted : Appends noted_before noted_after part
 
 -- A complete run for a word.
-pub record Ran {C : Type 0} (name_of : C → List ℕ) (help : List ℕ)
+pub record Ran {C : Type 0} (name_of : C → List ℕ) (said : Said)
     (out : C → List ℕ → List ℕ → List ℕ → Status → Type 0) (word : List ℕ)
     (given before after noted_before noted_after : Option (List ℕ)) (status : Status) : Type 0 where
   pub asked : Asked C
   pub is_asked : IsAsked name_of word asked
-  pub answers : Answers (Writes out help asked) given before after noted_before noted_after status
+  pub answers : Answers (Writes out said word asked) given before after noted_before noted_after status
 
 -- A run for a word, which failed.
-pub record Broke {C : Type 0} (name_of : C → List ℕ) (help : List ℕ)
+pub record Broke {C : Type 0} (name_of : C → List ℕ) (said : Said)
     (out : C → List ℕ → List ℕ → List ℕ → Status → Type 0) (word : List ℕ)
     (given left before after noted_before noted_after : Option (List ℕ)) : Type 0 where
   pub asked : Asked C
   pub is_asked : IsAsked name_of word asked
-  pub breaks_off : BreaksOff (Writes out help asked) given left before after noted_before noted_after
+  pub breaks_off : BreaksOff (Writes out said word asked) given left before after noted_before noted_after

@@ -3,7 +3,7 @@ ghost use Rattle.std.specs.Prelude.{◌≡◌, ◌++◌, ℕ, List, [], codes, B
 ghost use Rattle.std.specs.Prelude.{Option, Err, IfOk, IfErr, OnOk, OnErr};
 ghost use Rattle.std.specs.Io.KnownBytes.{Appends, IsAtEnd};
 ghost use Rattle.octseq.specs.Parts.{IsFront};
-ghost use Rattle.octseq_cli.specs.Run.{IsAsked, IsCommand, IsNamed, Writes};
+ghost use Rattle.octseq_cli.specs.Run.{IsAsked, IsCommand, IsNamed, Said, Writes, unknown_line};
 ghost use Rattle.octseq_cli.specs.Run.{Answers, BreaksOff, Ran, Broke, Unnoted};
 ghost use Rattle.octseq_cli.specs.declared.status.Status.{Status};
 
@@ -13,15 +13,18 @@ use crate::streams::write_all;
 use std::alloc::Global;
 use std::io::{Read, Write};
 
+/// The version of the programs, the kit that proves them, and their licence.
+const VERSION: &str = "octseq 0.1.0, proved with rattle-kit-13f, BSD 3-Clause License\n";
+
 /// The commands of a program. `name_of` is the name of a command, `default_word` the word of a program without
-/// arguments, `help` the help text, and `out` what is written for a command and an input, on standard output and on
-/// standard error, and how the program ends.
+/// arguments, `said` what it says of itself, and `out` what is written for a command and an input, on standard output
+/// and on standard error, and how the program ends.
 pub trait Commands: Copy {
     ghost name_of: { Self → List ℕ };
 
     ghost default_word: { List ℕ };
 
-    ghost help: { List ℕ };
+    ghost said: { Said };
 
     ghost out: { Self → List ℕ → List ℕ → List ℕ → Status → Type 0 };
 
@@ -38,7 +41,11 @@ pub trait Commands: Copy {
 
     /// Returns the help text: what the program does, its commands, an example of each, and the statuses.
     fn help() -> &'static str
-        ensures { result.now ≡ help };
+        ensures { result.now ≡ said.help };
+
+    /// Returns how the program is used, and where the help text is: the end of the line about an unknown word.
+    fn usage() -> &'static str
+        ensures { result.now ≡ said.usage };
 
     /// Writes what a command makes of all that the reader has left. It may write while it reads: if it fails, what it
     /// wrote is a front of what it writes for every input that begins with what it read.
@@ -64,8 +71,26 @@ pub trait Commands: Copy {
             (E.contents errors.old) (E.contents errors.new) };
 }
 
-/// Does what the word asks for: runs a command on all that the reader has left, or writes the help text, on standard
-/// error if the word is unknown.
+/// Writes the line about an unknown word.
+///
+/// # Errors
+///
+/// `Write` if a write failed.
+fn write_unknown<W: Write>(writer: &mut W, word: &str, usage: &str) -> Result<(), ProgramFault>
+    ensures ok { OnOk result (Appends (W.contents writer.old) (W.contents writer.new)
+        (unknown_line usage.now word.now)) }
+    ensures err { IfErr result (λ fault. fault ≡ ProgramFault.Write) }
+    ensures front { (front : List ℕ) × IsFront front (unknown_line usage.now word.now)
+        × Appends (W.contents writer.old) (W.contents writer.new) front }
+{
+    write_all(writer, b"no command '")?;
+    write_all(writer, word.as_bytes())?;
+    write_all(writer, b"'; ")?;
+    write_all(writer, usage.as_bytes())
+}
+
+/// Does what the word asks for: runs a command on all that the reader has left, or writes the help text or the version,
+/// or on standard error a line about an unknown word.
 ///
 /// # Errors
 ///
@@ -79,18 +104,18 @@ pub fn engine<C: Commands, R: Read, W: Write, E: Write>(
     errors: &mut E,
 ) -> Result<Status, ProgramFault>
     // What was written, and how the program ended, are what the word makes of the whole input.
-    ensures ran { IfOk result (Ran C.name_of C.help C.out word.now (R.remaining reader.old)
+    ensures ran { IfOk result (Ran C.name_of C.said C.out word.now (R.remaining reader.old)
         (W.contents writer.old) (W.contents writer.new) (E.contents errors.old) (E.contents errors.new)) }
     ensures end { OnOk result (IsCommand C.name_of word.now → IsAtEnd (R.remaining reader.new)) }
 
     // After a failure, what was written is a front of that.
-    ensures broke { OnErr result (Broke C.name_of C.help C.out word.now (R.remaining reader.old)
+    ensures broke { OnErr result (Broke C.name_of C.said C.out word.now (R.remaining reader.old)
         (R.remaining reader.new) (W.contents writer.old) (W.contents writer.new)
         (E.contents errors.old) (E.contents errors.new)) }
 
     // If only notes couldn't be written, the whole output was.
     ensures unnoted { IsTrue C.has_notes → result ≡ Err ProgramFault.Note → (asked : Asked C)
-        × IsAsked C.name_of word.now asked × Unnoted (Writes C.out C.help asked) (R.remaining reader.old)
+        × IsAsked C.name_of word.now asked × Unnoted (Writes C.out C.said word.now asked) (R.remaining reader.old)
         (R.remaining reader.new) (W.contents writer.old) (W.contents writer.new) (E.contents errors.old)
         (E.contents errors.new) }
 
@@ -104,8 +129,12 @@ pub fn engine<C: Commands, R: Read, W: Write, E: Write>(
             write_all(writer, C::help().as_bytes())?;
             Ok(Status::Fine)
         }
+        Asked::Version => {
+            write_all(writer, VERSION.as_bytes())?;
+            Ok(Status::Fine)
+        }
         Asked::Unknown => {
-            write_all(errors, C::help().as_bytes())?;
+            write_unknown(errors, word, C::usage())?;
             Ok(Status::Usage)
         }
     }

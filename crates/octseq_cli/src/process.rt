@@ -1,5 +1,6 @@
 //! A program on the standard streams, or on a file.
-ghost use Rattle.std.specs.Prelude.{◌≡◌, ℕ, List, None, Result, IfOk};
+ghost use Rattle.std.specs.IoError.{error_kind};
+ghost use Rattle.std.specs.Prelude.{◌≡◌, ◌↔◌, ℕ, List, None, Result, IfOk, IsSomeAnd, IsTrue};
 ghost use Rattle.std.specs.Process.{exit_status};
 ghost use Rattle.octseq_cli.specs.Report.{failure_of};
 ghost use Rattle.octseq_cli.specs.Run.{Ran};
@@ -50,15 +51,27 @@ fn give_up(rt: &HostRuntime, failure: Failure, path: Option<&str>) -> ExitCode
     exit_code(Err(report(rt.alloc(), &mut rt.stderr(), failure, path)))
 }
 
-/// Returns what failed if a program ended with this fault, and with this error of its last failed read.
-fn failure_of(fault: ProgramFault, error: Option<Error>) -> Failure
-    ensures { result ≡ failure_of fault error }
+/// Returns what failed if a program ended with this fault, with this error of its last failed read, and its output to a
+/// pipe that is closed, or not.
+fn failure_of(fault: ProgramFault, error: Option<Error>, is_closed: bool) -> Failure
+    ensures { result ≡ failure_of fault error is_closed }
 {
     match fault {
         ProgramFault::Memory => Failure::Memory,
         ProgramFault::Read => Failure::Read(error),
+        ProgramFault::Write if is_closed => Failure::Closed,
         ProgramFault::Write => Failure::Write,
         ProgramFault::Note => Failure::Note,
+    }
+}
+
+/// Reports whether this error of a write says that the reader of a pipe closed it.
+fn is_closed_pipe(error: Option<Error>) -> bool
+    ensures { IsTrue result ↔ IsSomeAnd error (λ e. error_kind e ≡ ErrorKind.BrokenPipe) }
+{
+    match error {
+        Some(error) => error.kind() == ErrorKind::BrokenPipe,
+        None => false,
     }
 }
 
@@ -70,28 +83,28 @@ fn run_on<C: Commands, R: Read + Drop>(
     path: Option<&str>,
 ) -> ExitCode
     ensures { (ended : Result Status ProgramFault) × (exit_status result ≡ status_of ended)
-        × IfOk ended (Ran C.name_of C.help C.out word.now None None None None None) }
+        × IfOk ended (Ran C.name_of C.said C.out word.now None None None None None) }
 {
     let mut reader = match BufReader::new(rt.alloc(), Watched::new(reader)) {
         Ok(reader) => reader,
         Err(_) => return give_up(rt, Failure::Memory, path),
     };
-    match engine::<C, _, _, _>(
-        rt.alloc(),
-        word,
-        &mut reader,
-        &mut rt.stdout(),
-        &mut rt.stderr(),
-    ) {
+    let mut output = Watched::new(rt.stdout());
+    let ended = engine::<C, _, _, _>(rt.alloc(), word, &mut reader, &mut output, &mut rt.stderr());
+    match ended {
         Ok(status) => exit_code(Ok(status)),
-        Err(fault) => give_up(rt, failure_of(fault, reader.get_ref().error), path),
+        Err(fault) => {
+            let is_closed = is_closed_pipe(output.error);
+            let failure = failure_of(fault, reader.get_ref().error, is_closed);
+            give_up(rt, failure, path)
+        }
     }
 }
 
 /// Does what the word asks for on the standard streams, with a file as the input.
 fn run_on_file<C: Commands>(rt: &HostRuntime, word: &str, path: &str) -> ExitCode
     ensures { (ended : Result Status ProgramFault) × (exit_status result ≡ status_of ended)
-        × IfOk ended (Ran C.name_of C.help C.out word.now None None None None None) }
+        × IfOk ended (Ran C.name_of C.said C.out word.now None None None None None) }
 {
     match File::open(rt, path) {
         Ok(file) => run_on::<C, _>(rt, word, file, Some(path)),
@@ -102,15 +115,19 @@ fn run_on_file<C: Commands>(rt: &HostRuntime, word: &str, path: &str) -> ExitCod
     }
 }
 
-/// Does what a word that isn't a command asks for on the standard streams: writes the help text. No input is read.
+/// Does what a word that isn't a command asks for on the standard streams. No input is read.
 fn run_on_nothing<C: Commands>(rt: &HostRuntime, word: &str) -> ExitCode
     ensures { (ended : Result Status ProgramFault) × (exit_status result ≡ status_of ended)
-        × IfOk ended (Ran C.name_of C.help C.out word.now None None None None None) }
+        × IfOk ended (Ran C.name_of C.said C.out word.now None None None None None) }
 {
-    let (output, errors) = (&mut rt.stdout(), &mut rt.stderr());
-    match engine::<C, _, _, _>(rt.alloc(), word, &mut rt.stdin(), output, errors) {
+    let mut output = Watched::new(rt.stdout());
+    let errors = &mut rt.stderr();
+    match engine::<C, _, _, _>(rt.alloc(), word, &mut rt.stdin(), &mut output, errors) {
         Ok(status) => exit_code(Ok(status)),
-        Err(fault) => give_up(rt, failure_of(fault, None), None),
+        Err(fault) => {
+            let failure = failure_of(fault, None, is_closed_pipe(output.error));
+            give_up(rt, failure, None)
+        }
     }
 }
 
@@ -118,7 +135,7 @@ fn run_on_nothing<C: Commands>(rt: &HostRuntime, word: &str) -> ExitCode
 /// there is none. The status is that of a run on some input, as no contract can say what these contain.
 pub fn run<C: Commands>(rt: &HostRuntime, word: &str, path: Option<&str>) -> ExitCode
     ensures { (ended : Result Status ProgramFault) × (exit_status result ≡ status_of ended)
-        × IfOk ended (Ran C.name_of C.help C.out word.now None None None None None) }
+        × IfOk ended (Ran C.name_of C.said C.out word.now None None None None None) }
 {
     match (asked_for::<C>(word), path) {
         (Asked::Command(_), Some(path)) => run_on_file::<C>(rt, word, path),
@@ -132,7 +149,7 @@ pub fn run<C: Commands>(rt: &HostRuntime, word: &str, path: Option<&str>) -> Exi
 /// as no contract can say what the arguments, a file and standard input contain.
 pub fn start<C: Commands>(rt: &HostRuntime) -> ExitCode
     ensures { (word : List ℕ) × (ended : Result Status ProgramFault) × (exit_status result ≡ status_of ended)
-        × IfOk ended (Ran C.name_of C.help C.out word None None None None None) }
+        × IfOk ended (Ran C.name_of C.said C.out word None None None None None) }
 {
     match arguments(rt) {
         Ok(args) => run::<C>(rt, command_word::<C>(&args), input_path(&args)),

@@ -19,6 +19,8 @@ pub enum Failure {
     Read(Option<Error>),
     /// A write of the output.
     Write,
+    /// A write of the output to a pipe that its reader closed. Whoever closed it knows, so no line tells.
+    Closed,
     /// A write of a note on standard error.
     Note,
 }
@@ -31,7 +33,7 @@ impl Failure {
         match self {
             Failure::Memory => ProgramFault::Memory,
             Failure::Open(_) | Failure::Read(_) => ProgramFault::Read,
-            Failure::Write => ProgramFault::Write,
+            Failure::Write | Failure::Closed => ProgramFault::Write,
             Failure::Note => ProgramFault::Note,
         }
     }
@@ -75,8 +77,8 @@ fn reasoned(
     }
 }
 
-/// Writes the line that says what failed: with the path if there is a file, and the system's reason if it is known.
-/// Returns whether all of it was written; otherwise a front of it was.
+/// Writes the line that says what failed, if one does: with the path if there is a file, and the system's reason if it is
+/// known. Returns whether all of it was written; otherwise a front of it was.
 ///
 /// # Errors
 ///
@@ -94,6 +96,7 @@ pub fn tell<E: Write>(
     match failure {
         Failure::Memory => Ok(write_whole(errors, b"out of memory\n")),
         Failure::Write => Ok(write_whole(errors, b"cannot write the output\n")),
+        Failure::Closed => Ok(true),
         Failure::Note => Ok(write_whole(errors, b"cannot write to standard error\n")),
         Failure::Open(reason) => {
             let line = reasoned(alloc, "open", path, Some(reason))?;

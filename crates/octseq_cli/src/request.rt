@@ -1,11 +1,14 @@
 //! What a program is asked to do.
 ghost use Rattle.std.specs.Prelude.{◌≡◌, ℕ, ◌<◌, ◌≤◌, ◌∷◌, [], length, map, codes, string_bytes, List, None, IsSomeAnd};
-ghost use Rattle.octseq_cli.specs.Run.{IsAsked};
+ghost use Rattle.octseq_cli.specs.Run.{IsAsked, StandsAlone};
 
 use crate::engine::Commands;
 
-/// The word for help.
-const HELP_WORD: &str = "--help";
+/// The words for help.
+const HELP_WORDS: (&str, &str) = ("--help", "-h");
+
+/// The word for the version.
+const VERSION_WORD: &str = "--version";
 
 /// The path that is standard input.
 const STANDARD_INPUT: &str = "-";
@@ -17,6 +20,8 @@ pub enum Asked<C> {
     Command(C),
     /// Write the help text.
     Help,
+    /// Write the version.
+    Version,
     /// The word is unknown.
     Unknown,
 }
@@ -27,37 +32,42 @@ pub fn asked_for<C: Commands>(word: &str) -> Asked<C>
 {
     match C::named(word) {
         Some(command) => Asked::Command(command),
-        None if word == HELP_WORD => Asked::Help,
+        None if word == HELP_WORDS.0 || word == HELP_WORDS.1 => Asked::Help,
+        None if word == VERSION_WORD => Asked::Version,
         None => Asked::Unknown,
     }
 }
 
 /// Returns the word for the command: the program's first argument after its own name, or the default word if there is
-/// none. The word for help must be alone. If there are more words than a command and a file, or a second word after
-/// that for help, this is the empty word.
+/// none. A word for help or the version must be alone. If there are more words than a command and a file, or a second
+/// word after one that must be alone, this is the empty word.
 pub fn command_word<C: Commands>(args: &[String]) -> &str
     ensures none { length args.now ≤ 1 → result.now ≡ C.default_word }
     ensures one { (name word : List ℕ) → map string_bytes args.now ≡ name ∷ word ∷ [] → result.now ≡ word }
     ensures file { (name word path : List ℕ) → map string_bytes args.now ≡ name ∷ word ∷ path ∷ []
-        → ¬ (word ≡ codes "--help") → result.now ≡ word }
-    ensures help { (name path : List ℕ) → map string_bytes args.now ≡ name ∷ codes "--help" ∷ path ∷ []
-        → result.now ≡ [] }
+        → ¬ StandsAlone word → result.now ≡ word }
+    ensures alone { (name word path : List ℕ) → map string_bytes args.now ≡ name ∷ word ∷ path ∷ []
+        → StandsAlone word → result.now ≡ [] }
     ensures more { 3 < length args.now → result.now ≡ [] }
 {
     match args {
         [] | [_] => C::default_word(),
         [_, word] => word.as_str(),
-        [_, word, _] => unless_help(word.as_str()),
+        [_, word, _] => unless_alone(word.as_str()),
         _ => "",
     }
 }
 
-/// Returns the word, or the empty word for the word for help.
-fn unless_help(word: &str) -> &str
-    ensures other { ¬ (word.now ≡ codes "--help") → result.now ≡ word.now }
-    ensures help { word.now ≡ codes "--help" → result.now ≡ [] }
+/// Returns the word, or the empty word for one that must be alone.
+fn unless_alone(word: &str) -> &str
+    ensures other { ¬ StandsAlone word.now → result.now ≡ word.now }
+    ensures alone { StandsAlone word.now → result.now ≡ [] }
 {
-    if word == HELP_WORD { "" } else { word }
+    if word == HELP_WORDS.0 || word == HELP_WORDS.1 || word == VERSION_WORD {
+        ""
+    } else {
+        word
+    }
 }
 
 /// Returns the path of the file to read in place of standard input: the program's second argument after its own name,

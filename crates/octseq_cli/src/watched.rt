@@ -1,21 +1,21 @@
-//! A reader that keeps the reason why it failed.
+//! A reader or a writer that keeps the reason why it failed.
 ghost use Rattle.std.specs.Prelude.{◌≡◌, None, Some, Option, IfErr};
-ghost use Rattle.std.specs.Io.{ReadsAtMost};
-ghost use Rattle.std.specs.Io.KnownBytes.{ReadConsumes};
+ghost use Rattle.std.specs.Io.{ReadsAtMost, WritesAtMost};
+ghost use Rattle.std.specs.Io.KnownBytes.{Keeps, ReadConsumes, WriteAppends};
 
-use std::io::{self, Error, Read};
+use std::io::{self, Error, Read, Write};
 
-/// A reader, and the error of its last read that failed.
+/// A reader or a writer, and the error of its last read, write or flush that failed.
 #[derive(Drop)]
 pub struct Watched<R> {
-    /// The reader.
+    /// The reader or the writer.
     pub inner: R,
-    /// The error of its last read that failed.
+    /// The error of what failed last.
     pub error: Option<Error>,
 }
 
 impl<R> Watched<R> {
-    /// Watches a reader.
+    /// Watches a reader or a writer.
     pub fn new(inner: R) -> Watched<R>
         ensures inner { result.inner ≡ inner }
         ensures error { result.error ≡ None }
@@ -37,5 +37,32 @@ impl<R: Read> Read for Watched<R> {
             self.error = Some(*error);
         }
         read
+    }
+}
+
+impl<W: Write> Write for Watched<W> {
+    ghost contents = { λ it. W.contents it.inner };
+
+    fn write(&mut self, buf: &[u8]) -> io::Result<usize>
+        ensures bound { WritesAtMost result buf.now }
+        ensures bytes { WriteAppends (W.contents self.old.inner) (W.contents self.new.inner) result buf.now }
+        ensures reason { IfErr result (λ e. self.new.error ≡ Some e) }
+    {
+        let written = self.inner.write(buf);
+        if let Err(error) = &written {
+            self.error = Some(*error);
+        }
+        written
+    }
+
+    fn flush(&mut self) -> io::Result<()>
+        ensures bytes { Keeps (W.contents self.old.inner) (W.contents self.new.inner) }
+        ensures reason { IfErr result (λ e. self.new.error ≡ Some e) }
+    {
+        let flushed = self.inner.flush();
+        if let Err(error) = &flushed {
+            self.error = Some(*error);
+        }
+        flushed
     }
 }

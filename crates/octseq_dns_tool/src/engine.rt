@@ -21,25 +21,25 @@ mod tests;
 
 /// The help text of the program.
 const HELP: &str = "\
-octseq_dns_tool reads DNS messages, and shows them as text or writes them anew; it composes them of their text, too.
+./dns reads DNS messages, and shows them as text or writes them anew; it composes them of their text, too.
 
-usage: octseq_dns_tool [COMMAND [FILE]]
+usage: ./dns [COMMAND [FILE]]
 
 It reads the file, or standard input where none is named, or -.
 
 commands, the first where none is named:
   message  shows one message
-           octseq_dns_tool message FILE
+           ./dns message FILE
   stream   shows messages, each after its length in 2 octets, with an empty line after each
-           octseq_dns_tool stream < FILE
+           ./dns stream < FILE
   rewrite  writes such messages anew, with their names compressed; it leaves out what is no message, what can't be
            moved and what takes more than 65,535 octets
-           octseq_dns_tool rewrite FILE > OUTPUT
+           ./dns rewrite FILE > OUTPUT
   compose  composes messages of texts, as stream shows them, as a stream, with their names compressed; it leaves out
            what is the text of no message, and what takes more than 65,535 octets; one or more empty lines are between
            two texts, and a line feed has to end each line
-           octseq_dns_tool compose TEXTS > OUTPUT
-  --help   writes this
+           ./dns compose TEXTS > OUTPUT
+  --help   writes this, and so does -h; --version writes the version, the kit and the licence
 
 Of what is malformed or left out, standard error has a line with the number of the message and the place where reading
 stopped, in a text the line and the octet in it, or the reason. If such a line can't be written, none follows, the
@@ -52,6 +52,9 @@ status:
   3  there was not enough memory
   4  a read or a write failed
 ";
+
+/// The end of the line about an unknown word.
+const USAGE: &str = "usage: ./dns [COMMAND [FILE]]; ./dns --help lists the commands\n";
 
 /// The commands of the program.
 #[derive(Clone, Copy, Debug, PartialEq, Eq)]
@@ -82,13 +85,13 @@ pub fn one_answer()
 }
 
 impl Commands for Command {
-    ghost use Rattle.octseq_dns_tool.specs.declared.engine.TheConstants.{HELP};
+    ghost use Rattle.octseq_dns_tool.specs.declared.engine.TheConstants.{HELP, USAGE};
 
     ghost name_of = { name_of };
 
     ghost default_word = { codes "message" };
 
-    ghost help = { HELP.now };
+    ghost said = { record { help = HELP.now; usage = USAGE.now } };
 
     ghost out = { Out };
 
@@ -110,6 +113,10 @@ impl Commands for Command {
 
     fn help() -> &'static str {
         HELP
+    }
+
+    fn usage() -> &'static str {
+        USAGE
     }
 
     fn carry_out<R: Read, W: Write, E: Write>(

@@ -146,13 +146,28 @@ fn help_tells_commands_and_statuses(rt: HostRuntime) {
 
 #[test]
 fn another_word_is_reported_on_standard_error(rt: HostRuntime) {
-    let (_, help, _) = reported(rt.alloc(), "--help", b"a", 0);
-    for word in ["", "mesage", "Stream", "-help"] {
+    for word in ["", "mesage", "Stream", "-help", "--Version"] {
         let (answer, written, errors) = reported(rt.alloc(), word, b"a", 0);
         assert_equal!(&rt, answer, Ok(Status::Usage));
         assert_true!(&rt, written.is_empty());
-        assert_equal!(&rt, errors.as_slice(), help.as_slice());
+        let usage = "usage: ./dns [COMMAND [FILE]]; ./dns --help lists the commands";
+        let line = format!(in rt.alloc(); "no command '{word}'; {usage}\n");
+        assert_equal!(&rt, errors.as_slice(), unwrap(&rt, line).as_bytes());
     }
+}
+
+#[test]
+fn short_help_and_the_version(rt: HostRuntime) {
+    let (_, help, _) = reported(rt.alloc(), "--help", b"a", 0);
+    let (answer, written, errors) = reported(rt.alloc(), "-h", b"a", 0);
+    assert_equal!(&rt, answer, Ok(Status::Fine));
+    assert_equal!(&rt, written.as_slice(), help.as_slice());
+    assert_true!(&rt, errors.is_empty());
+    let (answer, written, errors) = reported(rt.alloc(), "--version", b"a", 0);
+    assert_equal!(&rt, answer, Ok(Status::Fine));
+    let version = b"octseq 0.1.0, proved with rattle-kit-13f, BSD 3-Clause License\n";
+    assert_equal!(&rt, written.as_slice(), version.as_slice());
+    assert_true!(&rt, errors.is_empty());
 }
 
 #[test]
