@@ -7,11 +7,14 @@
 //!   overlaps no other argument. The pointer of an empty slice is not NULL, and isn't read.
 //! - No slice has more than `isize::MAX` octets, all of its items together, and that is `PTRDIFF_MAX`.
 //! - A reference to one thing is a pointer to it, and isn't NULL.
+//! - The two calls that read text request memory by the program's malloc, realloc and free. Code that puts others in
+//!   the place of these is `unsafe`, and so is code that runs in a signal handler, or in the forked child of a process
+//!   with threads: it answers for what these functions do, and for what it calls.
 //!
 //! `usize` is `size_t` on each target that the library is built for.
 
-use crate::bgp;
 use crate::dns::{Class, Edns, FieldRow, Header, Row, Rtype};
+use crate::{bgp, mrt};
 use core::mem::{align_of, offset_of, size_of};
 
 /// `OCTSEQ_OK`.
@@ -26,6 +29,8 @@ pub const IMMOVABLE: u32 = 4;
 pub const TOO_LONG: u32 = 5;
 /// `OCTSEQ_BAD_ROW`.
 pub const BAD_ROW: u32 = 6;
+/// `OCTSEQ_MEMORY`.
+pub const MEMORY: u32 = 9;
 
 /// `octseq_lossy_state`: all zeros before the first piece.
 #[repr(C)]
@@ -63,7 +68,29 @@ const _: () = {
     assert!(offset_of!(bgp::Row, has_path_id) == 2 * WORD + 8 && offset_of!(bgp::Row, afi) == 2 * WORD + 10);
     assert!(offset_of!(bgp::Row, safi) == 2 * WORD + 12 && offset_of!(bgp::Row, bits) == 2 * WORD + 13);
     assert!(offset_of!(bgp::Row, flags) == 2 * WORD + 14 && offset_of!(bgp::Row, type_code) == 2 * WORD + 15);
+    assert!(size_of::<bgp::Hop>() == 8 && align_of::<bgp::Hop>() == align_of::<u32>());
+    assert!(offset_of!(bgp::Hop, asn) == 0 && offset_of!(bgp::Hop, kind) == 4 && offset_of!(bgp::Hop, count) == 6);
     assert!(size_of::<Rtype>() == 2 && size_of::<Class>() == 2);
+};
+
+const _: () = {
+    use mrt::{Header, Row};
+    const WORD: usize = size_of::<usize>();
+    assert!(size_of::<Header>() == WORD + 8 && align_of::<Header>() == align_of::<usize>());
+    assert!(offset_of!(Header, len) == 0 && offset_of!(Header, timestamp) == WORD);
+    assert!(offset_of!(Header, type_code) == WORD + 4 && offset_of!(Header, subtype) == WORD + 6);
+
+    const NUMBERS: usize = 3 * WORD;
+    assert!(size_of::<Row>() == NUMBERS + 72 && align_of::<Row>() == align_of::<usize>());
+    assert!(offset_of!(Row, at) == 0 && offset_of!(Row, len) == WORD && offset_of!(Row, count) == 2 * WORD);
+    assert!(offset_of!(Row, kind) == NUMBERS && offset_of!(Row, id) == NUMBERS + 4);
+    assert!(offset_of!(Row, time) == NUMBERS + 8 && offset_of!(Row, asn) == NUMBERS + 12);
+    assert!(offset_of!(Row, local_asn) == NUMBERS + 16 && offset_of!(Row, session) == NUMBERS + 20);
+    assert!(offset_of!(Row, old_state) == NUMBERS + 24 && offset_of!(Row, new_state) == NUMBERS + 28);
+    assert!(offset_of!(Row, index) == NUMBERS + 32 && offset_of!(Row, afi) == NUMBERS + 34);
+    assert!(offset_of!(Row, safi) == NUMBERS + 36 && offset_of!(Row, bits) == NUMBERS + 37);
+    assert!(offset_of!(Row, has_number) == NUMBERS + 38 && offset_of!(Row, addr_len) == NUMBERS + 39);
+    assert!(offset_of!(Row, addr) == NUMBERS + 40 && offset_of!(Row, local_addr) == NUMBERS + 56);
 };
 
 unsafe extern "C" {
@@ -134,6 +161,23 @@ unsafe extern "C" {
         out: *mut u8,
         room: usize,
         written: *mut usize,
+    ) -> u32;
+    fn octseq_dns_record_from_text(
+        text: *const u8,
+        len: usize,
+        out: *mut u8,
+        room: usize,
+        written: *mut usize,
+        offset: *mut usize,
+    ) -> u32;
+    fn octseq_dns_message_from_text(
+        text: *const u8,
+        len: usize,
+        out: *mut u8,
+        room: usize,
+        written: *mut usize,
+        line: *mut usize,
+        offset: *mut usize,
     ) -> u32;
     fn octseq_dns_name_text(
         octets: *const u8,
@@ -212,10 +256,24 @@ unsafe extern "C" {
         room: usize,
         written: *mut usize,
     ) -> u32;
+    fn octseq_bgp_as_path(
+        octets: *const u8,
+        len: usize,
+        session: u32,
+        out: *mut bgp::Hop,
+        room: usize,
+        count: *mut usize,
+    ) -> u32;
+    fn octseq_mrt_record_header(octets: *const u8, len: usize, header: *mut mrt::Header) -> u32;
+    fn octseq_mrt_rows(octets: *const u8, len: usize, out: *mut mrt::Row, room: usize, count: *mut usize) -> u32;
+    fn octseq_mrt_attributes(octets: *const u8, len: usize, out: *mut bgp::Row, room: usize, count: *mut usize) -> u32;
 }
 
 /// What a call answers that writes: its status, and what it says was written, or is needed.
 pub type Written = (u32, usize);
+
+/// Where a text is refused: the line, from 1 on, and the offset in it.
+pub type TextPlace = (usize, usize);
 
 pub fn is_utf8(octets: &[u8]) -> bool {
     // SAFETY: `octets` is a slice that is borrowed for the call.
@@ -381,6 +439,32 @@ pub fn answer_within(query: &[u8], flags: u16, source: &[u8], rows: &[Row], limi
     (status, written)
 }
 
+/// What was written, and where the text is refused.
+pub fn record_from_text(text: &str, out: &mut [u8]) -> (Written, TextPlace) {
+    let text = text.as_bytes();
+    let (mut written, mut offset) = (0, 0);
+    // SAFETY: `text` and `out` are slices that are borrowed for the call, `out` alone; the two others are variables,
+    // each of its own.
+    let status = unsafe {
+        let (out, room) = (out.as_mut_ptr(), out.len());
+        octseq_dns_record_from_text(text.as_ptr(), text.len(), out, room, &mut written, &mut offset)
+    };
+    ((status, written), (1, offset))
+}
+
+/// What was written, and where the text is refused.
+pub fn message_from_text(text: &str, out: &mut [u8]) -> (Written, TextPlace) {
+    let text = text.as_bytes();
+    let (mut written, mut line, mut offset) = (0, 0, 0);
+    // SAFETY: `text` and `out` are slices that are borrowed for the call, `out` alone; the three others are variables,
+    // each of its own.
+    let status = unsafe {
+        let (out, room) = (out.as_mut_ptr(), out.len());
+        octseq_dns_message_from_text(text.as_ptr(), text.len(), out, room, &mut written, &mut line, &mut offset)
+    };
+    ((status, written), (line, offset))
+}
+
 pub fn name_text(octets: &[u8], place: usize, out: &mut [u8]) -> Written {
     let mut written = 0;
     // SAFETY: `octets` and `out` are slices that are borrowed for the call, `out` alone; `written` is a variable. Any
@@ -536,4 +620,38 @@ pub fn bgp_message_text(octets: &[u8], session: u32, out: &mut [u8]) -> Written 
         octseq_bgp_message_text(octets.as_ptr(), octets.len(), session, out.as_mut_ptr(), out.len(), &mut written)
     };
     (status, written)
+}
+
+pub fn bgp_as_path(octets: &[u8], session: u32, out: &mut [bgp::Hop]) -> Written {
+    let mut count = 0;
+    // SAFETY: `octets` and `out` are slices that are borrowed for the call, `out` alone; `count` is a variable. The
+    // layout of a row is checked above, and any numbers make a row. Any session may be asked.
+    let status =
+        unsafe { octseq_bgp_as_path(octets.as_ptr(), octets.len(), session, out.as_mut_ptr(), out.len(), &mut count) };
+    (status, count)
+}
+
+/// The status, and the header, which is all zeros where there is none.
+pub fn mrt_record_header(octets: &[u8]) -> (u32, mrt::Header) {
+    let mut header = mrt::Header::default();
+    // SAFETY: `octets` is a slice that is borrowed for the call; `header` is a variable, whose layout is checked above.
+    let status = unsafe { octseq_mrt_record_header(octets.as_ptr(), octets.len(), &mut header) };
+    (status, header)
+}
+
+pub fn mrt_rows(octets: &[u8], out: &mut [mrt::Row]) -> Written {
+    let mut count = 0;
+    // SAFETY: `octets` and `out` are slices that are borrowed for the call, `out` alone; `count` is a variable. The
+    // layout of a row is checked above, and any numbers make a row.
+    let status = unsafe { octseq_mrt_rows(octets.as_ptr(), octets.len(), out.as_mut_ptr(), out.len(), &mut count) };
+    (status, count)
+}
+
+pub fn mrt_attributes(octets: &[u8], out: &mut [bgp::Row]) -> Written {
+    let mut count = 0;
+    // SAFETY: `octets` and `out` are slices that are borrowed for the call, `out` alone; `count` is a variable. The
+    // layout of a row is checked above, and any numbers make a row.
+    let status =
+        unsafe { octseq_mrt_attributes(octets.as_ptr(), octets.len(), out.as_mut_ptr(), out.len(), &mut count) };
+    (status, count)
 }

@@ -1,7 +1,7 @@
 //! 318 BGP messages, of which 187 are of daemons and captures, with the lines that the readers of mrtparse make of
 //! them; and one message, part by part, in each session.
 use octseq_proved::NoRoom;
-use octseq_proved::bgp::{AddPath, Error, Kind, Message, Row, Session, first_fault};
+use octseq_proved::bgp::{AddPath, AsPath, Error, Hop, Kind, Message, Row, SegmentKind, Session, first_fault};
 
 /// 10.1.0.0/16 is withdrawn, 10.0.0.0/8 is announced, and 2001::/16 isn't reached.
 const UPDATE: &[u8; 41] =
@@ -113,9 +113,76 @@ fn other_messages_stop_after_their_header_or_at_a_parameter() {
     }
 }
 
+/// A segment of each type: 65001 and 65002, 7, 1 and 2, 3 and 4.
+const SEGMENTS: &[u8; 36] = b"\x02\x02\0\0\xFD\xE9\0\0\xFD\xEA\x01\x01\0\0\0\x07\
+    \x03\x02\0\0\0\x01\0\0\0\x02\x04\x02\0\0\0\x03\0\0\0\x04";
+
+#[test]
+fn paths_are_read_in_a_room() {
+    let mut room = [Hop::default(); 8];
+    assert_eq!(AsPath::new_in(SEGMENTS, Session::MODERN, &mut room[..6]), Err(no_room(7)));
+    assert_eq!(room, [Hop::default(); 8]);
+    let path = AsPath::new_in(SEGMENTS, Session::MODERN, &mut room).unwrap();
+    let hops = [(65001, 2, 2), (65002, 2, 2), (7, 1, 1), (1, 3, 2), (2, 3, 2), (3, 4, 2), (4, 4, 2)];
+    assert_eq!(path.hops(), hops.map(|(asn, kind, count)| Hop { asn, kind, count }));
+    assert!(path.asns().eq(hops.map(|(asn, ..)| asn)));
+    let kinds = [SegmentKind::Sequence, SegmentKind::Set, SegmentKind::ConfedSequence, SegmentKind::ConfedSet];
+    assert!(path.segments().map(|segment| segment.kind()).eq(kinds));
+    assert!(path.segments().map(|segment| segment.asns().len()).eq([2, 1, 2, 2]));
+    assert_eq!(path.origin(), None);
+    assert_eq!(room[7], Hop::default());
+}
+
+#[test]
+fn paths_have_an_origin_where_they_end_in_a_sequence() {
+    let mut room = [Hop::default(); 3];
+    let path = AsPath::new_in(&SEGMENTS[..10], Session::MODERN, &mut room).unwrap();
+    assert_eq!(path.origin(), Some(65002));
+    let path = AsPath::new_in(&SEGMENTS[..16], Session::MODERN, &mut room).unwrap();
+    assert_eq!(path.origin(), None);
+    let path = AsPath::new_in(b"\x02\x01\xFD\xE9", Session::LEGACY, &mut room).unwrap();
+    assert_eq!((path.origin(), path.hops().len()), (Some(65001), 1));
+    let path = AsPath::new_in(b"", Session::MODERN, &mut []).unwrap();
+    assert_eq!((path.origin(), path.segments().count()), (None, 0));
+}
+
+/// Two sequences in a row are two segments, of which one may have 255 AS numbers.
+#[test]
+fn segments_of_one_type_are_apart() {
+    let mut octets = [2; 2 + 510 + 4];
+    (octets[1], octets[513]) = (255, 1);
+    let mut room = [Hop::default(); 256];
+    let path = AsPath::new_in(&octets, Session::LEGACY, &mut room).unwrap();
+    assert!(path.segments().map(|segment| segment.asns().len()).eq([255, 1]));
+}
+
+#[test]
+fn octets_that_are_no_path_are_refused() {
+    let wrong: [&[u8]; 5] = [b"\x02", b"\x02\0", b"\x05\x01\0\0\0\x01", b"\x02\x01\0\0\0", b"\x02\x01\0\0\0\x01\0"];
+    for octets in wrong {
+        let mut room = [Hop::default(); 2];
+        assert_eq!(AsPath::new_in(octets, Session::MODERN, &mut room), Err(Error::Malformed), "{octets:?}");
+        assert_eq!(room, [Hop::default(); 2]);
+    }
+    assert_eq!(AsPath::new_in(SEGMENTS, Session::LEGACY, &mut []), Err(Error::Malformed));
+}
+
+#[cfg(feature = "alloc")]
+mod paths;
+
+#[cfg(feature = "alloc")]
+#[test]
+fn a_path_is_shown() {
+    let path = AsPath::new(SEGMENTS, Session::MODERN).unwrap();
+    assert_eq!(path.to_string(), "65001 65002 {7} (1 2) [3,4]");
+    assert_eq!(AsPath::new(b"", Session::MODERN).unwrap().to_string(), "");
+    assert_eq!(AsPath::new(b"\x02\0", Session::MODERN), Err(Error::Malformed));
+}
+
 #[cfg(feature = "alloc")]
 mod of_daemons {
-    use octseq_proved::bgp::{AddPath, Error, Kind, Message, Part, Session, first_fault};
+    use super::paths;
+    use octseq_proved::bgp::{AddPath, AsPath, Error, Kind, Message, Part, Session, first_fault};
     use std::{fs, path::Path};
 
     fn file(name: &str) -> Vec<u8> {
@@ -184,5 +251,32 @@ mod of_daemons {
                 }
             }
         });
+    }
+
+    #[test]
+    fn paths_have_their_lines() {
+        let mut counts = [0; 3];
+        with_each(|octets, session, lines| {
+            if let Ok(message) = Message::new(octets, session) {
+                let (path, shown) = (message.as_path(), paths::shown(lines.lines(), "AS_PATH"));
+                counts[path.as_ref().map_or(2, |path| usize::from(path.is_some()))] += 1;
+                paths::judge(path, shown);
+            }
+        });
+        assert!(counts[0] > 100 && counts[1] == 152 && counts[2] == 5, "{counts:?}");
+    }
+
+    /// AS numbers of an AS4_PATH have four octets in each session.
+    #[test]
+    fn paths_of_four_octets_have_their_lines() {
+        let mut count = 0;
+        with_each(|octets, session, lines| {
+            let parts = Message::new(octets, session).and_then(Message::parts).unwrap_or_default();
+            let value = parts.into_iter().find(|part| part.row().type_code == 17).map(Part::octets);
+            count += usize::from(value.is_some());
+            let path = value.map(|octets| AsPath::new(octets, Session::MODERN)).transpose();
+            paths::judge(path, paths::shown(lines.lines(), "AS4_PATH"));
+        });
+        assert_eq!(count, 6);
     }
 }

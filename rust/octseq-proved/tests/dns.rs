@@ -138,12 +138,15 @@ fn messages_and_entries_have_a_debug_form() {
 #[test]
 fn errors_are_shown() {
     assert_eq!(query(1, 0, "a", Rtype::A, Class::IN).unwrap_err().to_string(), "malformed");
-    let shown = [Error::Immovable, Error::TooLong, Error::BadRow, Error::Unshown].map(|error| error.to_string());
+    let refused = Error::MalformedText { line: 2, offset: 14 };
+    let errors = [refused, Error::Immovable, Error::TooLong, Error::BadRow, Error::Memory, Error::Unshown];
     let lines = [
+        "line 2, offset 14: something else has to come here",
         "data of an unknown form can't be moved",
         "a message of too many octets",
         "a row that is none of a record",
+        "a request for memory was refused",
         "no text could be made",
     ];
-    assert_eq!(shown, lines);
+    assert_eq!(errors.map(|error| error.to_string()), lines);
 }

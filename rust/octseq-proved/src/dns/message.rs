@@ -1,4 +1,5 @@
 //! Messages, and the questions and records that they have.
+use super::name::WIRE;
 use super::{Class, Data, Error, Name, Rtype, done, octets_of, text_of};
 use crate::calls::{self, OK};
 use core::fmt;
@@ -99,7 +100,7 @@ pub struct Row {
     pub section: u32,
 }
 
-/// A question or a record of a message.
+/// A question or a record of a message, or a record alone.
 #[derive(Clone, Copy)]
 pub struct Entry<'octets> {
     octets: &'octets [u8],
@@ -107,6 +108,26 @@ pub struct Entry<'octets> {
 }
 
 impl<'octets> Entry<'octets> {
+    /// The record that octets are, all of them, as [`record_from_text_into`](super::record_from_text_into) writes them.
+    /// Its name has no pointers, and pointers in its data lead to places of these octets. With them as the source, its
+    /// row goes into an answer, in this section.
+    ///
+    /// # Errors
+    ///
+    /// [`Error::Malformed`]: they are none. [`Error::BadRow`]: the section has no records.
+    pub fn of_record(octets: &'octets [u8], section: Section) -> Result<Entry<'octets>, Error> {
+        if section == Section::Question {
+            return Err(Error::BadRow);
+        }
+        let row = record_row(octets, section).ok_or(Error::Malformed)?;
+        Ok(Entry { octets, row })
+    }
+
+    /// The octets that its row's places are in: those of its message, or of a record alone.
+    pub fn source(self) -> &'octets [u8] {
+        self.octets
+    }
+
     /// It as numbers.
     pub fn row(self) -> Row {
         self.row
@@ -148,6 +169,25 @@ impl<'octets> Entry<'octets> {
         let range = data_at..data_at.saturating_add(data_len);
         (section > 0).then(|| Data::new(self.octets, range, rtype, rclass).ok()).flatten()
     }
+}
+
+/// The row of the record that octets are, whose name has no pointers.
+fn record_row(octets: &[u8], section: Section) -> Option<Row> {
+    let mut room = [0; WIRE];
+    let name = Name::at(octets, 0).wire_into(&mut room).ok()?;
+    let (numbers, data) = octets.strip_prefix(&*name)?.split_first_chunk::<10>()?;
+    let [rtype, rclass, high, low, data_len] =
+        core::array::from_fn(|at| u16::from_be_bytes([numbers[2 * at], numbers[2 * at + 1]]));
+    let row = Row {
+        name_at: 0,
+        data_at: octets.len() - data.len(),
+        data_len: data_len.into(),
+        ttl: u32::from(high) << 16 | u32::from(low),
+        rtype: Rtype(rtype),
+        rclass: Class(rclass),
+        section: section.into(),
+    };
+    (row.data_len == data.len()).then_some(row)
 }
 
 /// Its row.

@@ -3,11 +3,13 @@
 //! What is read borrows the octets that it was read from. A call that writes has a room to write to and ends with
 //! `_into`; the one of the same name without that, of the feature `alloc`, makes a vector or a `String`.
 use crate::NoRoom;
-use crate::calls::{BAD_ROW, IMMOVABLE, MALFORMED, NO_ROOM, OK, TOO_LONG, Written};
+use crate::calls::{BAD_ROW, IMMOVABLE, MALFORMED, MEMORY, NO_ROOM, OK, TOO_LONG, Written};
 use core::{error, fmt, str};
 
 #[cfg(feature = "alloc")]
-use alloc::{string::String, vec, vec::Vec};
+use crate::filled;
+#[cfg(feature = "alloc")]
+use alloc::{string::String, vec::Vec};
 
 mod data;
 mod edns;
@@ -15,6 +17,7 @@ mod field;
 mod message;
 mod name;
 mod numbers;
+mod text;
 
 pub use data::Data;
 #[cfg(feature = "alloc")]
@@ -26,20 +29,33 @@ pub use message::query;
 pub use message::{Entry, Header, Message, Row, Section, first_fault, query_into};
 pub use name::Name;
 pub use numbers::{Class, Rtype, flags};
+#[cfg(feature = "alloc")]
+pub use text::{message_from_text, record_from_text};
+pub use text::{message_from_text_into, record_from_text_into};
 
 /// Why a call refused. The room is then as it was, but for [`Error::Unshown`].
 #[derive(Clone, Copy, Debug, PartialEq, Eq)]
 pub enum Error {
     /// There was too little room.
     NoRoom(NoRoom),
-    /// The octets, or the text, aren't what they were read as.
+    /// The octets, or the text of a name, a type or a class, aren't what they were read as.
     Malformed,
+    /// A text is no record, or no message: this is where its first word is that isn't what has to come there. The end
+    /// of a line counts as a word.
+    MalformedText {
+        /// The number of the line, from 1 on.
+        line: usize,
+        /// How many octets of the line come before the word.
+        offset: usize,
+    },
     /// Data that isn't of its type's form may have pointers, so it can't be moved to another message.
     Immovable,
-    /// A message would have more than 65,535 octets, or an answer more than its limit.
+    /// A message, or the data of a record, would have more than 65,535 octets, or an answer more than its limit.
     TooLong,
     /// A row's name isn't at its place, its data isn't in the octets, or its section has no records.
     BadRow,
+    /// A request for memory was refused.
+    Memory,
     /// No text could be made. No octets lead here, but no proof rules it out.
     Unshown,
 }
@@ -49,9 +65,13 @@ impl fmt::Display for Error {
         let what = match self {
             Error::NoRoom(no_room) => return no_room.fmt(f),
             Error::Malformed => "malformed",
+            Error::MalformedText { line, offset } => {
+                return write!(f, "line {line}, offset {offset}: something else has to come here");
+            }
             Error::Immovable => "data of an unknown form can't be moved",
             Error::TooLong => "a message of too many octets",
             Error::BadRow => "a row that is none of a record",
+            Error::Memory => "a request for memory was refused",
             Error::Unshown => "no text could be made",
         };
         f.write_str(what)
@@ -69,6 +89,7 @@ fn done((status, written): Written) -> Result<usize, Error> {
         IMMOVABLE => Err(Error::Immovable),
         TOO_LONG => Err(Error::TooLong),
         BAD_ROW => Err(Error::BadRow),
+        MEMORY => Err(Error::Memory),
         _ => Err(Error::Unshown),
     }
 }
@@ -90,15 +111,8 @@ fn text_of(answer: Written, room: &mut [u8]) -> Result<&mut str, Error> {
 /// What a call writes, as a vector that has room for `first` octets or rows, and for as many as it takes where those
 /// are too few.
 #[cfg(feature = "alloc")]
-fn vec_of<T: Clone + Default>(first: usize, call: impl Fn(&mut [T]) -> Written) -> Result<Vec<T>, Error> {
-    let mut room = vec![T::default(); first];
-    let mut written = done(call(&mut room));
-    if let Err(Error::NoRoom(NoRoom { needed })) = written {
-        room.resize(needed, T::default());
-        written = done(call(&mut room));
-    }
-    room.truncate(written?);
-    Ok(room)
+fn vec_of<T: Clone + Default>(first: usize, call: impl FnMut(&mut [T]) -> Written) -> Result<Vec<T>, Error> {
+    filled(first, done, call)
 }
 
 /// What a call writes, as a text that has room for `first` octets, and for as many as it takes.

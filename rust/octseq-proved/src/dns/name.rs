@@ -11,7 +11,7 @@ use super::{string_of, vec_of};
 use alloc::{string::String, vec::Vec};
 
 /// The most octets that the wire form of a name has (RFC 1035, 3.1).
-const WIRE: usize = 255;
+pub(super) const WIRE: usize = 255;
 
 /// The most octets that the text of a name has: its 255 octets are then the root and four labels, of 250 octets that
 /// take four each, and of a full stop each.

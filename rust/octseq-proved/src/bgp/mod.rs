@@ -11,12 +11,20 @@ use core::{error, fmt, str};
 #[cfg(feature = "alloc")]
 use alloc::{string::String, vec, vec::Vec};
 
+mod path;
+
+pub use path::{AsPath, Hop, Segment, SegmentKind};
+
+/// The type of the attribute AS_PATH (RFC 4271, 5.1.2).
+#[cfg(feature = "alloc")]
+pub(crate) const AS_PATH: u8 = 2;
+
 /// Why a call refused. The room is then as it was, but for [`Error::Unshown`].
 #[derive(Clone, Copy, Debug, PartialEq, Eq)]
 pub enum Error {
     /// There was too little room.
     NoRoom(NoRoom),
-    /// The octets are no message of the session.
+    /// The octets are no message, or no AS path, of the session.
     Malformed,
     /// No text could be made. No octets lead here, but no proof rules it out.
     Unshown,
@@ -80,6 +88,15 @@ impl Session {
         let flags = [!self.four_octet_asn, self.extended_message].into_iter().chain(families);
         flags.enumerate().map(|(bit, is_set)| u32::from(is_set) << bit).sum()
     }
+
+    /// The session that `octseq.h` has as flags.
+    #[cfg(feature = "alloc")]
+    pub(crate) fn of(flags: u32) -> Session {
+        let [is_two_octet, extended_message, ipv4_unicast, ipv4_multicast, ipv6_unicast, ipv6_multicast] =
+            core::array::from_fn(|bit| flags >> bit & 1 == 1);
+        let add_path = AddPath { ipv4_unicast, ipv4_multicast, ipv6_unicast, ipv6_multicast };
+        Session { four_octet_asn: !is_two_octet, add_path, extended_message }
+    }
 }
 
 /// What a row is of.
@@ -123,6 +140,20 @@ pub struct Row {
     pub type_code: u8,
 }
 
+/// The address that the octets of a prefix of an AFI begin. The bits after its length become 0.
+pub(crate) fn address_of(octets: &[u8], bits: u8, afi: u16) -> IpAddr {
+    let mut address = [0; 16];
+    for (to, from) in address.iter_mut().zip(octets) {
+        *to = *from;
+    }
+    let mask = u128::MAX.checked_shl(128_u32.saturating_sub(bits.into())).unwrap_or(0);
+    let number = u128::from_be_bytes(address) & mask;
+    match afi {
+        1 => IpAddr::V4(((number >> 96) as u32).into()),
+        _ => IpAddr::V6(number.into()),
+    }
+}
+
 /// A prefix.
 #[derive(Clone, Copy, Debug, PartialEq, Eq, Hash)]
 pub struct Prefix {
@@ -152,6 +183,12 @@ pub struct Part<'octets> {
 }
 
 impl<'octets> Part<'octets> {
+    /// The part of a row whose places are in octets.
+    #[cfg(feature = "alloc")]
+    pub(crate) fn of(octets: &'octets [u8], row: Row) -> Part<'octets> {
+        Part { octets, row }
+    }
+
     /// It as numbers.
     pub fn row(self) -> Row {
         self.row
@@ -177,18 +214,9 @@ impl<'octets> Part<'octets> {
     /// The prefix; `None` of an attribute.
     pub fn prefix(self) -> Option<Prefix> {
         let Row { bits, afi, safi, path_id, has_path_id, .. } = self.row;
-        let mut address = [0; 16];
-        for (to, from) in address.iter_mut().zip(self.octets()) {
-            *to = *from;
-        }
-        let number = u128::from_be_bytes(address);
-        let number = number & u128::MAX.checked_shl(128 - u32::from(bits)).unwrap_or(0);
-        let address = match afi {
-            1 => IpAddr::V4(((number >> 96) as u32).into()),
-            2 => IpAddr::V6(number.into()),
-            _ => return None,
-        };
-        Some(Prefix { address, bits, is_multicast: safi == 2, path_id: (has_path_id == 1).then_some(path_id) })
+        let address = address_of(self.octets(), bits, afi);
+        let path_id = (has_path_id == 1).then_some(path_id);
+        (afi > 0).then_some(Prefix { address, bits, is_multicast: safi == 2, path_id })
     }
 }
 
@@ -274,6 +302,17 @@ impl<'octets> Message<'octets> {
     pub fn parts(self) -> Result<Vec<Part<'octets>>, Error> {
         let mut room = vec![Row::default(); self.count];
         Ok(self.parts_in(&mut room)?.collect())
+    }
+
+    /// Its AS path: that of its first AS_PATH (RFC 4271, 5.1.2). `None` where it has no such attribute.
+    ///
+    /// # Errors
+    ///
+    /// [`Error::Malformed`]: the attribute hasn't the form of its type.
+    pub fn as_path(self) -> Result<Option<AsPath<Vec<Hop>>>, Error> {
+        let is_path = |part: &Part<'_>| part.kind() == Kind::Attribute && part.row().type_code == AS_PATH;
+        let path = self.parts()?.into_iter().find(is_path);
+        path.map(|part| AsPath::new(part.octets(), self.session)).transpose()
     }
 
     /// As [`text_into`](Self::text_into), and it makes a text of its own.
