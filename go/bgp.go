@@ -22,6 +22,11 @@ type BGPSession struct {
 	ExtendedMessage bool   // messages may have 65,535 octets (RFC 8654)
 }
 
+// bgpSessionOf is the session that octseq.h has as flags.
+func bgpSessionOf(flags uint32) BGPSession {
+	return BGPSession{TwoOctetASN: flags&1 != 0, AddPath: flags & BGPAllFamilies, ExtendedMessage: flags&2 != 0}
+}
+
 // flags are the session as octseq.h has it.
 func (session BGPSession) flags() uint32 {
 	flags := session.AddPath & BGPAllFamilies
@@ -118,6 +123,16 @@ func (message BGPMessage) Parts() ([]BGPPart, error) {
 	return parts, err
 }
 
+// ASPath is the AS path of the message, that of its first AS_PATH (RFC 4271, 5.1.2), and whether it has such an
+// attribute. ErrMalformed: that hasn't the form of its type.
+func (message BGPMessage) ASPath() (path BGPASPath, found bool, err error) {
+	parts, err := message.Parts()
+	if err != nil {
+		return nil, false, err
+	}
+	return asPathOf(parts, message.session)
+}
+
 // Text is a line for each part of the message. ErrUnshown.
 func (message BGPMessage) Text() (string, error) {
 	return bgpMessageText(message.octets, message.session.flags())
@@ -152,18 +167,23 @@ func (part BGPPart) Octets() []byte {
 
 // Prefix is the prefix, whose bits after its length are 0. That of an attribute isn't valid.
 func (part BGPPart) Prefix() netip.Prefix {
+	return prefixOf(part.Octets(), part.row.AFI, part.row.Bits)
+}
+
+// prefixOf is the prefix of an AFI whose octets these are.
+func prefixOf(prefix []byte, afi uint16, bits uint8) netip.Prefix {
 	var address netip.Addr
-	switch part.row.AFI {
+	switch afi {
 	case 1:
 		var octets [4]byte
-		copy(octets[:], part.Octets())
+		copy(octets[:], prefix)
 		address = netip.AddrFrom4(octets)
 	case 2:
 		var octets [16]byte
-		copy(octets[:], part.Octets())
+		copy(octets[:], prefix)
 		address = netip.AddrFrom16(octets)
 	}
-	return netip.PrefixFrom(address, int(part.row.Bits)).Masked()
+	return netip.PrefixFrom(address, int(bits)).Masked()
 }
 
 // String is the kind of the part, and the prefix with its path id.

@@ -113,9 +113,16 @@ func TestOtherMessagesStopAfterTheirHeaderOrAtAParameter(t *testing.T) {
 	}
 }
 
-// In stdin a message is after a number that says its session, and its length in two octets; in stdout an empty line is
-// after its lines.
 func TestBGPMessagesAndPartsHaveTheirLines(t *testing.T) {
+	withEachBGPMessage(t, func(octets []byte, session BGPSession, lines string) {
+		compareBGPMessage(t, octets, session, lines)
+	})
+}
+
+// withEachBGPMessage calls with each of 318 messages, its session and its lines. In stdin a message is after a number
+// that says its session, and its length in two octets; in stdout an empty line is after its lines.
+func withEachBGPMessage(t *testing.T, call func(octets []byte, session BGPSession, lines string)) {
+	t.Helper()
 	stream, err := os.ReadFile("../crates/octseq_bgp_messages/stdin")
 	if err != nil {
 		t.Fatal(err)
@@ -132,7 +139,7 @@ func TestBGPMessagesAndPartsHaveTheirLines(t *testing.T) {
 		if stream[0]&2 != 0 {
 			session.AddPath = BGPAllFamilies
 		}
-		compareBGPMessage(t, stream[3:end], session, strings.TrimSuffix(shown[count], "\n"))
+		call(stream[3:end], session, strings.TrimSuffix(shown[count], "\n"))
 		stream = stream[end:]
 	}
 	if count != 318 || !strings.HasPrefix(shown[count], "cuts ") {

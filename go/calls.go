@@ -7,6 +7,7 @@ import "C"
 
 import (
 	"errors"
+	"net/netip"
 	"unsafe"
 )
 
@@ -16,10 +17,13 @@ var (
 	ErrMalformed = errors.New("octseq: malformed")
 	// ErrImmovable says that data isn't of its type's form. It may have pointers, so it can't be moved.
 	ErrImmovable = errors.New("octseq: data of an unknown form can't be moved")
-	// ErrTooLong says that a message would have more than 65,535 octets, or an answer more than its limit.
+	// ErrTooLong says that a message, or the data of a record, would have more than 65,535 octets, or an answer more
+	// than its limit.
 	ErrTooLong = errors.New("octseq: a message of too many octets")
 	// ErrBadRow says that a row's name isn't at its place, its data isn't in the octets, or its section has no records.
 	ErrBadRow = errors.New("octseq: a row that is none of a record")
+	// ErrMemory says that a request for memory was refused, of a call that reads text.
+	ErrMemory = errors.New("octseq: a request for memory was refused")
 	// ErrUnshown says that no text could be made. No octets lead here, but no proof rules it out.
 	ErrUnshown = errors.New("octseq: no text could be made")
 )
@@ -33,6 +37,8 @@ func errorOf(status C.uint32_t) error {
 		return ErrTooLong
 	case C.OCTSEQ_BAD_ROW:
 		return ErrBadRow
+	case C.OCTSEQ_MEMORY:
+		return ErrMemory
 	case C.OCTSEQ_UNSHOWN:
 		return ErrUnshown
 	default:
@@ -73,6 +79,29 @@ func filled(first int, call func(*room) C.uint32_t) ([]byte, error) {
 		return nil, errorOf(status)
 	}
 	return octets[:to.written], nil
+}
+
+// filledRows are the rows that a call writes into a room of as many as first says, or of as many as it takes.
+func filledRows[Row any](first int, call func(out *Row, room C.size_t, count *C.size_t) C.uint32_t) ([]Row, error) {
+	rows := make([]Row, first)
+	var count C.size_t
+	status := call(firstOf(rows), C.size_t(len(rows)), &count)
+	if status == C.OCTSEQ_NO_ROOM {
+		rows = make([]Row, count)
+		status = call(firstOf(rows), C.size_t(len(rows)), &count)
+	}
+	if status != C.OCTSEQ_OK {
+		return nil, errorOf(status)
+	}
+	return rows[:count], nil
+}
+
+// firstOf is the pointer to the first of some rows. It is nil where there are none.
+func firstOf[Row any](rows []Row) *Row {
+	if len(rows) == 0 {
+		return nil
+	}
+	return &rows[0]
 }
 
 // textOf is what was filled, as a text.
@@ -133,19 +162,11 @@ func messageFault(octets []byte) (place int, found bool) {
 	return int(at), status != C.OCTSEQ_OK
 }
 
-// firstRow is the pointer to the first of some rows. It is nil where there are none.
-func firstRow(rows []C.octseq_dns_row) *C.octseq_dns_row {
-	if len(rows) == 0 {
-		return nil
-	}
-	return &rows[0]
-}
-
 // messageRows are the rows of a message that has as many entries as count says.
 func messageRows(octets []byte, count int) ([]Row, error) {
 	out := make([]C.octseq_dns_row, count)
 	var written C.size_t
-	status := C.octseq_dns_rows(start(octets), size(octets), firstRow(out), C.size_t(count), &written)
+	status := C.octseq_dns_rows(start(octets), size(octets), firstOf(out), C.size_t(count), &written)
 	if status != C.OCTSEQ_OK {
 		return nil, errorOf(status)
 	}
@@ -213,7 +234,7 @@ func answer(query []byte, flags uint16, source []byte, rows []Row) ([]byte, erro
 	records := rowsOf(rows)
 	return filled(512, func(to *room) C.uint32_t {
 		return C.octseq_dns_answer(start(query), size(query), C.uint16_t(flags), start(source), size(source),
-			firstRow(records), C.size_t(len(records)), to.out, to.len, &to.written)
+			firstOf(records), C.size_t(len(records)), to.out, to.len, &to.written)
 	})
 }
 
@@ -221,8 +242,41 @@ func answerWithin(query []byte, flags uint16, source []byte, rows []Row, limit u
 	records := rowsOf(rows)
 	return filled(int(limit), func(to *room) C.uint32_t {
 		return C.octseq_dns_answer_within(start(query), size(query), C.uint16_t(flags), start(source), size(source),
-			firstRow(records), C.size_t(len(records)), C.uint16_t(limit), to.out, to.len, &to.written)
+			firstOf(records), C.size_t(len(records)), C.uint16_t(limit), to.out, to.len, &to.written)
 	})
+}
+
+// refusedAt is the error about a text, of which a word at a place may be refused.
+func refusedAt(err error, line, offset C.size_t) error {
+	if err == ErrMalformed {
+		return TextFault{int(line), int(offset)}
+	}
+	return err
+}
+
+// roomOfText is a guess of how many octets a record or a message has that a text is: it has at most 65,800, and mostly
+// fewer than its text.
+func roomOfText(text []byte) int {
+	if len(text) > 65535 {
+		return 65800
+	}
+	return len(text) + 32
+}
+
+func recordFromText(text []byte) ([]byte, error) {
+	var offset C.size_t
+	octets, err := filled(roomOfText(text), func(to *room) C.uint32_t {
+		return C.octseq_dns_record_from_text(start(text), size(text), to.out, to.len, &to.written, &offset)
+	})
+	return octets, refusedAt(err, 1, offset)
+}
+
+func messageFromText(text []byte) ([]byte, error) {
+	var line, offset C.size_t
+	octets, err := filled(roomOfText(text), func(to *room) C.uint32_t {
+		return C.octseq_dns_message_from_text(start(text), size(text), to.out, to.len, &to.written, &line, &offset)
+	})
+	return octets, refusedAt(err, line, offset)
 }
 
 func nameText(octets []byte, place int) (string, error) {
@@ -341,17 +395,15 @@ func bgpRowCount(octets []byte, session uint32) (int, error) {
 
 // bgpRows are the rows of a message of a session that has as many as count says.
 func bgpRows(octets []byte, session uint32, count int) ([]BGPRow, error) {
-	out := make([]C.octseq_bgp_row, count)
-	var first *C.octseq_bgp_row
-	if count > 0 {
-		first = &out[0]
-	}
-	var written C.size_t
-	status := C.octseq_bgp_rows(start(octets), size(octets), C.uint32_t(session), first, C.size_t(count), &written)
-	if status != C.OCTSEQ_OK {
-		return nil, errorOf(status)
-	}
-	rows := make([]BGPRow, written)
+	out, err := filledRows(count, func(out *C.octseq_bgp_row, room C.size_t, count *C.size_t) C.uint32_t {
+		return C.octseq_bgp_rows(start(octets), size(octets), C.uint32_t(session), out, room, count)
+	})
+	return bgpRowsOf(out), err
+}
+
+// bgpRowsOf are rows that C wrote.
+func bgpRowsOf(out []C.octseq_bgp_row) []BGPRow {
+	rows := make([]BGPRow, len(out))
 	for at := range rows {
 		row := &out[at]
 		rows[at] = BGPRow{
@@ -367,11 +419,94 @@ func bgpRows(octets []byte, session uint32, count int) ([]BGPRow, error) {
 			TypeCode:  uint8(row.type_code),
 		}
 	}
-	return rows, nil
+	return rows
 }
 
 func bgpMessageText(octets []byte, session uint32) (string, error) {
 	return textOf(filled(8*len(octets), func(to *room) C.uint32_t {
 		return C.octseq_bgp_message_text(start(octets), size(octets), C.uint32_t(session), to.out, to.len, &to.written)
 	}))
+}
+
+// bgpSegments are the segments of an AS path of a session.
+func bgpSegments(octets []byte, session uint32) ([]BGPSegment, error) {
+	hops, err := filledRows(len(octets)/2, func(out *C.octseq_bgp_hop, room C.size_t, count *C.size_t) C.uint32_t {
+		return C.octseq_bgp_as_path(start(octets), size(octets), C.uint32_t(session), out, room, count)
+	})
+	var segments []BGPSegment
+	for len(hops) > 0 {
+		count := int(hops[0].count)
+		asns := make([]uint32, count)
+		for at := range asns {
+			asns[at] = uint32(hops[at].asn)
+		}
+		segments = append(segments, BGPSegment{BGPSegmentKind(hops[0].kind), asns})
+		hops = hops[count:]
+	}
+	return segments, err
+}
+
+func mrtHeader(octets []byte) (MRTHeader, error) {
+	var header C.octseq_mrt_header
+	status := C.octseq_mrt_record_header(start(octets), size(octets), &header)
+	if status != C.OCTSEQ_OK {
+		return MRTHeader{}, errorOf(status)
+	}
+	return MRTHeader{
+		Len:       int(header.len),
+		Timestamp: uint32(header.timestamp),
+		TypeCode:  uint16(header.type_code),
+		Subtype:   uint16(header.subtype),
+	}, nil
+}
+
+// mrtRows are the parts of a record. There is room for as many as first says at once.
+func mrtRows(octets []byte, first int) ([]mrtRow, error) {
+	out, err := filledRows(first, func(out *C.octseq_mrt_row, room C.size_t, count *C.size_t) C.uint32_t {
+		return C.octseq_mrt_rows(start(octets), size(octets), out, room, count)
+	})
+	rows := make([]mrtRow, len(out))
+	for at := range rows {
+		row := &out[at]
+		rows[at] = mrtRow{
+			at:           int(row.at),
+			length:       int(row.len),
+			count:        int(row.count),
+			kind:         mrtKind(row.kind),
+			id:           uint32(row.id),
+			time:         uint32(row.time),
+			asn:          uint32(row.asn),
+			localASN:     uint32(row.local_asn),
+			session:      uint32(row.session),
+			oldState:     MRTState(row.old_state),
+			newState:     MRTState(row.new_state),
+			index:        uint16(row.index),
+			afi:          uint16(row.afi),
+			safi:         uint8(row.safi),
+			bits:         uint8(row.bits),
+			hasNumber:    row.has_number != 0,
+			address:      addressOf(row.addr, row.addr_len),
+			localAddress: addressOf(row.local_addr, row.addr_len),
+		}
+	}
+	return rows, err
+}
+
+// addressOf is the address that the first octets are, 4 or all 16. It isn't valid where there are none.
+func addressOf(octets [16]C.uint8_t, length C.uint8_t) netip.Addr {
+	var own [16]byte
+	for at, octet := range octets {
+		own[at] = byte(octet)
+	}
+	address, _ := netip.AddrFromSlice(own[:length])
+	return address
+}
+
+// mrtAttributes are the path attributes of all entries of a RIB.
+func mrtAttributes(octets []byte) ([]BGPRow, error) {
+	// Most attributes, with the front of their entry, have more octets than 8.
+	out, err := filledRows(len(octets)/8, func(out *C.octseq_bgp_row, room C.size_t, count *C.size_t) C.uint32_t {
+		return C.octseq_mrt_attributes(start(octets), size(octets), out, room, count)
+	})
+	return bgpRowsOf(out), err
 }

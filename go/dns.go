@@ -167,10 +167,15 @@ func QueryEDNS(id, flags uint16, name string, qtype Type, class Class, edns EDNS
 	return queryEDNS(id, flags, []byte(name), qtype, class, edns)
 }
 
-// Entry is a question or a record of a message.
+// Entry is a question or a record of a message, or a record alone.
 type Entry struct {
 	row    Row
 	octets []byte
+}
+
+// Source is a copy of the octets that the places of the entry's row are in: those of its message, or of a record alone.
+func (entry Entry) Source() []byte {
+	return append([]byte(nil), entry.octets...)
 }
 
 // Row is the entry as numbers.

@@ -61,6 +61,41 @@ func ExampleMessage_Answer() {
 	// answer example.com. 300 IN A 192.0.2.1
 }
 
+func ExampleParseRecordText() {
+	record, err := octseq.ParseRecordText("example.com. 300 IN A 192.0.2.1", octseq.SectionAnswer)
+	if err != nil {
+		panic(err)
+	}
+	fmt.Println(record.Name(), record.TTL(), record.Class(), record.Type(), record.Data())
+	_, err = octseq.ParseRecordText("example.com. 300 IN A 192.0.2", octseq.SectionAnswer)
+	fmt.Println(err)
+	// Output:
+	// example.com. 300 IN A 192.0.2.1
+	// octseq: line 1, offset 22: something else has to come here
+}
+
+func ExampleMRTReader() {
+	file := strings.NewReader("\x65\x53\xF1\x00\x00\x10\x00\x05\x00\x00\x00\x18\x00\x00\xFD\xE9\x00\x00\xFD\xEA" +
+		"\x00\x00\x00\x01\x0A\x00\x00\x01\x0A\x00\x00\x02\x00\x05\x00\x06")
+	reader := octseq.NewMRTReader(file)
+	for {
+		record, err := reader.Next()
+		if err == io.EOF {
+			break
+		}
+		if err != nil {
+			panic(err)
+		}
+		switch record := record.(type) {
+		case *octseq.MRTRIB:
+			fmt.Println(record.Prefix(), record.EntryCount(), "routes")
+		case *octseq.MRTStateChange:
+			fmt.Println(record.Event().PeerAddress, record.OldState(), record.NewState())
+		}
+	}
+	// Output: 10.0.0.1 OpenConfirm Established
+}
+
 func ExampleData_Fields() {
 	octets := []byte("\x00\x0A\x04mail\aexample\x03com\x00")
 	data, err := octseq.NewData(octets, 0, len(octets), octseq.TypeMX, octseq.ClassIN)
