@@ -39,7 +39,7 @@ extern "C" {
 #define OCTSEQ_MALFORMED 2u /* the octets aren't what they were read as */
 #define OCTSEQ_FAULT 3u     /* the octets are not well-formed UTF-8 */
 #define OCTSEQ_IMMOVABLE 4u /* data that isn't of its type's form may have pointers, so it can't be moved */
-#define OCTSEQ_TOO_LONG 5u  /* a DNS message would have more than 65,535 octets, a text more than SIZE_MAX */
+#define OCTSEQ_TOO_LONG 5u  /* a DNS message or data would have more than 65,535 octets, a text more than SIZE_MAX */
 #define OCTSEQ_BAD_ROW 6u   /* a row's name isn't at its place, its data isn't in the octets, or its section is none */
 #define OCTSEQ_BAD_STATE 7u /* the octets of a state are more than three, or begin no character */
 #define OCTSEQ_UNSHOWN 8u   /* no text could be made. No octets lead here, but no proof rules it out */
@@ -337,7 +337,7 @@ typedef struct octseq_mrt_row {
     uint32_t asn;           /* the AS number of a peer */
     uint32_t local_asn;     /* of a message, a state change: the AS number of the collector */
     uint32_t session;       /* how a message is read, as octseq_bgp_rows takes it */
-    uint32_t old_state;     /* the state before a state change, 1 to 6 (RFC 4271, 8.2.2) */
+    uint32_t old_state;     /* the state before a state change: 1 to 6 by RFC 4271, 8.2.2, or another number */
     uint32_t new_state;     /* the state after it */
     uint16_t index;         /* the number of an entry's peer in the table, from 0; of a message, .. : its interface */
     uint16_t afi;           /* 1 where a prefix or an address is IPv4, 2 where it is IPv6 */

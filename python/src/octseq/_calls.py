@@ -68,7 +68,7 @@ _BGP_ROWS, _HOPS, _MRT_ROWS = _Unit("octseq_bgp_row", 64), _Unit("octseq_bgp_hop
 _RAISED: dict[int, tuple[type[Exception], str]] = {
     lib.OCTSEQ_MALFORMED: (Malformed, "it isn't what it is read as"),
     lib.OCTSEQ_IMMOVABLE: (Immovable, "data of a record isn't of its type's form and may have pointers"),
-    lib.OCTSEQ_TOO_LONG: (TooLong, "the message would have more than 65,535 octets"),
+    lib.OCTSEQ_TOO_LONG: (TooLong, "the message, or the data of a record, would have more than 65,535 octets"),
     lib.OCTSEQ_BAD_ROW: (BadRow, "a record isn't in its octets, or its section is none"),
     lib.OCTSEQ_BAD_STATE: (BadState, "no reading in pieces left this state"),
     lib.OCTSEQ_UNSHOWN: (Unshown, "no text could be made"),
