@@ -415,7 +415,7 @@ fn try_alike(messages: &[Vec<u8>]) {
 fn messages(bench: &mut Bench) {
     const RECORDS: usize = 1600;
     const TRAFFIC: &str = "363 messages of traffic";
-    let messages = dns::messages::messages_of(include_str!("messages.hex"));
+    let messages = dns::messages::messages_of(include_str!("inputs/messages.hex"));
     assert_eq!(messages.len(), 363);
     try_alike(&messages);
     let traffic = dns::messages::stream_of(&messages);

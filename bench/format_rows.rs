@@ -30,14 +30,14 @@ fn lines_of(text: &str) -> Vec<Vec<u8>> {
 
 /// A hundred datagrams of IPv4 that have options, each after its length in two octets: three of scapy 2.5.0, in turn.
 fn datagrams() -> Vec<u8> {
-    let lines = lines_of(include_str!("datagrams.hex"));
+    let lines = lines_of(include_str!("inputs/datagrams.hex"));
     let listed = |line: &Vec<u8>| [&(line.len() as u16).to_be_bytes(), line.as_slice()].concat();
     lines.iter().cycle().take(100).flat_map(listed).collect()
 }
 
 /// Lines of items of CBOR in no order, so many: those of RFC 8949, appendix A, and two that aren't the shortest.
 fn items(count: usize) -> Vec<u8> {
-    let lines = lines_of(include_str!("cbor.hex"));
+    let lines = lines_of(include_str!("inputs/cbor.hex"));
     let mut disorder = Disorder::new();
     (0..count).flat_map(|_| lines[disorder.below(lines.len() as u64) as usize].clone()).collect()
 }
@@ -49,7 +49,7 @@ pub fn add(bench: &mut Bench) {
     const DATAGRAMS: &str = "100 datagrams of IPv4 with options";
     const ITEMS: &str = "heads of CBOR in no order";
     let headers = random(4800);
-    let hellos = lines_of(include_str!("hellos.hex")).concat().repeat(25);
+    let hellos = lines_of(include_str!("inputs/hellos.hex")).concat().repeat(25);
     let (datagrams, items) = (datagrams(), items(256));
     let (reader, writer) = ("a reader over slices, by hand", "a writer over slices, by hand");
     let rows: [(&str, &str, &str, Ours, ByHand, &[u8]); 9] = [

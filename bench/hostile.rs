@@ -49,7 +49,7 @@ fn tell(name: &str, message: &[u8], each: f64) -> f64 {
 fn main() {
     let path = std::env::args().nth(1).expect("the messages are in a file");
     let lines = std::fs::read_to_string(path).expect("the file is text");
-    let mut traffic = messages_of(include_str!("messages.hex"));
+    let mut traffic = messages_of(include_str!("inputs/messages.hex"));
     traffic.retain(|message| call(octseq_dns_rewritten, message) > 0);
     let size: usize = traffic.iter().map(|message| message.len()).sum();
     let whole = seconds(|| traffic.iter().map(|message| call(octseq_dns_rewritten, message)).sum());

@@ -143,7 +143,7 @@ fn tell(what: &str, sides: &[(&str, OfStream)], stream: &[u8], count: usize) {
 }
 
 fn main() {
-    let messages = messages_of(include_str!("messages.hex"));
+    let messages = messages_of(include_str!("inputs/messages.hex"));
     let well_formed = dns::read::checked(&stream_of(&messages));
     let kept: Vec<&Vec<u8>> = messages.iter().filter(|message| is_alike(message)).collect();
     let (stream, count) = (stream_of(&kept), kept.len());
