@@ -1,10 +1,11 @@
-//! The examples of the doc comments, and what each returns.
+//! The examples of the doc comments and the tasks of `docs/CALLING.md`, and what each returns.
 #![tactic(auto)]
 
 mod builders;
 mod composing;
 mod dns;
 mod parsing;
+mod tasks;
 mod text;
 
 use octseq::{Array, AsOctets};
@@ -110,7 +111,8 @@ fn main(rt: HostRuntime) -> anyhow::Result<()> {
     print_text(&rt, alloc)?;
     print_parsing(&rt)?;
     print_dns_read(&rt, alloc)?;
-    print_dns_written(&rt, alloc)
+    print_dns_written(&rt, alloc)?;
+    tasks::print_tasks(&rt, alloc)
 }
 
 /// A response: `www.example.com` is an alias of `example.com`, which has an address.

@@ -1,5 +1,4 @@
 //! Seven tasks, a few lines each. `docs/CALLING.md` shows them, and what they print.
-#![tactic(auto)]
 
 mod bgp_read;
 mod bgp_written;
@@ -11,9 +10,10 @@ mod text;
 
 use octseq_bgp::family::Afi;
 use octseq_bgp::prefix::Prefix;
+use std::alloc::Global;
 
-fn main(rt: HostRuntime) -> anyhow::Result<()> {
-    let alloc = rt.alloc();
+/// Prints what the tasks return.
+pub fn print_tasks(rt: &impl Print, alloc: Global) -> anyhow::Result<()> {
     println!(rt;
         "{:?}",
         format::next_packet(alloc, b"\x00\x07\x05hello")?.as_slice()
