@@ -35,8 +35,10 @@ fn is_text_or_short<B: AsOctets>(
 mod builders;
 mod composing;
 mod errors;
+mod habits;
 mod integers;
 mod refused;
 mod runs;
 mod text;
+mod uses;
 mod windows;
