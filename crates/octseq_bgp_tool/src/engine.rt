@@ -11,7 +11,7 @@ use crate::engine::records::{Records, one_record_piece};
 use crate::engine::shown::{OneMessage, one_message_piece};
 use crate::options::Options;
 use octseq_bgp::laws::{framed_messages_are_apart, misframed_begins_none};
-use octseq_cli::{Commands, ProgramFault, Status, take_stream, take_whole};
+use octseq_cli::{Commands, ProgramFault, Status, process_stream, process_whole};
 use octseq_mrt::records_are_apart;
 use std::alloc::Global;
 use std::io::{Read, Write};
@@ -146,7 +146,7 @@ impl Commands for Command {
         USAGE
     }
 
-    fn carry_out<R: Read, W: Write, E: Write>(
+    fn run<R: Read, W: Write, E: Write>(
         self,
         alloc: Global,
         reader: &mut R,
@@ -155,18 +155,18 @@ impl Commands for Command {
     ) -> Result<Status, ProgramFault> {
         match self {
             Command::Message(options) => {
-                take_whole(OneMessage(options.session()), alloc, reader, writer, errors)
+                process_whole(OneMessage(options.session()), alloc, reader, writer, errors)
             }
             Command::Stream(options) => {
                 let (session, output) = (options.session(), Output::Text);
-                take_stream(Messages { session, output }, alloc, reader, writer, errors)
+                process_stream(Messages { session, output }, alloc, reader, writer, errors)
             }
             Command::Rewrite(options) => {
                 let (session, output) = (options.session(), Output::Anew);
-                take_stream(Messages { session, output }, alloc, reader, writer, errors)
+                process_stream(Messages { session, output }, alloc, reader, writer, errors)
             }
-            Command::Mrt => take_stream(Records::Shown, alloc, reader, writer, errors),
-            Command::Messages => take_stream(Records::Taken, alloc, reader, writer, errors),
+            Command::Mrt => process_stream(Records::Shown, alloc, reader, writer, errors),
+            Command::Messages => process_stream(Records::Taken, alloc, reader, writer, errors),
         }
     }
 }

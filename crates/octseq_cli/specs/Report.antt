@@ -54,6 +54,6 @@ HasReason (Read reason) = ⊤
 HasReason _ = ⊥
 
 -- the line of a failure was written, or a front of it
-abbrev pub IsTold : Failure → Option (List ℕ) → Bool → Option (List ℕ) → Option (List ℕ) → Type 0
-IsTold failure path is_whole before after = (line : List ℕ) × (part : List ℕ) × IsLine failure path line
+abbrev pub IsErrorWritten : Failure → Option (List ℕ) → Bool → Option (List ℕ) → Option (List ℕ) → Type 0
+IsErrorWritten failure path is_whole before after = (line : List ℕ) × (part : List ℕ) × IsLine failure path line
     × IsPart is_whole part line × Appends before after part

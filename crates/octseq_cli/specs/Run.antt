@@ -2,8 +2,8 @@
 use Rattle.std.specs.Prelude.{◌≡◌, ◌⊎◌, ℕ, List, [], ◌++◌, codes, Bool, true, false, IsTrue, Option, Some, None, IfSome}
 use Rattle.std.specs.Io.KnownBytes.{Appends, Consumes, IsAtEnd}
 use Rattle.octseq.specs.Parts.{IsFront}
-use Rattle.octseq_cli.specs.declared.request.Asked.{Asked}
-use Rattle.octseq_cli.specs.declared.request.Asked.TheVariants.{Command, Help, Version, Unknown}
+use Rattle.octseq_cli.specs.declared.request.Request.{Request}
+use Rattle.octseq_cli.specs.declared.request.Request.TheVariants.{Command, Help, Version, Unknown}
 use Rattle.octseq_cli.specs.declared.engine.TheConstants.{VERSION}
 use Rattle.octseq_cli.specs.declared.status.Status.{Status}
 use Rattle.octseq_cli.specs.declared.status.Status.TheVariants.{Fine, Usage}
@@ -29,11 +29,11 @@ abbrev pub StandsAlone : List ℕ → Type 0
 StandsAlone word = IsHelpWord word ⊎ IsVersionWord word
 
 -- what the word asks for: a command, or help, or the version, or nothing that is known
-abbrev pub IsAsked : {C : Type 0} → (C → List ℕ) → List ℕ → Asked C → Type 0
-IsAsked name_of word (Command command) = word ≡ name_of command
-IsAsked name_of word Help = ¬ IsCommand name_of word × IsHelpWord word
-IsAsked name_of word Version = ¬ IsCommand name_of word × IsVersionWord word
-IsAsked name_of word Unknown = ¬ IsCommand name_of word × ¬ StandsAlone word
+abbrev pub IsRequest : {C : Type 0} → (C → List ℕ) → List ℕ → Request C → Type 0
+IsRequest name_of word (Command command) = word ≡ name_of command
+IsRequest name_of word Help = ¬ IsCommand name_of word × IsHelpWord word
+IsRequest name_of word Version = ¬ IsCommand name_of word × IsVersionWord word
+IsRequest name_of word Unknown = ¬ IsCommand name_of word × ¬ StandsAlone word
 
 -- What a program says of itself: its help text, and the end of the line about an unknown word, which says how it is used.
 pub record Said : Type 0 where
@@ -46,7 +46,7 @@ unknown_line usage word = codes "no command '" ++ (word ++ (codes "'; " ++ usage
 
 -- what is written, on standard output and on standard error, and how the program ends: `out` of a command and its
 -- input, or the help text, or the version, or the line about an unknown word
-abbrev pub Writes : {C : Type 0} → (C → List ℕ → List ℕ → List ℕ → Status → Type 0) → Said → List ℕ → Asked C
+abbrev pub Writes : {C : Type 0} → (C → List ℕ → List ℕ → List ℕ → Status → Type 0) → Said → List ℕ → Request C
     → List ℕ → List ℕ → List ℕ → Status → Type 0
 Writes out said word (Command command) input output errors status = out command input output errors status
 Writes out said word Help input output errors status = (output ≡ said.help) × (errors ≡ []) × (status ≡ Fine)
@@ -105,14 +105,14 @@ pub record Unnoted (out : List ℕ → List ℕ → List ℕ → Status → Type
 pub record Ran {C : Type 0} (name_of : C → List ℕ) (said : Said)
     (out : C → List ℕ → List ℕ → List ℕ → Status → Type 0) (word : List ℕ)
     (given before after noted_before noted_after : Option (List ℕ)) (status : Status) : Type 0 where
-  pub asked : Asked C
-  pub is_asked : IsAsked name_of word asked
-  pub answers : Answers (Writes out said word asked) given before after noted_before noted_after status
+  pub request : Request C
+  pub is_request : IsRequest name_of word request
+  pub answers : Answers (Writes out said word request) given before after noted_before noted_after status
 
 -- A run for a word, which failed.
 pub record Broke {C : Type 0} (name_of : C → List ℕ) (said : Said)
     (out : C → List ℕ → List ℕ → List ℕ → Status → Type 0) (word : List ℕ)
     (given left before after noted_before noted_after : Option (List ℕ)) : Type 0 where
-  pub asked : Asked C
-  pub is_asked : IsAsked name_of word asked
-  pub breaks_off : BreaksOff (Writes out said word asked) given left before after noted_before noted_after
+  pub request : Request C
+  pub is_request : IsRequest name_of word request
+  pub breaks_off : BreaksOff (Writes out said word request) given left before after noted_before noted_after

@@ -3,11 +3,11 @@ ghost use Rattle.std.specs.Prelude.{◌≡◌, ◌++◌, ℕ, List, [], codes, B
 ghost use Rattle.std.specs.Prelude.{Option, Err, IfOk, IfErr, OnOk, OnErr};
 ghost use Rattle.std.specs.Io.KnownBytes.{Appends, IsAtEnd};
 ghost use Rattle.octseq.specs.Parts.{IsFront};
-ghost use Rattle.octseq_cli.specs.Run.{IsAsked, IsCommand, IsNamed, Said, Writes, unknown_line};
+ghost use Rattle.octseq_cli.specs.Run.{IsRequest, IsCommand, IsNamed, Said, Writes, unknown_line};
 ghost use Rattle.octseq_cli.specs.Run.{Answers, BreaksOff, Ran, Broke, Unnoted};
 ghost use Rattle.octseq_cli.specs.declared.status.Status.{Status};
 
-use crate::request::{Asked, asked_for};
+use crate::request::{Request, parse_command};
 use crate::status::{ProgramFault, Status};
 use crate::streams::write_all;
 use std::alloc::Global;
@@ -54,7 +54,7 @@ pub trait Commands: Copy {
     ///
     /// `Memory` if a request for memory was refused, `Read` if a read failed, `Write` if a write failed. `Note` if the
     /// whole output was written, but not all notes on standard error.
-    fn carry_out<R: Read, W: Write, E: Write>(
+    fn run<R: Read, W: Write, E: Write>(
         self,
         alloc: Global,
         reader: &mut R,
@@ -114,8 +114,8 @@ pub fn engine<C: Commands, R: Read, W: Write, E: Write>(
         (E.contents errors.old) (E.contents errors.new)) }
 
     // If only notes couldn't be written, the whole output was.
-    ensures unnoted { IsTrue C.has_notes → result ≡ Err ProgramFault.Note → (asked : Asked C)
-        × IsAsked C.name_of word.now asked × Unnoted (Writes C.out C.said word.now asked) (R.remaining reader.old)
+    ensures unnoted { IsTrue C.has_notes → result ≡ Err ProgramFault.Note → (request : Request C)
+        × IsRequest C.name_of word.now request × Unnoted (Writes C.out C.said word.now request) (R.remaining reader.old)
         (R.remaining reader.new) (W.contents writer.old) (W.contents writer.new) (E.contents errors.old)
         (E.contents errors.new) }
 
@@ -123,17 +123,17 @@ pub fn engine<C: Commands, R: Read, W: Write, E: Write>(
     ensures unread { ¬ IsCommand C.name_of word.now → reader.new ≡ reader.old }
     ensures never { ¬ IsCommand C.name_of word.now → IfErr result (λ fault. fault ≡ ProgramFault.Write) }
 {
-    match asked_for::<C>(word) {
-        Asked::Command(command) => command.carry_out(alloc, reader, writer, errors),
-        Asked::Help => {
+    match parse_command::<C>(word) {
+        Request::Command(command) => command.run(alloc, reader, writer, errors),
+        Request::Help => {
             write_all(writer, C::help().as_bytes())?;
             Ok(Status::Fine)
         }
-        Asked::Version => {
+        Request::Version => {
             write_all(writer, VERSION.as_bytes())?;
             Ok(Status::Fine)
         }
-        Asked::Unknown => {
+        Request::Unknown => {
             write_unknown(errors, word, C::usage())?;
             Ok(Status::Usage)
         }

@@ -14,7 +14,7 @@ use std::io::{Read, Write};
 
 /// The output for a frame, the note about it on standard error, and whether the frame is valid.
 #[derive(Drop)]
-pub struct Piece {
+pub struct FrameOutput {
     /// The output.
     pub output: Vec<u8>,
     /// The note on standard error.
@@ -23,19 +23,19 @@ pub struct Piece {
     pub is_fine: bool,
 }
 
-impl Piece {
+impl FrameOutput {
     /// Makes a piece of a text, without a note.
     ///
     /// # Errors
     ///
     /// `AllocError` if a request for memory was refused.
-    pub fn plain(alloc: Global, text: &str, is_fine: bool) -> Result<Piece, AllocError>
+    pub fn plain(alloc: Global, text: &str, is_fine: bool) -> Result<FrameOutput, AllocError>
         ensures { IfOk result (λ piece. (piece.output.items ≡ text.now) × (piece.note.items ≡ [])
             × (piece.is_fine ≡ is_fine)) }
     {
         let mut output = Vec::new(alloc);
         output.extend_from_slice(text.as_bytes())?;
-        Ok(Piece {
+        Ok(FrameOutput {
             output,
             note: Vec::new(alloc),
             is_fine,
@@ -112,7 +112,7 @@ pub trait FrameCommand: Copy {
         tools: &mut Self::Tools,
         number: u64,
         octets: &[u8],
-    ) -> Result<Piece, AllocError>
+    ) -> Result<FrameOutput, AllocError>
         requires { fits self octets.now }
         ensures { IfOk result (λ piece.
             is_piece self number octets.now piece.is_fine piece.output.items piece.note.items) };
@@ -160,7 +160,7 @@ pub trait StreamCommand: FrameCommand {
     /// # Errors
     ///
     /// `AllocError` if a request for memory was refused.
-    fn take_end(self, alloc: Global, number: u64, ending: Ending) -> Result<Piece, AllocError>
+    fn take_end(self, alloc: Global, number: u64, ending: Ending) -> Result<FrameOutput, AllocError>
         ensures { IfOk result (λ piece. (rest : List ℕ) → is_rest self ending rest
             → is_end self number rest piece.is_fine piece.output.items piece.note.items) };
 }
@@ -171,7 +171,7 @@ pub trait StreamCommand: FrameCommand {
 ///
 /// `Memory` if a request for memory was refused, `Read` if a read failed, `Write` if a write of the output failed.
 /// `Note` if the output was written, but not the note.
-pub fn take_whole<C: FrameCommand, R: Read, W: Write, E: Write>(
+pub fn process_whole<C: FrameCommand, R: Read, W: Write, E: Write>(
     command: C,
     alloc: Global,
     reader: &mut R,
@@ -204,7 +204,7 @@ pub fn take_whole<C: FrameCommand, R: Read, W: Write, E: Write>(
 ///
 /// `Memory` if a request for memory was refused, `Read` if a read failed, `Write` if a write of the output failed.
 /// `Note` if the whole output was written, but not all notes.
-pub fn take_stream<C: StreamCommand, R: Read, W: Write, E: Write>(
+pub fn process_stream<C: StreamCommand, R: Read, W: Write, E: Write>(
     command: C,
     alloc: Global,
     reader: &mut R,
@@ -287,7 +287,7 @@ pub(crate) fn ended(is_all: bool, is_noted: bool) -> Result<Status, ProgramFault
 pub fn write_piece<W: Write, E: Write>(
     writer: &mut W,
     errors: &mut E,
-    piece: &Piece,
+    piece: &FrameOutput,
     is_noted: bool,
 ) -> Result<bool, ProgramFault>
     ensures ok { OnOk result (Appends (W.contents writer.old) (W.contents writer.new) piece.now.output.items) }

@@ -6,8 +6,8 @@
 #![tactic(auto)]
 
 pub mod engine;
+pub mod fault_injection;
 pub mod frames;
-pub mod hostile;
 pub mod process;
 pub mod report;
 pub mod request;
@@ -18,9 +18,10 @@ pub mod watched;
 
 pub use engine::Commands;
 pub use frames::{
-    Ending, FrameCommand, Next, Piece, StreamCommand, stop_line, take_stream, take_whole,
+    Ending, FrameCommand, FrameOutput, Next, StreamCommand, process_stream, process_whole,
+    stop_line,
 };
 pub use process::{arguments, exit_code, run, start};
-pub use request::{Asked, asked_for, command_word, input_path};
+pub use request::{Request, command_word, input_path, parse_command};
 pub use status::{ProgramFault, Status};
-pub use texts::{read_text, take_texts};
+pub use texts::{process_texts, read_text};

@@ -10,7 +10,7 @@ ghost use Rattle.octseq_cli.specs.declared.status.Status.{Status};
 
 use crate::engine::{Commands, engine};
 use crate::report::{Failure, report};
-use crate::request::{Asked, asked_for, command_word, input_path};
+use crate::request::{Request, command_word, input_path, parse_command};
 use crate::status::{ProgramFault, Status};
 use crate::streams::write_all;
 use crate::watched::Watched;
@@ -45,7 +45,7 @@ pub fn exit_code(ended: Result<Status, ProgramFault>) -> ExitCode
 
 /// Ends a program that failed: a line on standard error says what failed, with the path if there is a file. If there is
 /// no memory for the line, that is what failed. A failure of that write can't be reported.
-fn give_up(rt: &HostRuntime, failure: Failure, path: Option<&str>) -> ExitCode
+fn exit_with(rt: &HostRuntime, failure: Failure, path: Option<&str>) -> ExitCode
     ensures { (fault : ProgramFault) × (exit_status result ≡ status_of (Result.Err fault)) }
 {
     exit_code(Err(report(rt.alloc(), &mut rt.stderr(), failure, path)))
@@ -87,7 +87,7 @@ fn run_on<C: Commands, R: Read + Drop>(
 {
     let mut reader = match BufReader::new(rt.alloc(), Watched::new(reader)) {
         Ok(reader) => reader,
-        Err(_) => return give_up(rt, Failure::Memory, path),
+        Err(_) => return exit_with(rt, Failure::Memory, path),
     };
     let mut output = Watched::new(rt.stdout());
     let ended = engine::<C, _, _, _>(rt.alloc(), word, &mut reader, &mut output, &mut rt.stderr());
@@ -96,7 +96,7 @@ fn run_on<C: Commands, R: Read + Drop>(
         Err(fault) => {
             let is_closed = is_closed_pipe(output.error);
             let failure = failure_of(fault, reader.get_ref().error, is_closed);
-            give_up(rt, failure, path)
+            exit_with(rt, failure, path)
         }
     }
 }
@@ -109,9 +109,9 @@ fn run_on_file<C: Commands>(rt: &HostRuntime, word: &str, path: &str) -> ExitCod
     match File::open(rt, path) {
         Ok(file) => run_on::<C, _>(rt, word, file, Some(path)),
         Err(error) if error.kind() == ErrorKind::OutOfMemory => {
-            give_up(rt, Failure::Memory, Some(path))
+            exit_with(rt, Failure::Memory, Some(path))
         }
-        Err(error) => give_up(rt, Failure::Open(error), Some(path)),
+        Err(error) => exit_with(rt, Failure::Open(error), Some(path)),
     }
 }
 
@@ -126,7 +126,7 @@ fn run_on_nothing<C: Commands>(rt: &HostRuntime, word: &str) -> ExitCode
         Ok(status) => exit_code(Ok(status)),
         Err(fault) => {
             let failure = failure_of(fault, None, is_closed_pipe(output.error));
-            give_up(rt, failure, None)
+            exit_with(rt, failure, None)
         }
     }
 }
@@ -137,9 +137,9 @@ pub fn run<C: Commands>(rt: &HostRuntime, word: &str, path: Option<&str>) -> Exi
     ensures { (ended : Result Status ProgramFault) × (exit_status result ≡ status_of ended)
         × IfOk ended (Ran C.name_of C.said C.out word.now None None None None None) }
 {
-    match (asked_for::<C>(word), path) {
-        (Asked::Command(_), Some(path)) => run_on_file::<C>(rt, word, path),
-        (Asked::Command(_), None) => run_on::<C, _>(rt, word, rt.reader(), None),
+    match (parse_command::<C>(word), path) {
+        (Request::Command(_), Some(path)) => run_on_file::<C>(rt, word, path),
+        (Request::Command(_), None) => run_on::<C, _>(rt, word, rt.reader(), None),
         _ => run_on_nothing::<C>(rt, word),
     }
 }
@@ -154,7 +154,7 @@ pub fn start<C: Commands>(rt: &HostRuntime) -> ExitCode
     match arguments(rt) {
         Ok(args) => run::<C>(rt, command_word::<C>(&args), input_path(&args)),
         Err(error) if error.kind() == ErrorKind::OutOfMemory => {
-            give_up(rt, Failure::Memory, None)
+            exit_with(rt, Failure::Memory, None)
         }
         Err(_) => {
             let _ = write_all(&mut rt.stderr(), b"an argument isn't UTF-8\n");

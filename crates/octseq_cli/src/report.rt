@@ -1,7 +1,7 @@
 //! What standard error says of a failure.
 ghost use Rattle.std.specs.Prelude.{◌≡◌, ◌⊎◌, Bool, IfOk, OnErr, string_bytes};
 ghost use Rattle.std.specs.Option.{option_map};
-ghost use Rattle.octseq_cli.specs.Report.{HasReason, IsReasoned, IsSource, IsTold, fault_of};
+ghost use Rattle.octseq_cli.specs.Report.{HasReason, IsReasoned, IsSource, IsErrorWritten, fault_of};
 
 use crate::status::ProgramFault;
 use crate::streams::write_whole;
@@ -83,13 +83,13 @@ fn reasoned(
 /// # Errors
 ///
 /// `AllocError` if a request for memory was refused. Nothing was written then.
-pub fn tell<E: Write>(
+pub fn write_error<E: Write>(
     alloc: Global,
     errors: &mut E,
     failure: Failure,
     path: Option<&str>,
 ) -> Result<bool, AllocError>
-    ensures told { IfOk result (λ is_whole. IsTold failure (option_map (λ path. path.now) path.entry) is_whole
+    ensures told { IfOk result (λ is_whole. IsErrorWritten failure (option_map (λ path. path.now) path.entry) is_whole
         (E.contents errors.old) (E.contents errors.new)) }
     ensures memory { OnErr result (HasReason failure × (errors.new ≡ errors.old)) }
 {
@@ -118,13 +118,13 @@ pub fn report<E: Write>(
     path: Option<&str>,
 ) -> ProgramFault
     ensures { (told : Failure) × (is_whole : Bool) × ((told ≡ failure) ⊎ ((told ≡ Failure.Memory) × HasReason failure))
-        × IsTold told (option_map (λ path. path.now) path.entry) is_whole (E.contents errors.old)
+        × IsErrorWritten told (option_map (λ path. path.now) path.entry) is_whole (E.contents errors.old)
         (E.contents errors.new) × (result ≡ fault_of told) }
 {
-    match tell(alloc, errors, failure, path) {
+    match write_error(alloc, errors, failure, path) {
         Ok(_) => failure.fault(),
         Err(AllocError) => {
-            let _ = tell(alloc, errors, Failure::Memory, path);
+            let _ = write_error(alloc, errors, Failure::Memory, path);
             ProgramFault::Memory
         }
     }

@@ -1,6 +1,6 @@
 //! What a program is asked to do.
 ghost use Rattle.std.specs.Prelude.{◌≡◌, ℕ, ◌<◌, ◌≤◌, ◌∷◌, [], length, map, codes, string_bytes, List, None, IsSomeAnd};
-ghost use Rattle.octseq_cli.specs.Run.{IsAsked, StandsAlone};
+ghost use Rattle.octseq_cli.specs.Run.{IsRequest, StandsAlone};
 
 use crate::engine::Commands;
 
@@ -15,7 +15,7 @@ const STANDARD_INPUT: &str = "-";
 
 /// What a program is asked to do by its first word.
 #[derive(Clone, Copy, Debug, PartialEq, Eq)]
-pub enum Asked<C> {
+pub enum Request<C> {
     /// Run a command.
     Command(C),
     /// Write the help text.
@@ -27,14 +27,14 @@ pub enum Asked<C> {
 }
 
 /// Returns what the word asks for.
-pub fn asked_for<C: Commands>(word: &str) -> Asked<C>
-    ensures { IsAsked C.name_of word.now result }
+pub fn parse_command<C: Commands>(word: &str) -> Request<C>
+    ensures { IsRequest C.name_of word.now result }
 {
     match C::named(word) {
-        Some(command) => Asked::Command(command),
-        None if word == HELP_WORDS.0 || word == HELP_WORDS.1 => Asked::Help,
-        None if word == VERSION_WORD => Asked::Version,
-        None => Asked::Unknown,
+        Some(command) => Request::Command(command),
+        None if word == HELP_WORDS.0 || word == HELP_WORDS.1 => Request::Help,
+        None if word == VERSION_WORD => Request::Version,
+        None => Request::Unknown,
     }
 }
 

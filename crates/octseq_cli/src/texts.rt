@@ -22,7 +22,7 @@ use std::io::{ErrorKind, Read, Write};
 ///
 /// `Memory` if a request for memory was refused, `Read` if a read failed, `Write` if a write of the output failed.
 /// `Note` if the whole output was written, but not all notes.
-pub fn take_texts<C: FrameCommand, R: Read, W: Write, E: Write>(
+pub fn process_texts<C: FrameCommand, R: Read, W: Write, E: Write>(
     command: C,
     alloc: Global,
     reader: &mut R,

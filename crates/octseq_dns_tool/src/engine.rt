@@ -8,7 +8,7 @@ ghost use Rattle.octseq_cli.specs.declared.status.Status.{Status};
 use crate::engine::compose::{Composed, one_text_piece};
 use crate::engine::shown::{OneMessage, one_message_piece};
 use crate::engine::stream::{Messages, one_stream_piece};
-use octseq_cli::{Commands, ProgramFault, Status, take_stream, take_texts, take_whole};
+use octseq_cli::{Commands, ProgramFault, Status, process_stream, process_texts, process_whole};
 use std::alloc::Global;
 use std::io::{Read, Write};
 
@@ -119,7 +119,7 @@ impl Commands for Command {
         USAGE
     }
 
-    fn carry_out<R: Read, W: Write, E: Write>(
+    fn run<R: Read, W: Write, E: Write>(
         self,
         alloc: Global,
         reader: &mut R,
@@ -127,10 +127,10 @@ impl Commands for Command {
         errors: &mut E,
     ) -> Result<Status, ProgramFault> {
         match self {
-            Command::Message => take_whole(OneMessage, alloc, reader, writer, errors),
-            Command::Stream => take_stream(Messages::Shown, alloc, reader, writer, errors),
-            Command::Rewrite => take_stream(Messages::Rewritten, alloc, reader, writer, errors),
-            Command::Compose => take_texts(Composed, alloc, reader, writer, errors),
+            Command::Message => process_whole(OneMessage, alloc, reader, writer, errors),
+            Command::Stream => process_stream(Messages::Shown, alloc, reader, writer, errors),
+            Command::Rewrite => process_stream(Messages::Rewritten, alloc, reader, writer, errors),
+            Command::Compose => process_texts(Composed, alloc, reader, writer, errors),
         }
     }
 }

@@ -15,7 +15,7 @@ use octseq_bgp::laws::{
 use octseq_bgp::message::{ReadMessageError, read_message, rewrite};
 use octseq_bgp::session::SessionConfig;
 use octseq_cli::streams::{drop_rest, failed_read};
-use octseq_cli::{Ending, FrameCommand, Next, Piece, ProgramFault, StreamCommand, stop_line};
+use octseq_cli::{Ending, FrameCommand, FrameOutput, Next, ProgramFault, StreamCommand, stop_line};
 use std::alloc::{AllocError, Global};
 use std::io::Read;
 
@@ -56,7 +56,7 @@ fn text_piece(
     number: u64,
     octets: &[u8],
     session: SessionConfig,
-) -> Result<Piece, AllocError>
+) -> Result<FrameOutput, AllocError>
     ensures { IfOk result (λ piece.
         IsBlock session number octets.now piece.is_fine piece.output.items piece.note.items) }
 {
@@ -64,7 +64,7 @@ fn text_piece(
     let is_message = push_shown(&mut text, octets, session)?;
     text.push_str("\n")?;
     let note = note_on(alloc, "message", number, octets, session, is_message)?;
-    Ok(Piece {
+    Ok(FrameOutput {
         output: text.into_octets_builder(),
         note,
         is_fine: true,
@@ -77,17 +77,17 @@ fn anew_piece(
     number: u64,
     octets: &[u8],
     session: SessionConfig,
-) -> Result<Piece, AllocError>
+) -> Result<FrameOutput, AllocError>
     ensures { IfOk result (λ piece.
         IsAnew session number octets.now piece.is_fine piece.output.items piece.note.items) }
 {
     match rewrite(octets, session, Vec::new(alloc)) {
-        Ok(output) => Ok(Piece {
+        Ok(output) => Ok(FrameOutput {
             output,
             note: Vec::new(alloc),
             is_fine: true,
         }),
-        Err(WriteError::Malformed) => Ok(Piece {
+        Err(WriteError::Malformed) => Ok(FrameOutput {
             output: Vec::new(alloc),
             note: note_on(alloc, "message", number, octets, session, false)?,
             is_fine: false,
@@ -116,7 +116,7 @@ impl FrameCommand for Messages {
         _tools: &mut (),
         number: u64,
         octets: &[u8],
-    ) -> Result<Piece, AllocError> {
+    ) -> Result<FrameOutput, AllocError> {
         match self.output {
             Output::Text => text_piece(alloc, number, octets, self.session),
             Output::Anew => anew_piece(alloc, number, octets, self.session),
@@ -156,16 +156,21 @@ impl StreamCommand for Messages {
         }
     }
 
-    fn take_end(self, alloc: Global, number: u64, ending: Ending) -> Result<Piece, AllocError> {
+    fn take_end(
+        self,
+        alloc: Global,
+        number: u64,
+        ending: Ending,
+    ) -> Result<FrameOutput, AllocError> {
         let (cut, misframed) = match self.output {
             Output::Text => ("unexpected end of input\n", "malformed\n\n"),
             Output::Anew => ("", ""),
         };
         match ending {
-            Ending::Whole => Piece::plain(alloc, "", true),
-            Ending::Cut => Piece::plain(alloc, cut, false),
+            Ending::Whole => FrameOutput::plain(alloc, "", true),
+            Ending::Cut => FrameOutput::plain(alloc, cut, false),
             Ending::Misframed => {
-                let mut piece = Piece::plain(alloc, misframed, false)?;
+                let mut piece = FrameOutput::plain(alloc, misframed, false)?;
                 piece.note = stop_line(alloc, "message", number, 0)?;
                 Ok(piece)
             }

@@ -12,7 +12,7 @@ ghost use Rattle.octseq_mrt.specs.Records.{IsRecordOctets};
 use crate::engine::shown::{is_message, note_on, one_message_piece};
 use octseq::{AsOctets, StrBuilder};
 use octseq_cli::streams::failed_read;
-use octseq_cli::{Ending, FrameCommand, Next, Piece, ProgramFault, StreamCommand};
+use octseq_cli::{Ending, FrameCommand, FrameOutput, Next, ProgramFault, StreamCommand};
 use octseq_mrt::{
     Event, Record, RecordError, RecordValue, one_record, one_record_text, one_record_value,
     read_record, records_are_apart,
@@ -146,14 +146,14 @@ fn piece_of<R: AsOctets + Copy>(
     alloc: Global,
     number: u64,
     it: &Record<R>,
-) -> Result<Piece, AllocError>
+) -> Result<FrameOutput, AllocError>
     ensures { IfOk result (λ piece. (octets : List ℕ) → AreRecord octets (record_of it.now)
         → IsRecordPiece command number octets piece.is_fine piece.output.items piece.note.items) }
 {
     let value = it.value();
     let note = note_on_value(alloc, number, &value)?;
     let output = written_of(command, alloc, it, &value)?;
-    Ok(Piece {
+    Ok(FrameOutput {
         output,
         note,
         is_fine: true,
@@ -166,7 +166,7 @@ fn piece_of_octets<R: AsOctets + Copy>(
     alloc: Global,
     number: u64,
     octets: R,
-) -> Result<Piece, AllocError>
+) -> Result<FrameOutput, AllocError>
     requires { IsRecordOctets (R.content octets) }
     ensures { IfOk result (λ piece. IsRecordPiece command number (R.content octets) piece.is_fine piece.output.items
         piece.note.items) }
@@ -196,7 +196,7 @@ impl FrameCommand for Records {
         _tools: &mut (),
         number: u64,
         octets: &[u8],
-    ) -> Result<Piece, AllocError> {
+    ) -> Result<FrameOutput, AllocError> {
         piece_of_octets(self, alloc, number, octets)
     }
 }
@@ -229,14 +229,19 @@ impl StreamCommand for Records {
         }
     }
 
-    fn take_end(self, alloc: Global, _number: u64, ending: Ending) -> Result<Piece, AllocError> {
+    fn take_end(
+        self,
+        alloc: Global,
+        _number: u64,
+        ending: Ending,
+    ) -> Result<FrameOutput, AllocError> {
         let text = match self {
             Records::Shown => "unexpected end of input\n",
             Records::Taken => "",
         };
         match ending {
-            Ending::Whole => Piece::plain(alloc, "", true),
-            Ending::Cut | Ending::Misframed => Piece::plain(alloc, text, false),
+            Ending::Whole => FrameOutput::plain(alloc, "", true),
+            Ending::Cut | Ending::Misframed => FrameOutput::plain(alloc, text, false),
         }
     }
 }

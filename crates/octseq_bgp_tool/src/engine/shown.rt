@@ -7,7 +7,7 @@ use octseq::{AsOctets, StrBuilder};
 use octseq_bgp::laws::{one_message, one_stop, one_text};
 use octseq_bgp::message::{Message, place_of_fault};
 use octseq_bgp::session::SessionConfig;
-use octseq_cli::{FrameCommand, Piece, stop_line};
+use octseq_cli::{FrameCommand, FrameOutput, stop_line};
 use std::alloc::{AllocError, Global};
 
 /// Octets make one output and one note.
@@ -100,11 +100,11 @@ impl FrameCommand for OneMessage {
         _tools: &mut (),
         number: u64,
         octets: &[u8],
-    ) -> Result<Piece, AllocError> {
+    ) -> Result<FrameOutput, AllocError> {
         let mut text = StrBuilder::<Vec<u8>>::new(alloc)?;
         let is_fine = push_shown(&mut text, octets, self.0)?;
         let note = note_on(alloc, "message", number, octets, self.0, is_fine)?;
-        Ok(Piece {
+        Ok(FrameOutput {
             output: text.into_octets_builder(),
             note,
             is_fine,

@@ -1,6 +1,6 @@
 use super::Command;
 use octseq_cli::engine::engine;
-use octseq_cli::hostile::Drip;
+use octseq_cli::fault_injection::ShortReads;
 use octseq_cli::{ProgramFault, Status, command_word};
 use std::alloc::{AllocError, Global};
 use std::fmt::Debug;
@@ -77,7 +77,7 @@ struct Outcome {
 
 /// Returns what a word writes for octets that come at most `at_once` at a time, if reads fail after the first `reads`.
 fn reported(alloc: Global, word: &str, octets: &[u8], at_once: usize, reads: usize) -> Outcome {
-    let mut reader = Drip {
+    let mut reader = ShortReads {
         rest: octets,
         at_once,
         reads,

@@ -4,7 +4,7 @@ ghost use Rattle.octseq_dns_tool.specs.Composed.{IsTextPiece, fault_line};
 
 use crate::engine::rewrite::{Composing, Writer};
 use crate::engine::stream::{left_line, left_out, written_piece};
-use octseq_cli::{FrameCommand, Piece};
+use octseq_cli::{FrameCommand, FrameOutput};
 use octseq_dns_compose::{
     Place, a_refused_text_is_no_message, a_text_has_one_fault, a_text_is_of_one_message,
 };
@@ -16,7 +16,7 @@ fn composed_piece(
     writer: &mut Writer,
     number: u64,
     text: &[u8],
-) -> Result<Piece, AllocError>
+) -> Result<FrameOutput, AllocError>
     ensures { IfOk result (λ piece.
         IsTextPiece number text.now piece.is_fine piece.output.items piece.note.items) }
 {
@@ -79,7 +79,7 @@ impl FrameCommand for Composed {
         tools: &mut Writer,
         number: u64,
         octets: &[u8],
-    ) -> Result<Piece, AllocError> {
+    ) -> Result<FrameOutput, AllocError> {
         composed_piece(alloc, tools, number, octets)
     }
 }

@@ -3,7 +3,7 @@ ghost use Rattle.std.specs.Prelude.{◌≡◌, ◌++◌, ℕ, List, Bool, IfOk, 
 ghost use Rattle.octseq_dns_tool.specs.Shown.{IsMessagePiece, IsNote, IsShown};
 
 use octseq::StrBuilder;
-use octseq_cli::{FrameCommand, Piece, stop_line};
+use octseq_cli::{FrameCommand, FrameOutput, stop_line};
 use octseq_dns::message::{self, Message, place_of_fault};
 use std::alloc::{AllocError, Global};
 
@@ -77,11 +77,11 @@ impl FrameCommand for OneMessage {
         _tools: &mut (),
         number: u64,
         octets: &[u8],
-    ) -> Result<Piece, AllocError> {
+    ) -> Result<FrameOutput, AllocError> {
         let mut text = StrBuilder::<Vec<u8>>::new(alloc)?;
         let is_fine = push_shown(&mut text, octets)?;
         let note = note_on(alloc, number, octets, is_fine)?;
-        Ok(Piece {
+        Ok(FrameOutput {
             output: text.into_octets_builder(),
             note,
             is_fine,

@@ -11,7 +11,7 @@ use crate::engine::shown::{note_on, one_message_piece, push_shown};
 use octseq::StrBuilder;
 use octseq::compose::append_part_u16_be;
 use octseq_cli::streams::failed_read;
-use octseq_cli::{Ending, FrameCommand, Next, Piece, ProgramFault, StreamCommand};
+use octseq_cli::{Ending, FrameCommand, FrameOutput, Next, ProgramFault, StreamCommand};
 use octseq_dns::frames::{FrameError, read_frame};
 use octseq_dns::{Message, laws};
 use std::alloc::{AllocError, Global};
@@ -41,7 +41,7 @@ pub(super) enum Messages {
 }
 
 /// Returns the text of a message, and an empty line.
-fn shown_piece(alloc: Global, number: u64, octets: &[u8]) -> Result<Piece, AllocError>
+fn shown_piece(alloc: Global, number: u64, octets: &[u8]) -> Result<FrameOutput, AllocError>
     ensures { IfOk result (λ piece.
         IsPiece messages.Shown number octets.now piece.is_fine piece.output.items piece.note.items) }
 {
@@ -49,7 +49,7 @@ fn shown_piece(alloc: Global, number: u64, octets: &[u8]) -> Result<Piece, Alloc
     let is_message = push_shown(&mut text, octets)?;
     text.push_str("\n")?;
     let note = note_on(alloc, number, octets, is_message)?;
-    Ok(Piece {
+    Ok(FrameOutput {
         output: text.into_octets_builder(),
         note,
         is_fine: true,
@@ -62,7 +62,7 @@ fn moved_piece(
     writer: &mut Writer,
     number: u64,
     octets: &[u8],
-) -> Result<Piece, AllocError>
+) -> Result<FrameOutput, AllocError>
     ensures { IfOk result (λ piece.
         IsPiece messages.Rewritten number octets.now piece.is_fine piece.output.items piece.note.items) }
 {
@@ -84,7 +84,7 @@ fn moved_piece(
 }
 
 /// Returns the octets of a message, preceded by their length.
-pub(super) fn written_piece(alloc: Global, octets: &[u8]) -> Result<Piece, AllocError>
+pub(super) fn written_piece(alloc: Global, octets: &[u8]) -> Result<FrameOutput, AllocError>
     requires { length octets.now ≤ 65535 }
     ensures { IfOk result (λ piece. (piece.output.items ≡ part_of 2 octets.now) × (piece.note.items ≡ [])
         × (piece.is_fine ≡ true)) }
@@ -92,7 +92,7 @@ pub(super) fn written_piece(alloc: Global, octets: &[u8]) -> Result<Piece, Alloc
     let mut output = Vec::new(alloc);
     // (a vector has no limit, and there are at most 65,535 octets, so it refuses only for lack of memory)
     match append_part_u16_be(&mut output, octets) {
-        Ok(()) => Ok(Piece {
+        Ok(()) => Ok(FrameOutput {
             output,
             note: Vec::new(alloc),
             is_fine: true,
@@ -110,12 +110,12 @@ pub(super) fn left_line(alloc: Global, number: u64, why: &str) -> Result<Vec<u8>
 }
 
 /// Returns nothing for a message that is left out, with this note.
-pub(super) fn left_out(alloc: Global, note: Vec<u8>) -> Piece
+pub(super) fn left_out(alloc: Global, note: Vec<u8>) -> FrameOutput
     ensures output { result.output.items ≡ [] }
     ensures note { result.note.items ≡ note.items }
     ensures is_fine { result.is_fine ≡ false }
 {
-    Piece {
+    FrameOutput {
         output: Vec::new(alloc),
         note,
         is_fine: false,
@@ -143,7 +143,7 @@ impl FrameCommand for Messages {
         tools: &mut Writer,
         number: u64,
         octets: &[u8],
-    ) -> Result<Piece, AllocError> {
+    ) -> Result<FrameOutput, AllocError> {
         match self {
             Messages::Shown => shown_piece(alloc, number, octets),
             Messages::Rewritten => moved_piece(alloc, tools, number, octets),
@@ -178,11 +178,16 @@ impl StreamCommand for Messages {
         }
     }
 
-    fn take_end(self, alloc: Global, _number: u64, ending: Ending) -> Result<Piece, AllocError> {
+    fn take_end(
+        self,
+        alloc: Global,
+        _number: u64,
+        ending: Ending,
+    ) -> Result<FrameOutput, AllocError> {
         match (ending, self) {
-            (Ending::Whole, _) => Piece::plain(alloc, "", true),
-            (_, Messages::Shown) => Piece::plain(alloc, "unexpected end of input\n", false),
-            (_, Messages::Rewritten) => Piece::plain(alloc, "", false),
+            (Ending::Whole, _) => FrameOutput::plain(alloc, "", true),
+            (_, Messages::Shown) => FrameOutput::plain(alloc, "unexpected end of input\n", false),
+            (_, Messages::Rewritten) => FrameOutput::plain(alloc, "", false),
         }
     }
 }

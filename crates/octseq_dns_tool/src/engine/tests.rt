@@ -1,5 +1,5 @@
 use super::Command;
-use octseq_cli::hostile::Drip;
+use octseq_cli::fault_injection::ShortReads;
 use octseq_cli::{ProgramFault, Status};
 use std::alloc::{AllocError, Global};
 use std::fmt::Debug;
@@ -63,7 +63,7 @@ fn engine<R: Read, W: Write>(
 
 /// Returns what a command returns and writes for octets that come one at a time.
 fn ran(alloc: Global, word: &str, octets: &[u8]) -> (Result<Status, ProgramFault>, Vec<u8>) {
-    let mut reader = Drip {
+    let mut reader = ShortReads {
         rest: octets,
         at_once: 1,
         reads: usize::MAX,
@@ -106,7 +106,7 @@ fn reported(
     octets: &[u8],
     reads: usize,
 ) -> (Result<Status, ProgramFault>, Vec<u8>, Vec<u8>) {
-    let mut reader = Drip {
+    let mut reader = ShortReads {
         rest: octets,
         at_once: usize::MAX,
         reads,

@@ -3,15 +3,15 @@ use super::records::{NOTE, file, file_text};
 use super::{Command, UPDATE, UPDATE_TEXT, messages};
 use crate::engine::tests::unwrap;
 use octseq_cli::engine::engine;
-use octseq_cli::hostile::Narrow;
+use octseq_cli::fault_injection::ShortWrites;
 use octseq_cli::{ProgramFault, Status};
 use std::alloc::Global;
 use std::io;
 use std::process::Abort;
 
 /// Makes a writer that takes seven octets at a time, and fails after some calls.
-fn narrow(alloc: Global, calls: usize) -> Narrow {
-    Narrow {
+fn narrow(alloc: Global, calls: usize) -> ShortWrites {
+    ShortWrites {
         taken: Vec::new(alloc),
         at_once: 7,
         calls,

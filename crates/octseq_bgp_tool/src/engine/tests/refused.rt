@@ -7,7 +7,7 @@ use super::{Command, KEEPALIVE, UPDATE, UPDATE_TEXT, messages};
 use crate::engine::tests::unwrap;
 use octseq::array::Array;
 use octseq_cli::engine::engine;
-use octseq_cli::hostile::Fixed;
+use octseq_cli::fault_injection::Fixed;
 use octseq_cli::{ProgramFault, Status};
 use std::alloc::{AllocError, Global};
 use std::io;

@@ -2,7 +2,7 @@
 use super::{REPLY, REPLY_TEXT, engine, joined, ran};
 use crate::engine::Command;
 use crate::engine::tests::unwrap;
-use octseq_cli::hostile::{Drip, Faltering, Narrow};
+use octseq_cli::fault_injection::{FailingWriter, ShortReads, ShortWrites};
 use octseq_cli::{ProgramFault, Status};
 use std::alloc::{AllocError, Global};
 use std::io::ErrorKind;
@@ -33,7 +33,7 @@ fn failed_reads(
     (command, input, status, output): (&str, &str, Status, &str),
 ) -> usize {
     for reads in 0..32 {
-        let mut reader = Drip {
+        let mut reader = ShortReads {
             rest: input.as_bytes(),
             at_once,
             reads,
@@ -79,7 +79,7 @@ fn a_failed_write_is_reported(rt: HostRuntime) {
             // (each write that is needed, and a call to flush)
             let needed = output.len().div_ceil(at_once) + 1;
             for calls in 0..=needed {
-                let mut writer = Narrow {
+                let mut writer = ShortWrites {
                     taken: Vec::new(rt.alloc()),
                     at_once,
                     calls,
@@ -112,7 +112,7 @@ fn nothing_is_written_after_a_failure(rt: HostRuntime) {
             ),
             (ErrorKind::Interrupted, Ok(Status::Fine), output),
         ] {
-            let mut writer = Faltering {
+            let mut writer = FailingWriter {
                 taken: Vec::new(rt.alloc()),
                 until_failure: failed,
                 kind,
@@ -150,7 +150,7 @@ fn a_note_that_cant_be_written_doesnt_end_the_output(rt: HostRuntime) {
     for (command, input, status, output, notes) in AROUND {
         // (a note takes a write and a flush)
         for calls in 0..=4 {
-            let mut errors = Narrow {
+            let mut errors = ShortWrites {
                 taken: Vec::new(alloc),
                 at_once: usize::MAX,
                 calls,
@@ -186,7 +186,7 @@ fn output_is_the_same_however_octets_are_read(rt: HostRuntime) {
     let (answer, wanted) = ran(alloc, "stream", stream.as_slice());
     assert_equal!(&rt, answer, Ok(Status::Refused));
     for at_once in [2, 3, 45, 46, 47, usize::MAX] {
-        let mut reader = Drip {
+        let mut reader = ShortReads {
             rest: stream.as_slice(),
             at_once,
             reads: usize::MAX,

@@ -6,7 +6,7 @@ use super::{REPLY, REPLY_TEXT, engine};
 use crate::engine::Command;
 use crate::engine::tests::unwrap;
 use octseq::array::Array;
-use octseq_cli::hostile::Fixed;
+use octseq_cli::fault_injection::Fixed;
 use octseq_cli::report::{Failure, report};
 use octseq_cli::{ProgramFault, Status};
 use std::alloc::{AllocError, Global};

@@ -1,7 +1,7 @@
 use Rattle.std.proofs.Common.{◌≡◌, ℕ, Bool, true, false, List, [], Result, Ok, Err, inl, inr, sym, subst}
 use Rattle.std.specs.Prelude.{IfOk}
 use Rattle.octseq.specs.Part.{part_of}
-use Rattle.octseq_cli.specs.declared.frames.Piece.{Piece}
+use Rattle.octseq_cli.specs.declared.frames.FrameOutput.{FrameOutput}
 use Rattle.octseq_dns_tool.specs.Composed.{IsComposed, IsTextNote, IsTextPiece}
 use Rattle.octseq_dns_tool.proofs.engine.compose.composed_piece.Goals as goal
 
@@ -12,7 +12,7 @@ left number text b written line note e f h is =
     subst (λ b. IsTextPiece number text b written line) (sym e) (subst (IsTextNote number text) (sym h) is, f)
 
 -- a text is composed, and its message written after its length
-written : {E : Type 0} (number : ℕ) (text octets : List ℕ) (result : Result Piece E) → IsComposed text octets
+written : {E : Type 0} (number : ℕ) (text octets : List ℕ) (result : Result FrameOutput E) → IsComposed text octets
     → IfOk result (λ piece. (piece.output.items ≡ part_of 2 octets) × (piece.note.items ≡ [])
     × (piece.is_fine ≡ true))
     → IfOk result (λ piece. IsTextPiece number text piece.is_fine piece.output.items piece.note.items)

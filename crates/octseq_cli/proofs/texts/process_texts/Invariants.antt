@@ -1,6 +1,6 @@
 -- The texts so far were processed.
 use Rattle.octseq_cli.proofs.TextSteps.{IsTexted}
-use Rattle.octseq_cli.proofs.texts.take_texts.Given as goal
+use Rattle.octseq_cli.proofs.texts.process_texts.Given as goal
 
 abbrev pub invariant-loop-index : goal.invariant-loop-index
 invariant-loop-index g l =

@@ -3,7 +3,7 @@ use Rattle.octseq.proofs.Errors.{on_err}
 use Rattle.octseq_cli.proofs.Steps.{broke_reading, broken, not_noted, run_ended, read_on, taken_more, taken_none}
 use Rattle.octseq_cli.proofs.Taken.{whole_step}
 use Rattle.octseq_cli.specs.Frames.{IsWholeOut}
-use Rattle.octseq_cli.proofs.frames.take_whole.Goals as goal
+use Rattle.octseq_cli.proofs.frames.process_whole.Goals as goal
 
 pub returns-in_err-input-clause-broke : goal.returns-in_err-input-clause-broke
 returns-in_err-input-clause-broke g c =

@@ -5,7 +5,7 @@ use std::io::{self, Error, ErrorKind, Read, Write};
 
 /// A reader of octets that come a few at a time, and fails after some reads.
 #[derive(Drop)]
-pub struct Drip<'a> {
+pub struct ShortReads<'a> {
     /// The octets that are left.
     pub rest: &'a [u8],
     /// The maximum number of octets of a read.
@@ -14,7 +14,7 @@ pub struct Drip<'a> {
     pub reads: usize,
 }
 
-impl Read for Drip<'_> {
+impl Read for ShortReads<'_> {
     fn read(&mut self, buf: &mut [u8]) -> io::Result<usize> {
         if self.reads == 0 {
             return Err(Error::from(ErrorKind::ConnectionReset));
@@ -27,7 +27,7 @@ impl Read for Drip<'_> {
 
 /// A writer that takes a few octets at a time, and fails after some calls.
 #[derive(Drop)]
-pub struct Narrow {
+pub struct ShortWrites {
     /// The octets that it took.
     pub taken: Vec<u8>,
     /// The maximum number of octets of a write.
@@ -36,7 +36,7 @@ pub struct Narrow {
     pub calls: usize,
 }
 
-impl Narrow {
+impl ShortWrites {
     /// Counts a call, or fails if there are none left.
     fn call(&mut self) -> io::Result<()> {
         if self.calls == 0 {
@@ -47,7 +47,7 @@ impl Narrow {
     }
 }
 
-impl Write for Narrow {
+impl Write for ShortWrites {
     fn write(&mut self, buf: &[u8]) -> io::Result<usize> {
         self.call()?;
         let count = self.at_once.min(buf.len());
@@ -61,7 +61,7 @@ impl Write for Narrow {
 
 /// A writer that takes one octet at a time, fails at one write, and goes on after it.
 #[derive(Drop)]
-pub struct Faltering {
+pub struct FailingWriter {
     /// The octets that it took.
     pub taken: Vec<u8>,
     /// The number of the write that fails, counted from 1, or 0 for none.
@@ -70,7 +70,7 @@ pub struct Faltering {
     pub kind: ErrorKind,
 }
 
-impl Write for Faltering {
+impl Write for FailingWriter {
     fn write(&mut self, buf: &[u8]) -> io::Result<usize> {
         let fails = self.until_failure == 1;
         self.until_failure = self.until_failure.saturating_sub(1);

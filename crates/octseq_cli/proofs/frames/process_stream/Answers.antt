@@ -3,7 +3,7 @@ use Rattle.std.proofs.KnownBytes.{Consumes-nil}
 use Rattle.octseq.proofs.Errors.{on_err}
 use Rattle.octseq_cli.proofs.Steps.{broke_reading, broken, not_noted, run_ended, taken_more, taken_none}
 use Rattle.octseq_cli.proofs.Taken.{end_step, first_step, frame_step}
-use Rattle.octseq_cli.proofs.frames.take_stream.Goals as goal
+use Rattle.octseq_cli.proofs.frames.process_stream.Goals as goal
 
 pub loop-index-init : goal.loop-index-init
 loop-index-init g c = record {

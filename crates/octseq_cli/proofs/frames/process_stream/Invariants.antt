@@ -1,6 +1,6 @@
 -- The frames so far were processed.
 use Rattle.octseq_cli.proofs.Taken.{IsStreamed}
-use Rattle.octseq_cli.proofs.frames.take_stream.Given as goal
+use Rattle.octseq_cli.proofs.frames.process_stream.Given as goal
 
 abbrev pub invariant-loop-index : goal.invariant-loop-index
 invariant-loop-index g l =

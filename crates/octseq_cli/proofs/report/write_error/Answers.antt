@@ -1,5 +1,5 @@
 use Rattle.std.specs.Prelude.{string_bytes}
-use Rattle.octseq_cli.proofs.report.tell.Goals as goal
+use Rattle.octseq_cli.proofs.report.write_error.Goals as goal
 
 pub returns-in_ok-line-in-Open-clause-told : goal.returns-in_ok-line-in-Open-clause-told
 returns-in_ok-line-in-Open-clause-told g c =

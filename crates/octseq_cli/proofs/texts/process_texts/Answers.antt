@@ -7,7 +7,7 @@ use Rattle.octseq_cli.proofs.Steps.{broke_reading, broken, not_noted, run_ended,
 use Rattle.octseq_cli.proofs.TextSteps.{first_text, next_step, no_next}
 use Rattle.std.specs.Prelude.{IsTrue}
 use Rattle.octseq_cli.specs.Frames.{IsNoted}
-use Rattle.octseq_cli.proofs.texts.take_texts.Goals as goal
+use Rattle.octseq_cli.proofs.texts.process_texts.Goals as goal
 
 -- a vector is empty if its length is 0, and isn't otherwise
 empty_is : (items : List ℕ) (len : ℕ) → len ≡ length items → true ≡ nat_eq len 0 → items ≡ []
