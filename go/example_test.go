@@ -113,3 +113,20 @@ func ExampleData_Fields() {
 	// number 10
 	// name mail.example.com.
 }
+
+func ExampleEntry_Data() {
+	record, err := octseq.ParseRecordText("example.com. 300 IN MX 10 mail.example.com.", octseq.SectionAnswer)
+	if err != nil {
+		panic(err)
+	}
+	fields, err := record.Data().Fields()
+	if err != nil {
+		panic(err)
+	}
+	for _, field := range fields {
+		fmt.Println(field)
+	}
+	// Output:
+	// number 10
+	// name mail.example.com.
+}
