@@ -17,6 +17,7 @@ if TYPE_CHECKING:
 
 Network = Union[ipaddress.IPv4Network, ipaddress.IPv6Network]
 _KIND_AT = 18
+_ATTRIBUTE, _REACHED, _UNREACHED = lib.OCTSEQ_BGP_ATTRIBUTE, lib.OCTSEQ_BGP_REACHED, lib.OCTSEQ_BGP_UNREACHED
 
 
 @functools.lru_cache(maxsize=1 << 16)
@@ -129,48 +130,48 @@ class Message:
     @property
     def reached(self) -> tuple[Prefix, ...]:
         """The prefixes of each MP_REACH_NLRI (RFC 4760, 3)."""
-        return self._of_kind(lib.OCTSEQ_BGP_REACHED)
+        return self._of_kind(_REACHED)
 
     @property
     def unreached(self) -> tuple[Prefix, ...]:
         """The prefixes of each MP_UNREACH_NLRI (RFC 4760, 4)."""
-        return self._of_kind(lib.OCTSEQ_BGP_UNREACHED)
+        return self._of_kind(_UNREACHED)
 
     @property
     def attributes(self) -> tuple[Attribute, ...]:
         """Its path attributes."""
-        rows = self._rows
-        starts = [at for at, row in enumerate(rows) if row.kind == lib.OCTSEQ_BGP_ATTRIBUTE]
-        return tuple(self._attribute(rows[at], self._after(at + 1)) for at in starts)
+        octets, prefix = self._octets, self._prefix
+        attributes: list[Attribute] = []
+        reached: list[Prefix] = []
+        unreached: list[Prefix] = []
+        # (the prefixes inside an attribute follow it)
+        for row in reversed(self._rows):
+            kind = row.kind
+            if kind == _ATTRIBUTE:
+                value = octets[row.at : row.at + row.len]
+                inside = tuple(reversed(reached)), tuple(reversed(unreached))
+                attributes.append(Attribute(row.flags, row.type_code, value, *inside))
+                reached, unreached = [], []
+            elif kind == _REACHED:
+                reached.append(prefix(row))
+            elif kind == _UNREACHED:
+                unreached.append(prefix(row))
+        return tuple(reversed(attributes))
 
     @property
     def as_path(self) -> AsPath | None:
         """Its AS path: the first AS_PATH. None where it has none that has the form of its type."""
         for row in self._rows:
-            if row.kind == lib.OCTSEQ_BGP_ATTRIBUTE and row.type_code == AS_PATH:
+            if row.type_code == AS_PATH and row.kind == _ATTRIBUTE:
                 try:
                     return parse_path(self._octets_of(row), self._session.flags())
                 except Malformed:
                     return None
         return None
 
-    def _attribute(self, row: BgpRow, inside: list[BgpRow]) -> Attribute:
-        """The attribute of a row, with the prefixes inside it."""
-        reached = tuple(self._prefix(one) for one in inside if one.kind == lib.OCTSEQ_BGP_REACHED)
-        unreached = tuple(self._prefix(one) for one in inside if one.kind == lib.OCTSEQ_BGP_UNREACHED)
-        return Attribute(row.flags, row.type_code, self._octets_of(row), reached, unreached)
-
-    def _after(self, at: int) -> list[BgpRow]:
-        """The rows from an index on that are of prefixes inside an attribute."""
-        end = at
-        inside = lib.OCTSEQ_BGP_REACHED, lib.OCTSEQ_BGP_UNREACHED
-        while end < len(self._rows) and self._rows[end].kind in inside:
-            end += 1
-        return self._rows[at:end]
-
     def _of_kind(self, kind: int) -> tuple[Prefix, ...]:
         """The prefixes of a kind."""
-        return tuple(self._prefix(row) for row in self._rows if row.kind == kind)
+        return tuple([self._prefix(row) for row in self._rows if row.kind == kind])
 
     def _octets_of(self, row: BgpRow) -> bytes:
         return self._octets[row.at : row.at + row.len]
