@@ -20,6 +20,20 @@ struct given {
     uint32_t session; /* of a BGP message */
 };
 
+/* What a call is given of octets alone: they are in a block of their size, which let_go takes. */
+static inline struct given given_of(const uint8_t *octets, size_t len, uint32_t session) {
+    struct given given;
+    memset(&given, 0, sizeof given);
+    given.octets = block_with(octets, len);
+    given.len = len;
+    given.session = session;
+    return given;
+}
+
+static inline void let_go(struct given given) {
+    release((uint8_t *)(size_t)given.octets);
+}
+
 typedef uint32_t call(const struct given *given, uint8_t *out, size_t room, size_t *written);
 
 /* What a call answered. The octets are in a block, which release takes, and NULL but after OCTSEQ_OK. */

@@ -26,20 +26,6 @@ static uint32_t session_of(uint8_t said) {
            (said & 4 ? OCTSEQ_BGP_EXTENDED_MESSAGE : 0);
 }
 
-/* A message in a block of its size. */
-static struct given given_of(const uint8_t *octets, size_t len, uint32_t session) {
-    struct given given;
-    memset(&given, 0, sizeof given);
-    given.octets = block_with(octets, len);
-    given.len = len;
-    given.session = session;
-    return given;
-}
-
-static void let_go(struct given given) {
-    release((uint8_t *)(size_t)given.octets);
-}
-
 /* ---- rows against the octets ---- */
 
 /* Which part of a message rows are of: the octets of one list, from one place to another. */

@@ -23,19 +23,6 @@ static uint32_t number_at(const uint8_t *octets, size_t len) {
     return number;
 }
 
-static struct given given_of(const uint8_t *octets, size_t len, uint32_t session) {
-    struct given given;
-    memset(&given, 0, sizeof given);
-    given.octets = block_with(octets, len);
-    given.len = len;
-    given.session = session;
-    return given;
-}
-
-static void let_go(struct given given) {
-    release((uint8_t *)(size_t)given.octets);
-}
-
 /* The next line of a text is this one. */
 static void check_line(struct text *text, const char *wanted) {
     size_t len = strlen(wanted);

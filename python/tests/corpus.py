@@ -1,5 +1,5 @@
-"""The messages of crates/octseq_dns_messages and crates/octseq_bgp_messages, and the records of crates/octseq_mrt_tests,
-with the texts that other readers, dnspython and mrtparse, make of them."""
+"""The messages of crates/octseq_dns_messages and crates/octseq_bgp_messages, and the records of
+crates/octseq_mrt_tests, with the texts that other readers, dnspython and mrtparse, make of them."""
 from __future__ import annotations
 
 import pathlib

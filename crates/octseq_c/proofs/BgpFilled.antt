@@ -1,6 +1,6 @@
 -- A buffer of rows after a copy of more to the place where those that were written end.
-use Rattle.std.proofs.Common.{◌≡◌, ℕ, ◌+◌, ◌<◌, ◌≤◌, List, [], ◌∷◌, ◌++◌, length, take, drop, set, arith, ap, sym, ◌∙◌}
-use Rattle.std.proofs.Common.{append_assoc, length-append}
+use Rattle.std.proofs.Common.{◌≡◌, ℕ, ◌+◌, ◌<◌, ◌≤◌, List, [], ◌∷◌, ◌++◌, length, take, drop, set, arith, ap, sym, refl}
+use Rattle.std.proofs.Common.{◌∙◌, append_assoc, length-append}
 use Rattle.std.proofs.lemmas.List.{drop-set-lt, length-drop, length-take-le, take_more_set}
 use Rattle.octseq_c.proofs.Placed.{placed_after}
 
@@ -52,6 +52,11 @@ module _ {A : Type 0} (old mid new : List A) where
       let all = append_assoc a b d in
       let long : n3 ≡ length (a ++ (b ++ d)) = omega (arith, l2, e3, length-append (a ++ b) d, ap length all) in
       p3 ∙ ap (λ x. x ++ drop n3 old) all ∙ ap (λ k. (a ++ (b ++ d)) ++ drop k old) long
+
+-- the first item, written after those that follow it
+pub first_last : {A : Type 0} (old rest : List A) (one : A) → 0 < length old → set (take 1 old ++ rest) 0 one ≡ one ∷ rest
+first_last [] rest one some = absurd (omega (arith, some))
+first_last (x ∷ old) rest one some = refl
 
 -- one item, and more after it
 pub one_and_more : {A : Type 0} (old new more : List A) (one : A) (from after : ℕ) → from < length old

@@ -45,7 +45,8 @@ one and more = (one, more)
 
 -- the layouts of all types, one by one
 all_few : AllFew all_types
-all_few = omega arith and omega arith and omega arith and omega arith and omega arith and omega arith and omega arith and
+all_few =
+    omega arith and omega arith and omega arith and omega arith and omega arith and omega arith and omega arith and
     omega arith and omega arith and omega arith and omega arith and omega arith and omega arith and omega arith and
     omega arith and omega arith and omega arith and omega arith and omega arith and omega arith and omega arith and
     omega arith and omega arith and omega arith and omega arith and omega arith and omega arith and omega arith and

@@ -35,7 +35,8 @@ IsRequest name_of word Help = ¬ IsCommand name_of word × IsHelpWord word
 IsRequest name_of word Version = ¬ IsCommand name_of word × IsVersionWord word
 IsRequest name_of word Unknown = ¬ IsCommand name_of word × ¬ StandsAlone word
 
--- What a program says of itself: its help text, and the end of the line about an unknown word, which says how it is used.
+-- What a program says of itself: its help text, and the end of the line about an unknown word, which says how it is
+-- used.
 pub record Said : Type 0 where
   pub help : List ℕ
   pub usage : List ℕ

@@ -77,8 +77,8 @@ fn reasoned(
     }
 }
 
-/// Writes the line that says what failed, if one does: with the path if there is a file, and the system's reason if it is
-/// known. Returns whether all of it was written; otherwise a front of it was.
+/// Writes the line that says what failed, if one does: with the path if there is a file, and the system's reason if it
+/// is known. Returns whether all of it was written; otherwise a front of it was.
 ///
 /// # Errors
 ///

@@ -250,8 +250,8 @@ def dns_data_is_typed(data: bytes, row: Row) -> bool:
 
 
 def dns_data_fields(data: bytes, row: Row, room: int) -> Iterator[tuple[int, int, int, int]]:
-    """Of each field of the data of a row the place, the length, the number and the kind, as `octseq_dns_field` has them.
-    `room` is a guess of how many fields there are. Malformed."""
+    """Of each field of the data of a row the place, the length, the number and the kind, as `octseq_dns_field` has
+    them. `room` is a guess of how many fields there are. Malformed."""
     _, at, size, _, rtype, rclass, _ = row
     rows = _filled(_FIELDS, room, lib.octseq_dns_data_fields, data, len(data), at, size, rtype, rclass)
     return _FIELD.iter_unpack(rows)

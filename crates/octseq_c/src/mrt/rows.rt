@@ -1,5 +1,6 @@
 //! The parts of an MRT record as rows of numbers.
-ghost use Rattle.std.specs.Prelude.{◌≡◌, ◌≢◌, ◌↔◌, ◌⊎◌, ◌+◌, ◌<◌, ◌≤◌, ◌^◌, ◌++◌, ◌∷◌, [], List, map, take, drop, length};
+ghost use Rattle.std.specs.Prelude.{◌≡◌, ◌≢◌, ◌↔◌, ◌⊎◌, ◌+◌, ◌<◌, ◌≤◌, ◌^◌, ◌++◌, ◌∷◌, [], List};
+ghost use Rattle.std.specs.Prelude.{map, take, drop, length};
 ghost use Rattle.octseq.specs.Parser.{window};
 ghost use Rattle.octseq_mrt.specs.Parsed.{attributes_left, entries_left, peers_left, rib_of, table_of, value_of};
 ghost use Rattle.octseq_mrt.specs.ReadTurns.{entries_turns, record_turns};
@@ -114,13 +115,11 @@ fn fill_rows<R: AsOctets + Copy>(out: &mut [MrtRow], value: &RecordValue<R>)
 
 /// Writes the rows of a table to the front of a buffer that has room for them.
 fn fill_table<R: AsOctets + Copy>(out: &mut [MrtRow], table: &PeerIndexTable<R>)
-    requires few { length (peers_left table.now.peers) < 2 ^ 64 }
-    requires room { 1 + length (peers_left table.now.peers) ≤ length out.old }
+    requires { 1 + length (peers_left table.now.peers) ≤ length out.old }
     ensures { Fills (row_of_table (table_of table.now) ∷ map row_of_peer (peers_left table.now.peers)) out.old out.new }
 {
-    let count = peers_count(table.peers);
-    out[0] = table_row(table, count);
-    fill_peers(out, 1, table.peers);
+    let end = fill_peers(out, 1, table.peers);
+    out[0] = table_row(table, end - 1);
 }
 
 /// Writes the rows of a RIB to the front of a buffer that has room for them.
@@ -129,9 +128,8 @@ fn fill_rib<R: AsOctets + Copy>(out: &mut [MrtRow], rib: &Rib<R>)
     requires room { 1 + length (entries_left rib.now.entries) ≤ length out.old }
     ensures { Fills (row_of_rib (rib_of rib.now) ∷ map row_of_entry (entries_left rib.now.entries)) out.old out.new }
 {
-    let count = entries_count(rib.entries);
-    out[0] = rib_row(rib, count);
-    fill_entries(out, 1, rib.entries);
+    let end = fill_entries(out, 1, rib.entries);
+    out[0] = rib_row(rib, end - 1);
 }
 
 /// Writes the rows of peers from an index on. Returns the index after them.

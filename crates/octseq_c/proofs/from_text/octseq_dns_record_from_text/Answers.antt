@@ -18,6 +18,7 @@ returns-in-Ok-clause-puts c =
       data_octets = made;
       are = subst (AreWords all) c.new.ensures.ahead are;
       is = subst (IsRecordText None head all) (sym same) is;
+      fits = omega (arith, c.as_slice.ensures.size, ap (λ (made : List ℕ). length made) c.as_slice.ensures.content);
       made_is = refl;
     }) c.put_record.ensures
 

@@ -66,5 +66,6 @@ returns-in_ok-write_unknown-in-Unknown-clause-ran g c =
       request = Unknown;
       is_request = c.in-Unknown.ensures;
       answers = answered_always [] line (λ input. (refl, refl, refl))
-          (Appends-nil (g.W.Write.contents c.args.writer.now)) (rw c.usage.ensures at c.in_ok-write_unknown-in-Unknown.ensures.ok);
+          (Appends-nil (g.W.Write.contents c.args.writer.now))
+          (rw c.usage.ensures at c.in_ok-write_unknown-in-Unknown.ensures.ok);
     }

@@ -15,7 +15,8 @@ fill_attributes-at-requires g c =
     let rows = rows_of_attributes (entry_of c.in-Some.entry) in
     let more = flat_map rows_of_attributes (entries_left c.next.new.self) in
     let same = length-map (attributes_left c.in-Some.entry.attributes) row_of_attribute in
-    let whole = ap (λ row. so_far.done ++ flat_map rows_of_attributes row) (sym c.in-Some.ensures.steps) ∙ so_far.whole in
+    let whole = ap (λ row. so_far.done ++ flat_map rows_of_attributes row) (sym c.in-Some.ensures.steps)
+    ∙ so_far.whole in
     let all = ap length whole in
     let front = length-append so_far.done (rows ++ more) in
     let back = length-append rows more in
@@ -29,7 +30,8 @@ loop-entry-preserved g c =
     let same = length-map (attributes_left c.in-Some.entry.attributes) row_of_attribute in
     let end = c.fill_attributes-at.ensures.end ∙ ap (λ k. c.loop-entry.at + k) (sym same) in
     let there = length-append so_far.done rows in
-    let whole = ap (λ row. so_far.done ++ flat_map rows_of_attributes row) (sym c.in-Some.ensures.steps) ∙ so_far.whole in
+    let whole = ap (λ row. so_far.done ++ flat_map rows_of_attributes row) (sym c.in-Some.ensures.steps)
+    ∙ so_far.whole in
     let all = ap length whole in
     let front = length-append so_far.done (rows ++ more) in
     let back = length-append rows more in
