@@ -424,8 +424,8 @@ fn push_attribute(message: &mut Vec<u8>, kind: u8, value: &[u8]) {
     message.extend_from_slice(value);
 }
 
-/// Appends an IPv4 prefix, if it has at most 32 bits and the message at most 4,096 octets with it. Bits after its length
-/// are 0.
+/// Appends an IPv4 prefix, if it has at most 32 bits and the message at most 4,096 octets with it. Bits after its
+/// length are 0.
 #[inline(always)]
 fn push_prefix(message: &mut Vec<u8>, len: u8, address: [u8; 4]) -> Option<()> {
     if len > 32 {

@@ -1,4 +1,4 @@
-//! Measures, and writes what was measured: lines, the tables of docs/SPEED.md and the picture docs/speed.svg.
+//! Measures, and writes what was measured: lines, the table of docs/SPEED.md and the picture docs/speed.svg.
 use std::fmt::{Debug, Write as _};
 use std::hint::black_box;
 use std::time::Instant;
@@ -69,7 +69,7 @@ impl Input {
     }
 }
 
-/// Inputs that make one row of the table and one bar of the picture: a call, what it is given, and what it is beside.
+/// Inputs that make one bar of the picture: a call, what it is given, and what it is beside.
 pub struct Section {
     heading: String,
     what: String,
@@ -104,22 +104,14 @@ impl Section {
         }
     }
 
-    /// The mean, and that of what is left where a part is told apart.
-    fn means(&self) -> String {
-        let rest = self.ratios_of_rest().map(|rest| format!("; less the copy {:.2}", mean(&rest)));
-        format!("{:.2}{}", mean(&self.ratios()), rest.unwrap_or_default())
+    /// What the inputs have in common with those of like sections: what is given without its size or its script.
+    fn kind(&self) -> &str {
+        self.given.rsplit_once(", ").map_or(&self.given, |(kind, _)| kind)
     }
 
-    /// The ratio of each input, if there is more than one. Of lengths, the greatest alone.
-    fn each(&self) -> String {
-        if self.inputs.len() == 1 {
-            return String::new();
-        }
-        if self.inputs.iter().all(|input| input.name.parse::<usize>().is_ok()) {
-            return format!("greatest {:.2}", greatest(&self.ratios()));
-        }
-        let each = self.inputs.iter().map(|input| format!("{} {:.2}", input.name, input.ratio()));
-        each.collect::<Vec<_>>().join(", ")
+    /// Whether both are in one row of the table.
+    fn is_like(&self, other: &Section) -> bool {
+        (&self.what, &self.beside, self.kind()) == (&other.what, &other.beside, other.kind())
     }
 
     fn ratios(&self) -> Vec<f64> {
@@ -157,6 +149,11 @@ fn wrapped(note: &str) -> String {
         column += len;
     }
     text
+}
+
+/// A cell of a table, without the mark that ends it.
+fn column(cell: &str) -> String {
+    if cell.is_empty() { "| ".into() } else { format!("| {cell} ") }
 }
 
 #[derive(Default)]
@@ -203,7 +200,7 @@ impl Bench {
         self.notes.iter().for_each(|note| println!("{note}"));
     }
 
-    /// Writes the tables between their marks in SPEED.md, and speed.svg beside it.
+    /// Writes the table between its marks in SPEED.md, and speed.svg beside it.
     pub fn write(&self, folder: &str, when: &str) -> std::io::Result<()> {
         const FROM: &str = "<!-- bench/run writes from here -->\n";
         const TO: &str = "<!-- to here -->\n";
@@ -213,28 +210,41 @@ impl Bench {
         let Some((before, after)) = parts else {
             return Err(std::io::Error::other("SPEED.md has not both marks"));
         };
-        std::fs::write(&path, format!("{before}{FROM}{}{TO}{after}", self.tables(when)))?;
+        std::fs::write(&path, format!("{before}{FROM}{}{TO}{after}", self.table(when)))?;
         std::fs::write(format!("{folder}/speed.svg"), self.picture(when))
     }
 
-    /// For each call and what it is beside, a table, or a line if no row has more than its mean.
-    fn tables(&self, when: &str) -> String {
+    /// The sections, like ones together.
+    fn rows(&self) -> Vec<Vec<&Section>> {
+        let mut rows: Vec<Vec<&Section>> = Vec::new();
+        for section in &self.sections {
+            match rows.iter_mut().find(|row| row[0].is_like(section)) {
+                Some(row) => row.push(section),
+                None => rows.push(vec![section]),
+            }
+        }
+        rows
+    }
+
+    /// A row for like sections. A call and what it is beside are named where they differ from the row above.
+    fn table(&self, when: &str) -> String {
         let mut page = format!("Measured on {when}, as time over Rust's.\n");
         for note in &self.notes {
             let _ = write!(page, "\n{}\n", wrapped(note));
         }
-        let same = |a: &Section, b: &Section| (&a.what, &a.beside) == (&b.what, &b.beside);
-        for sections in self.sections.chunk_by(same) {
-            let head = format!("**{}**, beside {}:", sections[0].what, sections[0].beside);
-            let row = |section: &Section| format!("| {} | {} | {} |", section.given, section.means(), section.each());
-            let mean = |section: &Section| format!("{} {}", section.given, section.means());
-            let _ = if sections.iter().all(|section| section.each().is_empty()) {
-                let means: Vec<String> = sections.iter().map(mean).collect();
-                write!(page, "\n{}\n", wrapped(&format!("{head} {}.", means.join("; "))))
-            } else {
-                let rows: Vec<String> = sections.iter().map(row).collect();
-                write!(page, "\n{head}\n\n| input | mean | each |\n|---|---|---|\n{}\n", rows.join("\n"))
-            };
+        page.push_str("\n| call | beside | input | mean | greatest |\n|---|---|---|---|---|\n");
+        let (mut what, mut beside) = ("", "");
+        for row in self.rows() {
+            let ratios: Vec<f64> = row.iter().flat_map(|section| section.ratios()).collect();
+            let rests: Option<Vec<Vec<f64>>> = row.iter().map(|section| section.ratios_of_rest()).collect();
+            let rest = rests.map(|rests| format!("; less the copy {:.2}", mean(&rests.concat()))).unwrap_or_default();
+            let means = format!("{:.2}{rest}", mean(&ratios));
+            let most = if ratios.len() == 1 { String::new() } else { format!("{:.2}", greatest(&ratios)) };
+            let names = [(&row[0].what, what), (&row[0].beside, beside)];
+            let [call, other] = names.map(|(name, above)| if name == above { "" } else { name });
+            let cells = [call, other, row[0].kind(), &means, &most].map(column);
+            let _ = writeln!(page, "{}|", cells.concat());
+            (what, beside) = (&row[0].what, &row[0].beside);
         }
         page
     }

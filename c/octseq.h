@@ -10,7 +10,7 @@
  * uninitialised. No length after a pointer is above PTRDIFF_MAX; of rows their octets count, which are the row's
  * `sizeof` times as many. Any other pointer (`written`, `count`, `state` and the like) is to one such
  * thing, and isn't NULL.
- * All other numbers, as places, types and the fields of a row, may be any. The program's malloc, realloc and free are
+ * All other numbers, as offsets, types and the fields of a row, may be any. The program's malloc, realloc and free are
  * of one allocator and align a block as C asks of them. The two calls that use them aren't made by a signal handler,
  * nor by the forked child of a process with threads.
  *
@@ -40,7 +40,7 @@ extern "C" {
 #define OCTSEQ_FAULT 3u     /* the octets are not well-formed UTF-8 */
 #define OCTSEQ_IMMOVABLE 4u /* data that isn't of its type's form may have pointers, so it can't be moved */
 #define OCTSEQ_TOO_LONG 5u  /* a DNS message or data would have more than 65,535 octets, a text more than SIZE_MAX */
-#define OCTSEQ_BAD_ROW 6u   /* a row's name isn't at its place, its data isn't in the octets, or its section is none */
+#define OCTSEQ_BAD_ROW 6u   /* a row's name isn't at its offset, its data isn't in the octets, or its section is none */
 #define OCTSEQ_BAD_STATE 7u /* the octets of a state are more than three, or begin no character */
 #define OCTSEQ_UNSHOWN 8u   /* no text could be made. No octets lead here, but no proof rules it out */
 #define OCTSEQ_MEMORY 9u    /* a request for memory was refused */
@@ -100,7 +100,7 @@ typedef struct octseq_dns_header {
 /* The one flag of an OPT record that has a meaning: records of DNSSEC are accepted (RFC 3225, 3). */
 #define OCTSEQ_DNS_DO 0x8000u
 
-/* A question or a record. Places are counted from the first octet of what it was read from. The four octets after
+/* A question or a record. Offsets are counted from the first octet of what it was read from. The four octets after
  * `section`, which align the next row, are no part of it. */
 typedef struct octseq_dns_row {
     size_t name_at;   /* where the name begins */
@@ -115,10 +115,10 @@ typedef struct octseq_dns_row {
 /* The header of the message that the octets are. OK, MALFORMED: they are no message; `*header` is as it was. */
 uint32_t octseq_dns_message_header(const uint8_t *octets, size_t len, octseq_dns_header *header);
 
-/* Whether the octets are a message, and where reading them stops. OK: they are one, and `*place` is `len`. MALFORMED:
- * `*place` is where the first part is that isn't there: 0 for the header, or a question or a record that it counts; or,
- * if all of these are there, the place after the last; or 65,535 if there are more octets. */
-uint32_t octseq_dns_message_fault(const uint8_t *octets, size_t len, size_t *place);
+/* Whether the octets are a message, and where reading them stops. OK: they are one, and `*offset` is `len`. MALFORMED:
+ * `*offset` is where the first part is that isn't there: 0 for the header, or a question or a record that it counts;
+ * or, if all of these are there, the offset after the last; or 65,535 if there are more octets. */
+uint32_t octseq_dns_message_fault(const uint8_t *octets, size_t len, size_t *offset);
 
 /* The questions and the records of the message that the octets are, in their order. OK, NO_ROOM, MALFORMED. */
 uint32_t octseq_dns_rows(const uint8_t *octets, size_t len, octseq_dns_row *out, size_t room, size_t *count);
@@ -146,7 +146,7 @@ uint32_t octseq_dns_query_edns(uint16_t id, uint16_t flags, const uint8_t *name,
 
 /* The answer to a message. It has the message's number, opcode, flag RD and questions, the flag QR, and of `flags` the
  * response code and all other flags. Its records are the rows, each in its section (1, 2 or 3), in the order that they
- * have here. Their names and data are at their places in `source`, and so are names in data. Names are compressed. OK,
+ * have here. Their names and data are at their offsets in `source`, and so are names in data. Names are compressed. OK,
  * NO_ROOM, MALFORMED: `query` is no message; BAD_ROW, IMMOVABLE, TOO_LONG. */
 uint32_t octseq_dns_answer(const uint8_t *query, size_t query_len, uint16_t flags, const uint8_t *source,
                            size_t source_len, const octseq_dns_row *rows, size_t count, uint8_t *out, size_t room,
@@ -166,38 +166,38 @@ uint32_t octseq_dns_answer_within(const uint8_t *query, size_t query_len, uint16
  * 10 mail.example.com.`. The TTL and the class come in either order, and each name ends with a full stop. The octets
  * are those of the owner, the type, the class, the TTL, the length of the data and the data, and no name has a
  * pointer. Memory is requested for data that ends in a list of types or of parameters. OK, NO_ROOM, MALFORMED:
- * `*offset` is the place of the first word that isn't what has to come there, where the end of the text counts as a
+ * `*offset` is the offset of the first word that isn't what has to come there, where the end of the text counts as a
  * word; TOO_LONG: the data has more than 65,535 octets; MEMORY. `*offset` is 0 but after MALFORMED. */
 uint32_t octseq_dns_record_from_text(const uint8_t *text, size_t len, uint8_t *out, size_t room, size_t *written,
                                      size_t *offset);
 
 /* The message that a text is, in the form that octseq_dns_message_text has, with its names compressed. Memory is
  * requested as for a record. OK, NO_ROOM, MALFORMED: `*line` is the number, from 1 on, of the line that has the first
- * word which isn't what has to come there, and `*offset` the place of that word in the line; TOO_LONG, MEMORY. Both
+ * word which isn't what has to come there, and `*offset` the offset of that word in the line; TOO_LONG, MEMORY. Both
  * are 0 but after MALFORMED. */
 uint32_t octseq_dns_message_from_text(const uint8_t *text, size_t len, uint8_t *out, size_t room, size_t *written,
                                       size_t *line, size_t *offset);
 
 /* ---- DNS names (RFC 1035, 3.1) ---- */
 
-/* The text of the name at a place of the octets, `example.com.`, with the escapes of RFC 1035, 5.1. OK, NO_ROOM,
+/* The text of the name at an offset of the octets, `example.com.`, with the escapes of RFC 1035, 5.1. OK, NO_ROOM,
  * MALFORMED: no name is there; UNSHOWN. A text has at most 1,004 octets. */
-uint32_t octseq_dns_name_text(const uint8_t *octets, size_t len, size_t place, uint8_t *out, size_t room,
+uint32_t octseq_dns_name_text(const uint8_t *octets, size_t len, size_t offset, uint8_t *out, size_t room,
                               size_t *written);
 
-/* The wire form of the name at a place of the octets, without pointers. OK, NO_ROOM, MALFORMED: no name is there. A
+/* The wire form of the name at an offset of the octets, without pointers. OK, NO_ROOM, MALFORMED: no name is there. A
  * wire form has at most 255 octets. */
-uint32_t octseq_dns_name_wire(const uint8_t *octets, size_t len, size_t place, uint8_t *out, size_t room,
+uint32_t octseq_dns_name_wire(const uint8_t *octets, size_t len, size_t offset, uint8_t *out, size_t room,
                               size_t *written);
 
 /* The wire form of the name that a text spells. The text ends with a full stop. OK, NO_ROOM, MALFORMED: it spells no
  * name. */
 uint32_t octseq_dns_name_from_text(const uint8_t *text, size_t len, uint8_t *out, size_t room, size_t *written);
 
-/* How the name at one place compares with that at another, in the canonical order (RFC 4034, 6.1): `*order` is -1, 0
- * or 1. Letters of either case are one. OK, MALFORMED: at one of the places no name is; `*order` is then 2. */
-uint32_t octseq_dns_name_compare(const uint8_t *one, size_t one_len, size_t one_place, const uint8_t *other,
-                                 size_t other_len, size_t other_place, int32_t *order);
+/* How the name at one offset compares with that at another, in the canonical order (RFC 4034, 6.1): `*order` is -1, 0
+ * or 1. Letters of either case are one. OK, MALFORMED: at one of the offsets no name is; `*order` is then 2. */
+uint32_t octseq_dns_name_compare(const uint8_t *one, size_t one_len, size_t one_offset, const uint8_t *other,
+                                 size_t other_len, size_t other_offset, int32_t *order);
 
 /* ---- data of DNS records ---- */
 
@@ -213,17 +213,17 @@ uint32_t octseq_dns_data_text(const uint8_t *octets, size_t len, size_t data_at,
 
 /* The kinds of fields of data. */
 #define OCTSEQ_DNS_NUMBER 0u    /* a number of one, two or four octets: a preference, a time, a record type */
-#define OCTSEQ_DNS_NAME 1u      /* a domain name, at a place as octseq_dns_name_text takes it */
+#define OCTSEQ_DNS_NAME 1u      /* a domain name, at an offset as octseq_dns_name_text takes it */
 #define OCTSEQ_DNS_ADDRESS 2u   /* an IPv4 address of 4 octets, or an IPv6 one of 16 */
 #define OCTSEQ_DNS_STRING 3u    /* a character string, without the octet of its length */
 #define OCTSEQ_DNS_OCTETS 4u    /* octets that are no other field: a key, a digest, a signature, unknown data */
 #define OCTSEQ_DNS_TYPES 5u     /* a set of record types (RFC 4034, 4.1.2) */
 #define OCTSEQ_DNS_PARAMETER 6u /* a parameter of SVCB or HTTPS (RFC 9460, 2.2) or an option of OPT (RFC 6891, 6.1.2) */
 
-/* A field of data. Places are counted from the first of the octets. */
+/* A field of data. Offsets are counted from the first of the octets. */
 typedef struct octseq_dns_field {
     size_t at;       /* where its octets begin, after a length that it has before them; 0 of a number */
-    size_t len;      /* how many octets there are; of a name those at its place, of a number 0 */
+    size_t len;      /* how many octets there are; of a name those at its offset, of a number 0 */
     uint32_t number; /* the number, or the key of a parameter or the code of an option; else 0 */
     uint32_t kind;   /* OCTSEQ_DNS_NUMBER and so on */
 } octseq_dns_field;
@@ -262,7 +262,7 @@ uint32_t octseq_dns_class_from_text(const uint8_t *text, size_t len, uint16_t *r
 #define OCTSEQ_BGP_REACHED 3u   /* a prefix of MP_REACH_NLRI (RFC 4760, 3) */
 #define OCTSEQ_BGP_UNREACHED 4u /* a prefix of MP_UNREACH_NLRI (RFC 4760, 4) */
 
-/* A prefix or a path attribute of an UPDATE. Places are counted from the first octet of the message. */
+/* A prefix or a path attribute of an UPDATE. Offsets are counted from the first octet of the message. */
 typedef struct octseq_bgp_row {
     size_t at;            /* where the value of the attribute begins, or the octets of the prefix, after its length */
     size_t len;           /* how many octets there are; of a prefix (bits + 7) / 8 */
@@ -276,11 +276,11 @@ typedef struct octseq_bgp_row {
     uint8_t type_code;    /* the type of the attribute; 0 of a prefix */
 } octseq_bgp_row;
 
-/* Whether the octets are a message of the session, and where reading them stops. OK: they are one, and `*place` is
- * `len`. MALFORMED: `*place` is 0 where the octets don't begin with the header of a message of this length; else where
+/* Whether the octets are a message of the session, and where reading them stops. OK: they are one, and `*offset` is
+ * `len`. MALFORMED: `*offset` is 0 where the octets don't begin with the header of a message of this length; else where
  * the first part is that isn't there: 19 for what each message of its type begins with (and for what follows the header
- * of a KEEPALIVE), or the place of a parameter of an OPEN, a length, a prefix or an attribute of an UPDATE. */
-uint32_t octseq_bgp_message_fault(const uint8_t *octets, size_t len, uint32_t session, size_t *place);
+ * of a KEEPALIVE), or the offset of a parameter of an OPEN, a length, a prefix or an attribute of an UPDATE. */
+uint32_t octseq_bgp_message_fault(const uint8_t *octets, size_t len, uint32_t session, size_t *offset);
 
 /* The parts of the message that the octets are, in their order: withdrawn prefixes, attributes, announced prefixes. The
  * prefixes of an MP_REACH_NLRI and of an MP_UNREACH_NLRI follow it, if its value has the form of its type and its
@@ -326,7 +326,7 @@ typedef struct octseq_mrt_header {
 #define OCTSEQ_MRT_MESSAGE 5u      /* a BGP message */
 #define OCTSEQ_MRT_STATE_CHANGE 6u /* a change of a session's state */
 
-/* A part of a record. Places are counted from the first octet of the record. What a kind doesn't have is 0. */
+/* A part of a record. Offsets are counted from the first octet of the record. What a kind doesn't have is 0. */
 typedef struct octseq_mrt_row {
     size_t at;              /* where the name of a table's view begins, the prefix of a RIB, a message, opaque octets */
     size_t len;             /* how many octets there are; of a prefix (bits + 7) / 8 */

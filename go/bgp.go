@@ -60,7 +60,7 @@ func (kind BGPKind) String() string {
 	return "none"
 }
 
-// BGPRow is a prefix or a path attribute of an UPDATE as numbers. Places are counted from the first octet of the
+// BGPRow is a prefix or a path attribute of an UPDATE as numbers. Offsets are counted from the first octet of the
 // message.
 type BGPRow struct {
 	At        int     // where the value of the attribute begins, or the octets of the prefix, after its length
@@ -93,11 +93,11 @@ func ParseBGPMessage(octets []byte, session BGPSession) (BGPMessage, error) {
 	return BGPMessage{own, session, count}, nil
 }
 
-// BGPMessageFault tells where octets stop being a message of a session, and whether they do. The place is 0 where they
+// BGPMessageFault tells where octets stop being a message of a session, and whether they do. The offset is 0 where they
 // don't begin with the header of a message of this length; else where the first part is that isn't there: 19 for what
-// each message of its type begins with (and for what follows the header of a KEEPALIVE), or the place of a parameter of
-// an OPEN, a length, a prefix or an attribute of an UPDATE. Of a message it is the end.
-func BGPMessageFault(octets []byte, session BGPSession) (place int, found bool) {
+// each message of its type begins with (and for what follows the header of a KEEPALIVE), or the offset of a parameter
+// of an OPEN, a length, a prefix or an attribute of an UPDATE. Of a message it is the end.
+func BGPMessageFault(octets []byte, session BGPSession) (offset int, found bool) {
 	return bgpMessageFault(octets, session.flags())
 }
 

@@ -58,42 +58,42 @@ func TestSessionsOfBGPMessages(t *testing.T) {
 	}
 }
 
-// Its parts are at the places 19, 21, 24, 26, 30 and 39: the length of the withdrawn prefixes and one of them, that of
+// Its parts are at the offsets 19, 21, 24, 26, 30 and 39: the length of the withdrawn prefixes and one of them, that of
 // the attributes and two of them, and a prefix.
 func TestUpdatesStopAtTheFirstPartThatIsNotThere(t *testing.T) {
 	for length := range updateOctets {
-		if place, found := BGPMessageFault([]byte(updateOctets[:length]), BGPSession{}); place != 0 || !found {
-			t.Errorf("%d octets: %d, %v", length, place, found)
+		if offset, found := BGPMessageFault([]byte(updateOctets[:length]), BGPSession{}); offset != 0 || !found {
+			t.Errorf("%d octets: %d, %v", length, offset, found)
 		}
 	}
 	for _, row := range []struct {
 		at    int
 		octet byte
-		place int
+		offset int
 	}{
 		{0, 0, 0}, {16, 1, 0}, {18, 6, 0}, {19, 1, 19}, {21, 33, 21}, {25, 255, 24}, {28, 255, 26}, {32, 255, 30},
 		{39, 16, 39}, {39, 33, 39},
 	} {
 		octets := []byte(updateOctets)
 		octets[row.at] = row.octet
-		if place, found := BGPMessageFault(octets, BGPSession{}); place != row.place || !found {
-			t.Errorf("%v: %d, %v", row, place, found)
+		if offset, found := BGPMessageFault(octets, BGPSession{}); offset != row.offset || !found {
+			t.Errorf("%v: %d, %v", row, offset, found)
 		}
 	}
-	if place, found := BGPMessageFault([]byte(updateOctets), BGPSession{}); place != len(updateOctets) || found {
-		t.Error(place, found)
+	if offset, found := BGPMessageFault([]byte(updateOctets), BGPSession{}); offset != len(updateOctets) || found {
+		t.Error(offset, found)
 	}
-	if place, found := BGPMessageFault([]byte(pathOctets), BGPSession{}); place != 28 || !found {
-		t.Error(place, found)
+	if offset, found := BGPMessageFault([]byte(pathOctets), BGPSession{}); offset != 28 || !found {
+		t.Error(offset, found)
 	}
 }
 
-// An OPEN of one parameter, which is at place 29, a KEEPALIVE, a NOTIFICATION and a ROUTE-REFRESH: what follows the
-// length, and the place of the fault, or 0 where it is a message.
+// An OPEN of one parameter, which is at offset 29, a KEEPALIVE, a NOTIFICATION and a ROUTE-REFRESH: what follows the
+// length, and the offset of the fault, or 0 where it is a message.
 func TestOtherMessagesStopAfterTheirHeaderOrAtAParameter(t *testing.T) {
 	for _, row := range []struct {
 		after string
-		place int
+		offset int
 	}{
 		{"\x01\x04\xFC\x00\x00\xB4\x0A\x00\x00\x01\x04\x02\x02\x06\x00", 0},
 		{"\x01\x04\xFC\x00\x00\xB4\x0A\x00\x00\x01\x04\x02\x03\x06\x00", 29},
@@ -106,9 +106,9 @@ func TestOtherMessagesStopAfterTheirHeaderOrAtAParameter(t *testing.T) {
 		{"\x05\x00\x01\x00", 19},
 	} {
 		octets := []byte(marker + "\x00" + string(rune(18+len(row.after))) + row.after)
-		place, found := BGPMessageFault(octets, BGPSession{})
-		if found != (row.place > 0) || found && place != row.place {
-			t.Errorf("% X: %d, %v", row.after, place, found)
+		offset, found := BGPMessageFault(octets, BGPSession{})
+		if found != (row.offset > 0) || found && offset != row.offset {
+			t.Errorf("% X: %d, %v", row.after, offset, found)
 		}
 	}
 }
@@ -151,8 +151,8 @@ func withEachBGPMessage(t *testing.T, call func(octets []byte, session BGPSessio
 func compareBGPMessage(t *testing.T, octets []byte, session BGPSession, lines string) {
 	t.Helper()
 	message, err := ParseBGPMessage(octets, session)
-	if place, found := BGPMessageFault(octets, session); found != (err != nil) || place > len(octets) {
-		t.Errorf("%d, %v, not %s", place, found, lines)
+	if offset, found := BGPMessageFault(octets, session); found != (err != nil) || offset > len(octets) {
+		t.Errorf("%d, %v, not %s", offset, found, lines)
 	}
 	if err != nil {
 		if err != ErrMalformed || lines != "malformed\n" {

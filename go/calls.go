@@ -20,7 +20,7 @@ var (
 	// ErrTooLong says that a message, or the data of a record, would have more than 65,535 octets, or an answer more
 	// than its limit.
 	ErrTooLong = errors.New("octseq: a message of too many octets")
-	// ErrBadRow says that a row's name isn't at its place, its data isn't in the octets, or its section has no records.
+	// ErrBadRow says that a row's name isn't at its offset, its data isn't in the octets, or its section has no records.
 	ErrBadRow = errors.New("octseq: a row that is none of a record")
 	// ErrMemory says that a request for memory was refused, of a call that reads text.
 	ErrMemory = errors.New("octseq: a request for memory was refused")
@@ -156,7 +156,7 @@ func messageHeader(octets []byte) (Header, error) {
 }
 
 // messageFault is where reading octets as a message stops, and whether they are none.
-func messageFault(octets []byte) (place int, found bool) {
+func messageFault(octets []byte) (offset int, found bool) {
 	var at C.size_t
 	status := C.octseq_dns_message_fault(start(octets), size(octets), &at)
 	return int(at), status != C.OCTSEQ_OK
@@ -186,7 +186,7 @@ func messageRows(octets []byte, count int) ([]Row, error) {
 	return rows, nil
 }
 
-// rowsOf are rows as C has them. A place or a length below 0 is then above that of all octets.
+// rowsOf are rows as C has them. An offset or a length below 0 is then above that of all octets.
 func rowsOf(rows []Row) []C.octseq_dns_row {
 	out := make([]C.octseq_dns_row, len(rows))
 	for at, row := range rows {
@@ -246,7 +246,7 @@ func answerWithin(query []byte, flags uint16, source []byte, rows []Row, limit u
 	})
 }
 
-// refusedAt is the error about a text, of which a word at a place may be refused.
+// refusedAt is the error about a text, of which a word at an offset may be refused.
 func refusedAt(err error, line, offset C.size_t) error {
 	if err == ErrMalformed {
 		return TextFault{int(line), int(offset)}
@@ -279,15 +279,15 @@ func messageFromText(text []byte) ([]byte, error) {
 	return octets, refusedAt(err, line, offset)
 }
 
-func nameText(octets []byte, place int) (string, error) {
+func nameText(octets []byte, offset int) (string, error) {
 	return textOf(filled(64, func(to *room) C.uint32_t {
-		return C.octseq_dns_name_text(start(octets), size(octets), C.size_t(place), to.out, to.len, &to.written)
+		return C.octseq_dns_name_text(start(octets), size(octets), C.size_t(offset), to.out, to.len, &to.written)
 	}))
 }
 
-func nameWire(octets []byte, place int) ([]byte, error) {
+func nameWire(octets []byte, offset int) ([]byte, error) {
 	return filled(255, func(to *room) C.uint32_t {
-		return C.octseq_dns_name_wire(start(octets), size(octets), C.size_t(place), to.out, to.len, &to.written)
+		return C.octseq_dns_name_wire(start(octets), size(octets), C.size_t(offset), to.out, to.len, &to.written)
 	})
 }
 
@@ -297,10 +297,10 @@ func nameFromText(text []byte) ([]byte, error) {
 	})
 }
 
-func nameCompare(one []byte, onePlace int, other []byte, otherPlace int) int {
+func nameCompare(one []byte, oneOffset int, other []byte, otherOffset int) int {
 	var order C.int32_t
-	C.octseq_dns_name_compare(start(one), size(one), C.size_t(onePlace), start(other), size(other),
-		C.size_t(otherPlace), &order)
+	C.octseq_dns_name_compare(start(one), size(one), C.size_t(oneOffset), start(other), size(other),
+		C.size_t(otherOffset), &order)
 	return int(order)
 }
 
@@ -377,7 +377,7 @@ func classFromText(text []byte) (Class, error) {
 }
 
 // bgpMessageFault is where reading octets as a message of a session stops, and whether they are none.
-func bgpMessageFault(octets []byte, session uint32) (place int, found bool) {
+func bgpMessageFault(octets []byte, session uint32) (offset int, found bool) {
 	var at C.size_t
 	status := C.octseq_bgp_message_fault(start(octets), size(octets), C.uint32_t(session), &at)
 	return int(at), status != C.OCTSEQ_OK

@@ -9,7 +9,7 @@ type Data struct {
 	class   Class
 }
 
-// NewData is the data at a place of a message's octets, which it copies. ErrMalformed: it isn't within them.
+// NewData is the data at an offset of a message's octets, which it copies. ErrMalformed: it isn't within them.
 func NewData(message []byte, at, length int, rtype Type, class Class) (Data, error) {
 	if at < 0 || length < 0 || at > len(message) || length > len(message)-at {
 		return Data{}, ErrMalformed

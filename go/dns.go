@@ -56,7 +56,7 @@ func (section Section) String() string {
 	return "none"
 }
 
-// Row is a question or a record as numbers. Places are counted from the first octet of what it was read from.
+// Row is a question or a record as numbers. Offsets are counted from the first octet of what it was read from.
 type Row struct {
 	NameAt  int     // where the name begins
 	DataAt  int     // where the data begins; 0 of a question
@@ -85,9 +85,9 @@ func ParseMessage(octets []byte) (Message, error) {
 }
 
 // MessageFault tells where octets stop being a message, and whether they do: where the first part is that isn't there,
-// which is 0 for the header, or a question or a record that it counts; or, if all of these are there, the place after
+// which is 0 for the header, or a question or a record that it counts; or, if all of these are there, the offset after
 // the last; or 65,535 if there are more octets. Of a message it is the end.
-func MessageFault(octets []byte) (place int, found bool) {
+func MessageFault(octets []byte) (offset int, found bool) {
 	return messageFault(octets)
 }
 
@@ -129,7 +129,7 @@ func (message Message) Rewrite() ([]byte, error) {
 
 // Answer is the answer to the message. It has its number, opcode, flag RD and questions, the flag QR, and of flags the
 // response code and all other flags. Its records are the rows, each in its section, in the order that they have here.
-// Their names and data are at their places in source, names in data too; all are compressed. ErrBadRow, ErrImmovable,
+// Their names and data are at their offsets in source, names in data too; all are compressed. ErrBadRow, ErrImmovable,
 // ErrTooLong.
 func (message Message) Answer(flags uint16, source []byte, rows []Row) ([]byte, error) {
 	return answer(message.octets, flags, source, rows)
@@ -173,7 +173,8 @@ type Entry struct {
 	octets []byte
 }
 
-// Source is a copy of the octets that the places of the entry's row are in: those of its message, or of a record alone.
+// Source is a copy of the octets that the offsets of the entry's row are in: those of its message, or of a record
+// alone.
 func (entry Entry) Source() []byte {
 	return append([]byte(nil), entry.octets...)
 }

@@ -9,7 +9,7 @@ import (
 )
 
 // The query for the address of example.com, written down by RFC 1035, 4.1; its answer, 192.0.2.1, whose name is a
-// pointer to place 12; and a name and an address, with the row of the record that they make.
+// pointer to offset 12; and a name and an address, with the row of the record that they make.
 const (
 	queryOctets  = "\x12\x34\x01\x00\x00\x01\x00\x00\x00\x00\x00\x00\aexample\x03com\x00\x00\x01\x00\x01"
 	answerOctets = "\x12\x34\x81\x80\x00\x01\x00\x01\x00\x00\x00\x00\aexample\x03com\x00\x00\x01\x00\x01" +
@@ -144,12 +144,12 @@ func TestFrontsOfAMessageAreNone(t *testing.T) {
 	}
 }
 
-// The header, the question and the record are at the places 0, 12 and 29.
+// The header, the question and the record are at the offsets 0, 12 and 29.
 func TestMessagesStopAtTheFirstPartThatIsNotThere(t *testing.T) {
 	stops := func(octets string, wanted int) {
 		t.Helper()
-		if place, found := MessageFault([]byte(octets)); place != wanted || !found {
-			t.Errorf("%d octets: %d, %v, not %d", len(octets), place, found, wanted)
+		if offset, found := MessageFault([]byte(octets)); offset != wanted || !found {
+			t.Errorf("%d octets: %d, %v, not %d", len(octets), offset, found, wanted)
 		}
 	}
 	for length := range answerOctets {
@@ -165,8 +165,8 @@ func TestMessagesStopAtTheFirstPartThatIsNotThere(t *testing.T) {
 	stops(answerOctets+"\x00", 45)
 	stops(answerOctets+strings.Repeat("\x00", 65535-45), 45)
 	stops(answerOctets+strings.Repeat("\x00", 65536-45), 65535)
-	if place, found := MessageFault([]byte(answerOctets)); place != 45 || found {
-		t.Error(place, found)
+	if offset, found := MessageFault([]byte(answerOctets)); offset != 45 || found {
+		t.Error(offset, found)
 	}
 }
 
@@ -215,14 +215,14 @@ func TestLettersOfEitherCaseAreOne(t *testing.T) {
 	}
 }
 
-func TestNamesAreReadAtTheirPlace(t *testing.T) {
+func TestNamesAreReadAtTheirOffset(t *testing.T) {
 	name, err := NewName([]byte(answerOctets), 29)
 	if string(name.Wire()) != "\aexample\x03com\x00" || err != nil {
 		t.Errorf("%q, %v", name.Wire(), err)
 	}
-	for _, place := range []int{-1, 28, len(answerOctets)} {
-		if _, err := NewName([]byte(answerOctets), place); err != ErrMalformed {
-			t.Errorf("%d: %v", place, err)
+	for _, offset := range []int{-1, 28, len(answerOctets)} {
+		if _, err := NewName([]byte(answerOctets), offset); err != ErrMalformed {
+			t.Errorf("%d: %v", offset, err)
 		}
 	}
 	if (Name{}).String() != "." || !(Name{}).Equal(named(t, ".")) {

@@ -17,7 +17,7 @@ func ExampleLossy() {
 func ExampleFirstFault() {
 	fault, found := octseq.FirstFault([]byte("caf\xC3"))
 	fmt.Println(found, fault)
-	// Output: true octseq: the octets end within a character that begins at place 3
+	// Output: true octseq: the octets end within a character that begins at offset 3
 }
 
 func ExampleLossyDecoder() {

@@ -29,10 +29,10 @@ func (kind FieldKind) String() string {
 	return "none"
 }
 
-// FieldRow is a field of data as numbers. Places are counted from the first octet of what the data was read from.
+// FieldRow is a field of data as numbers. Offsets are counted from the first octet of what the data was read from.
 type FieldRow struct {
 	At     int       // where its octets begin, after a length that it has before them; 0 of a number
-	Len    int       // how many octets there are; of a name those at its place, of a number 0
+	Len    int       // how many octets there are; of a name those at its offset, of a number 0
 	Number uint32    // the number, or the key of a parameter or the code of an option; else 0
 	Kind   FieldKind // what it is
 }

@@ -91,8 +91,8 @@ func TestAWindowOfAllTypes(t *testing.T) {
 	}
 }
 
-// The target of the MX is `mail` and a pointer to place 12.
-func TestFieldsHavePlacesInTheMessage(t *testing.T) {
+// The target of the MX is `mail` and a pointer to offset 12.
+func TestFieldsHaveOffsetsInTheMessage(t *testing.T) {
 	octets := "\x00\x07\x84\x00\x00\x01\x00\x01\x00\x00\x00\x00\x07example\x03com\x00\x00\x0F\x00\x01" +
 		"\xC0\x0C\x00\x0F\x00\x01\x00\x00\x01\x2C\x00\x09\x00\x0A\x04mail\xC0\x0C"
 	entries, err := parsed(t, octets).Entries()

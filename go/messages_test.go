@@ -90,14 +90,14 @@ func TestMessagesThatAreRewrittenHaveTheSameLines(t *testing.T) {
 func TestMessagesThatAreCutStopWhereTheyAreCut(t *testing.T) {
 	stops := func(octets []byte, wanted int) {
 		t.Helper()
-		if place, found := MessageFault(octets); place != wanted || !found {
-			t.Errorf("%d octets: %d, %v, not %d", len(octets), place, found, wanted)
+		if offset, found := MessageFault(octets); offset != wanted || !found {
+			t.Errorf("%d octets: %d, %v, not %d", len(octets), offset, found, wanted)
 		}
 	}
 	withEach(t, func(octets []byte, lines string) {
-		place, found := MessageFault(octets)
-		if found != (lines == "malformed\n") || place > len(octets) || !found && place != len(octets) {
-			t.Errorf("%d, %v, not %s", place, found, lines)
+		offset, found := MessageFault(octets)
+		if found != (lines == "malformed\n") || offset > len(octets) || !found && offset != len(octets) {
+			t.Errorf("%d, %v, not %s", offset, found, lines)
 		}
 		message, err := ParseMessage(octets)
 		if err != nil {

@@ -143,7 +143,7 @@ func (table *MRTPeerIndexTable) ViewName() []byte {
 	return table.part()
 }
 
-// Peers are the peers. An entry tells its peer by its place here.
+// Peers are the peers. An entry tells its peer by its index here.
 func (table *MRTPeerIndexTable) Peers() []MRTPeer {
 	peers := make([]MRTPeer, len(table.peers))
 	for at, row := range table.peers {

@@ -3,13 +3,13 @@ package octseq
 // Name is a name of DNS (RFC 1035, 3.1). The zero value is the root.
 type Name struct {
 	octets []byte
-	place  int
+	offset  int
 }
 
-// NewName is the name that begins at a place of octets. Where it ends with a pointer, what it points to is in the same
-// octets. It is copied. ErrMalformed: no name is there.
-func NewName(octets []byte, place int) (Name, error) {
-	wire, err := nameWire(octets, place)
+// NewName is the name that begins at an offset of octets. Where it ends with a pointer, what it points to is in the
+// same octets. It is copied. ErrMalformed: no name is there.
+func NewName(octets []byte, offset int) (Name, error) {
+	wire, err := nameWire(octets, offset)
 	return Name{wire, 0}, err
 }
 
@@ -25,13 +25,13 @@ func (name Name) at() ([]byte, int) {
 	if name.octets == nil {
 		return []byte{0}, 0
 	}
-	return name.octets, name.place
+	return name.octets, name.offset
 }
 
 // Text is the name's text, with the escapes of RFC 1035, 5.1. ErrUnshown.
 func (name Name) Text() (string, error) {
-	octets, place := name.at()
-	return nameText(octets, place)
+	octets, offset := name.at()
+	return nameText(octets, offset)
 }
 
 // String is the text, or that of the error.
@@ -41,8 +41,8 @@ func (name Name) String() string {
 
 // Wire is the name's wire form, without pointers. It has at most 255 octets.
 func (name Name) Wire() []byte {
-	octets, place := name.at()
-	wire, err := nameWire(octets, place)
+	octets, offset := name.at()
+	wire, err := nameWire(octets, offset)
 	if err != nil {
 		panic(err)
 	}
@@ -52,9 +52,9 @@ func (name Name) Wire() []byte {
 // Compare is how the name compares with another in the canonical order (RFC 4034, 6.1): -1, 0 or 1. Letters of either
 // case are one.
 func (name Name) Compare(other Name) int {
-	octets, place := name.at()
-	otherOctets, otherPlace := other.at()
-	return nameCompare(octets, place, otherOctets, otherPlace)
+	octets, offset := name.at()
+	otherOctets, otherOffset := other.at()
+	return nameCompare(octets, offset, otherOctets, otherOffset)
 }
 
 // Equal tells whether two names are equal. Letters of either case are one.

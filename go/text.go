@@ -5,14 +5,14 @@ import (
 	"fmt"
 )
 
-// TextFault is where the text of a record or a message is refused: the place of its first word that isn't what has to
+// TextFault is where the text of a record or a message is refused: the offset of its first word that isn't what has to
 // come there. The end of a line counts as a word. It is an ErrMalformed.
 type TextFault struct {
 	Line   int // the number of the line, from 1 on
 	Offset int // how many octets of the line come before the word
 }
 
-// Error tells the place of the fault.
+// Error tells the offset of the fault.
 func (fault TextFault) Error() string {
 	return fmt.Sprintf("octseq: line %d, offset %d: something else has to come here", fault.Line, fault.Offset)
 }
@@ -25,7 +25,7 @@ func (fault TextFault) Unwrap() error {
 // ParseRecordText is the record that a text is, one line without its end, as RFC 1035, 5.1 has it: `example.com. 300 IN
 // MX 10 mail.example.com.`. The TTL and the class come in either order, and each name ends with a full stop. With its
 // source, its row goes into an answer, in this section. No name has a pointer, but data in the form `\# n` (RFC 3597,
-// 5) is what is given there: pointers in it lead to places of the source. TextFault, whose line is 1. ErrTooLong: the
+// 5) is what is given there: pointers in it lead to offsets of the source. TextFault, whose line is 1. ErrTooLong: the
 // data has more than 65,535 octets. ErrBadRow: the section has no records. ErrMemory.
 func ParseRecordText(text string, section Section) (Entry, error) {
 	if section < SectionAnswer || section > SectionAdditional {

@@ -93,22 +93,22 @@ func TestRecordsAreRefusedAtAWord(t *testing.T) {
 	}
 }
 
-// A pointer leads to a place of the record: at 0 is its name, at 2 the end of that, at 13 the pointer itself.
+// A pointer leads to an offset of the record: at 0 is its name, at 2 the end of that, at 13 the pointer itself.
 func TestDataThatIsGivenAsOctetsMayHavePointers(t *testing.T) {
-	for place, text := range map[int]string{0: "a.", 2: ".", 13: "", 15: ""} {
-		record, err := ParseRecordText(fmt.Sprintf(`a. 1 IN NS \# 2 c0%02x`, place), SectionAnswer)
+	for offset, text := range map[int]string{0: "a.", 2: ".", 13: "", 15: ""} {
+		record, err := ParseRecordText(fmt.Sprintf(`a. 1 IN NS \# 2 c0%02x`, offset), SectionAnswer)
 		if err != nil {
 			t.Fatal(err)
 		}
 		answer, err := parsed(t, queryOctets).Answer(0, record.Source(), []Row{record.Row()})
 		if text == "" {
 			if err != ErrImmovable {
-				t.Errorf("%d: %v", place, err)
+				t.Errorf("%d: %v", offset, err)
 			}
 			continue
 		}
 		if shown := parsed(t, string(answer)).String(); !strings.HasSuffix(shown, "a. 1 IN NS "+text+"\n") || err != nil {
-			t.Errorf("%d: %s%v", place, shown, err)
+			t.Errorf("%d: %s%v", offset, shown, err)
 		}
 	}
 }

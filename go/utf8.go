@@ -7,18 +7,18 @@ import (
 
 // Fault is where octets stop being well-formed UTF-8.
 type Fault struct {
-	// ValidUpTo is the place of the first ill-formed part. All octets before it are well-formed.
+	// ValidUpTo is the offset of the first ill-formed part. All octets before it are well-formed.
 	ValidUpTo int
 	// ErrorLen is how many octets that part has, 1 to 3, or 0 where the octets end within a character.
 	ErrorLen int
 }
 
-// Error tells the place of the fault.
+// Error tells the offset of the fault.
 func (fault Fault) Error() string {
 	if fault.ErrorLen == 0 {
-		return fmt.Sprintf("octseq: the octets end within a character that begins at place %d", fault.ValidUpTo)
+		return fmt.Sprintf("octseq: the octets end within a character that begins at offset %d", fault.ValidUpTo)
 	}
-	return fmt.Sprintf("octseq: ill-formed UTF-8 at place %d, %d octets", fault.ValidUpTo, fault.ErrorLen)
+	return fmt.Sprintf("octseq: ill-formed UTF-8 at offset %d, %d octets", fault.ValidUpTo, fault.ErrorLen)
 }
 
 // IsUTF8 tells whether octets are well-formed UTF-8 (the Unicode Standard, 3.9).

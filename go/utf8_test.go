@@ -155,8 +155,8 @@ func TestTheReaderPassesErrorsOn(t *testing.T) {
 
 func TestFaultsAreErrors(t *testing.T) {
 	for fault, text := range map[Fault]string{
-		{2, 1}: "octseq: ill-formed UTF-8 at place 2, 1 octets",
-		{2, 0}: "octseq: the octets end within a character that begins at place 2",
+		{2, 1}: "octseq: ill-formed UTF-8 at offset 2, 1 octets",
+		{2, 0}: "octseq: the octets end within a character that begins at offset 2",
 	} {
 		if fault.Error() != text {
 			t.Errorf("%q", fault.Error())

@@ -41,7 +41,7 @@ pub fn name_end(octets: &[u8], place: usize) -> Option<usize> {
     }
 }
 
-/// Whether what is at a place, behind labels that begin at another, goes on as a name by a pointer. So many octets of
+/// Whether what is at an offset, after labels that begin at another, goes on as a name by a pointer. So many octets of
 /// the name are before it.
 #[inline]
 fn is_name_after(octets: &[u8], place: usize, behind: usize, before: usize) -> bool {

@@ -10,7 +10,7 @@
 struct given {
     const uint8_t *octets;
     size_t len;
-    size_t place;    /* of a name, or of data */
+    size_t offset;    /* of a name, or of data */
     size_t data_len; /* of data */
     uint16_t id, flags, rtype, rclass;
     const uint8_t *source; /* of the records of an answer */
@@ -135,11 +135,11 @@ static inline uint32_t answer_to(const struct given *given, uint8_t *out, size_t
 }
 
 static inline uint32_t name_text(const struct given *given, uint8_t *out, size_t room, size_t *written) {
-    return octseq_dns_name_text(given->octets, given->len, given->place, out, room, written);
+    return octseq_dns_name_text(given->octets, given->len, given->offset, out, room, written);
 }
 
 static inline uint32_t name_wire(const struct given *given, uint8_t *out, size_t room, size_t *written) {
-    return octseq_dns_name_wire(given->octets, given->len, given->place, out, room, written);
+    return octseq_dns_name_wire(given->octets, given->len, given->offset, out, room, written);
 }
 
 static inline uint32_t name_from_text(const struct given *given, uint8_t *out, size_t room, size_t *written) {
@@ -147,12 +147,12 @@ static inline uint32_t name_from_text(const struct given *given, uint8_t *out, s
 }
 
 static inline uint32_t data_text(const struct given *given, uint8_t *out, size_t room, size_t *written) {
-    return octseq_dns_data_text(given->octets, given->len, given->place, given->data_len, given->rtype, given->rclass,
+    return octseq_dns_data_text(given->octets, given->len, given->offset, given->data_len, given->rtype, given->rclass,
                                 out, room, written);
 }
 
 static inline uint32_t data_fields(const struct given *given, uint8_t *out, size_t room, size_t *written) {
-    return octseq_dns_data_fields(given->octets, given->len, given->place, given->data_len, given->rtype, given->rclass,
+    return octseq_dns_data_fields(given->octets, given->len, given->offset, given->data_len, given->rtype, given->rclass,
                                   (octseq_dns_field *)(void *)out, room, written);
 }
 

@@ -28,7 +28,7 @@ static uint32_t session_of(uint8_t said) {
 
 /* ---- rows against the octets ---- */
 
-/* Which part of a message rows are of: the octets of one list, from one place to another. */
+/* Which part of a message rows are of: the octets of one list, from one offset to another. */
 struct part {
     size_t begin, end;
     uint16_t afi;
@@ -70,7 +70,7 @@ static size_t check_value(const struct given *given, const octseq_bgp_row *rows,
     return check_prefixes(given, rows, count, i, kind, part);
 }
 
-/* The rows of attributes, from an index on, fill the octets from one place to another. */
+/* The rows of attributes, from an index on, fill the octets from one offset to another. */
 static size_t check_attributes(const struct given *given, const octseq_bgp_row *rows, size_t count, size_t i,
                                size_t at, size_t end) {
     const uint8_t *octets = given->octets;
@@ -125,7 +125,7 @@ static void make_line(char *line, const uint8_t *octets, const octseq_bgp_row *r
         sprintf(line, " path %lu", (unsigned long)row->path_id);
 }
 
-/* Each line of the text of an UPDATE but the first is of the row at its place. */
+/* Each line of the text of an UPDATE but the first is of the row at its offset. */
 static void check_lines(const struct message *message, const octseq_bgp_row *rows, size_t count) {
     const char *line = message->text, *end = message->text + message->text_len;
     if (message->octets[18] != 2)

@@ -83,7 +83,7 @@ static void check_header(const struct read *it) {
     CHECK(OCTSEQ_DNS_RCODE(header.flags) == (octets[3] & 15u));
 }
 
-/* A row against the octets before the place where its entry ends. Returns that place. */
+/* A row against the octets before the offset where its entry ends. Returns that offset. */
 static size_t check_fields(const struct read *it, const octseq_dns_row *row, size_t end) {
     const uint8_t *octets = it->given.octets;
     if (row->section == 0) {
@@ -120,7 +120,7 @@ static void check_rows(const struct read *it) {
 /* The line of a row, put together from what calls say of its parts. */
 static void add_row(struct text *text, struct given given, const octseq_dns_row *row) {
     static const char *const WORDS[] = {"question ", "answer ", "authority ", "additional "};
-    given.place = row->name_at;
+    given.offset = row->name_at;
     given.rtype = row->rtype;
     given.rclass = row->rclass;
     add_word(text, WORDS[row->section]);
@@ -135,7 +135,7 @@ static void add_row(struct text *text, struct given given, const octseq_dns_row 
     add_word(text, " ");
     add_answer(text, ask(rtype_text, &given, MAY_OK));
     if (row->section) {
-        given.place = row->data_at;
+        given.offset = row->data_at;
         given.data_len = row->data_len;
         add_word(text, " ");
         add_answer(text, ask(data_text, &given, MAY_OK));
@@ -164,7 +164,7 @@ static void check_typed(const struct read *it) {
     for (size_t i = it->question_count; i < it->count; i++) {
         const octseq_dns_row *row = &it->rows[i];
         struct given given = it->given;
-        given.place = row->data_at;
+        given.offset = row->data_at;
         given.data_len = row->data_len;
         given.rtype = row->rtype;
         given.rclass = row->rclass;
@@ -180,10 +180,10 @@ static void check_typed(const struct read *it) {
 /* ---- names ---- */
 
 /* A name as wire form, as text and back. Returns how many octets `wire` then has. */
-static size_t check_name(const struct read *it, size_t place, uint8_t *wire) {
+static size_t check_name(const struct read *it, size_t offset, uint8_t *wire) {
     struct given given = it->given, back = it->given;
-    size_t len = plain_name(given.octets, given.len, place, wire);
-    given.place = place;
+    size_t len = plain_name(given.octets, given.len, offset, wire);
+    given.offset = offset;
     struct answer answer = ask(name_wire, &given, MAY_OK);
     CHECK(answer.status == OCTSEQ_OK && answer.len == len && is_same(answer.out, wire, len));
     release(answer.out);
@@ -201,12 +201,12 @@ static size_t check_name(const struct read *it, size_t place, uint8_t *wire) {
     return len;
 }
 
-static void check_order(const struct read *it, size_t place, size_t other_place, int wanted) {
+static void check_order(const struct read *it, size_t offset, size_t other_offset, int wanted) {
     const uint8_t *octets = it->given.octets;
     size_t len = it->given.len;
     int32_t order = 99, back = 99;
-    CHECK(octseq_dns_name_compare(octets, len, place, octets, len, other_place, &order) == OCTSEQ_OK);
-    CHECK(octseq_dns_name_compare(octets, len, other_place, octets, len, place, &back) == OCTSEQ_OK);
+    CHECK(octseq_dns_name_compare(octets, len, offset, octets, len, other_offset, &order) == OCTSEQ_OK);
+    CHECK(octseq_dns_name_compare(octets, len, other_offset, octets, len, offset, &back) == OCTSEQ_OK);
     CHECK(order == wanted);
     CHECK(back == -wanted);
 }
@@ -215,12 +215,12 @@ static void check_order(const struct read *it, size_t place, size_t other_place,
 static void check_names(const struct read *it) {
     uint8_t wire[NAME_SIZE], other[NAME_SIZE];
     for (size_t i = 0; i < it->count; i++) {
-        size_t place = it->rows[i].name_at;
-        check_name(it, place, wire);
-        check_order(it, place, place, 0);
+        size_t offset = it->rows[i].name_at;
+        check_name(it, offset, wire);
+        check_order(it, offset, offset, 0);
         for (size_t j = i < 4 ? 0 : i - 4; j < i; j++) {
             plain_name(it->given.octets, it->given.len, it->rows[j].name_at, other);
-            check_order(it, place, it->rows[j].name_at, plain_order(wire, other));
+            check_order(it, offset, it->rows[j].name_at, plain_order(wire, other));
         }
     }
 }
@@ -346,7 +346,7 @@ static void check_bad_rows(const struct read *it) {
 static void check_query(const struct read *it, const octseq_dns_row *row) {
     uint8_t wanted[12 + NAME_SIZE + 4];
     struct given given = it->given;
-    given.place = row->name_at;
+    given.offset = row->name_at;
     struct answer text = ask(name_text, &given, MAY_OK);
     size_t len = 12 + plain_name(given.octets, given.len, row->name_at, wanted + 12);
     memcpy(wanted, given.octets, 4);

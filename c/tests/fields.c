@@ -26,7 +26,7 @@ static const struct {
 /* The form of the data of a row: octets, where it hasn't that of its type. */
 static const char *form_of(const struct given *given) {
     int is_typed = given->rtype == 41 ||
-                   octseq_dns_data_is_typed(given->octets, given->len, given->place, given->data_len, given->rtype,
+                   octseq_dns_data_is_typed(given->octets, given->len, given->offset, given->data_len, given->rtype,
                                             given->rclass) == 1;
     for (size_t i = 0; is_typed && i < sizeof FORMS / sizeof FORMS[0]; i++)
         if (FORMS[i].rtype == given->rtype)
@@ -39,12 +39,12 @@ static size_t u16_at(const uint8_t *octets) {
     return (size_t)octets[0] << 8 | octets[1];
 }
 
-/* How many octets the name at a place has there, with the pointer that may end it. */
-static size_t name_size(const uint8_t *octets, size_t place) {
-    size_t at = place;
+/* How many octets the name at an offset has there, with the pointer that may end it. */
+static size_t name_size(const uint8_t *octets, size_t offset) {
+    size_t at = offset;
     while (octets[at] > 0 && octets[at] < 0xC0)
         at += (size_t)octets[at] + 1;
-    return at + (octets[at] ? 2 : 1) - place;
+    return at + (octets[at] ? 2 : 1) - offset;
 }
 
 /* ---- the fields of data ---- */
@@ -125,12 +125,12 @@ static void count_form(uint16_t rtype) {
 }
 
 static void check_data(struct given given, const octseq_dns_row *row) {
-    given.place = row->data_at;
+    given.offset = row->data_at;
     given.data_len = row->data_len;
     given.rtype = row->rtype;
     given.rclass = row->rclass;
     struct answer answer = ask_units(data_fields, &given, sizeof(octseq_dns_field), MAY_OK);
-    struct left left = {given.octets, given.place, given.place + given.data_len,
+    struct left left = {given.octets, given.offset, given.offset + given.data_len,
                         (const octseq_dns_field *)(void *)answer.out, answer.len};
     const char *form = form_of(&given);
     if (form[0] != 'o' || form[1] || given.rtype == 49 || given.rtype == 61)
@@ -143,11 +143,11 @@ static void check_data(struct given given, const octseq_dns_row *row) {
 
 /* Data that isn't within the octets is refused, wherever it is. */
 static void check_outside(struct given given) {
-    static const size_t PLACES_AND_SIZES[][2] = {{0, 1}, {1, 0}, {SIZE_MAX, 1}, {1, SIZE_MAX}, {SIZE_MAX, SIZE_MAX}};
+    static const size_t OFFSETS_AND_SIZES[][2] = {{0, 1}, {1, 0}, {SIZE_MAX, 1}, {1, SIZE_MAX}, {SIZE_MAX, SIZE_MAX}};
     size_t len = given.len;
-    for (size_t i = 0; i < sizeof PLACES_AND_SIZES / sizeof PLACES_AND_SIZES[0]; i++) {
-        size_t place = PLACES_AND_SIZES[i][0], size = PLACES_AND_SIZES[i][1];
-        given.place = i < 2 ? len + place : place;
+    for (size_t i = 0; i < sizeof OFFSETS_AND_SIZES / sizeof OFFSETS_AND_SIZES[0]; i++) {
+        size_t offset = OFFSETS_AND_SIZES[i][0], size = OFFSETS_AND_SIZES[i][1];
+        given.offset = i < 2 ? len + offset : offset;
         given.data_len = size;
         given.rtype = 16;
         given.rclass = 1;
@@ -181,11 +181,11 @@ static void check_options(void) {
 
 /* ---- where messages stop ---- */
 
-static void check_place(const uint8_t *octets, size_t len, uint32_t wanted, size_t place) {
+static void check_offset(const uint8_t *octets, size_t len, uint32_t wanted, size_t offset) {
     size_t found = 99;
     uint8_t *block = block_with(octets, len);
     CHECK(octseq_dns_message_fault(block, len, &found) == wanted);
-    CHECK(found == place);
+    CHECK(found == offset);
     release(block);
 }
 
@@ -195,16 +195,16 @@ static void check_cuts(const struct given *given, const octseq_dns_row *rows_of_
     uint8_t *longer = block_of(len + 1);
     memcpy(longer, given->octets, len);
     longer[len] = 0;
-    check_place(given->octets, len, OCTSEQ_OK, len);
+    check_offset(given->octets, len, OCTSEQ_OK, len);
     if (len < 65535)
-        check_place(longer, len + 1, OCTSEQ_MALFORMED, len);
+        check_offset(longer, len + 1, OCTSEQ_MALFORMED, len);
     release(longer);
     for (size_t cut = 0; cut < 12; cut++)
-        check_place(given->octets, cut, OCTSEQ_MALFORMED, 0);
+        check_offset(given->octets, cut, OCTSEQ_MALFORMED, 0);
     for (size_t i = 0; i < count; i++) {
         size_t end = i + 1 < count ? rows_of_it[i + 1].name_at : len;
-        check_place(given->octets, rows_of_it[i].name_at, OCTSEQ_MALFORMED, rows_of_it[i].name_at);
-        check_place(given->octets, end - 1, OCTSEQ_MALFORMED, rows_of_it[i].name_at);
+        check_offset(given->octets, rows_of_it[i].name_at, OCTSEQ_MALFORMED, rows_of_it[i].name_at);
+        check_offset(given->octets, end - 1, OCTSEQ_MALFORMED, rows_of_it[i].name_at);
     }
 }
 
@@ -212,11 +212,11 @@ static void check_message(const struct message *message) {
     struct given given;
     memset(&given, 0, sizeof given);
     uint8_t *octets = block_with(message->octets, message->len);
-    size_t place = 99;
+    size_t offset = 99;
     given.octets = octets;
     given.len = message->len;
-    CHECK(octseq_dns_message_fault(octets, given.len, &place) == (message->text ? OCTSEQ_OK : OCTSEQ_MALFORMED));
-    CHECK(place <= given.len);
+    CHECK(octseq_dns_message_fault(octets, given.len, &offset) == (message->text ? OCTSEQ_OK : OCTSEQ_MALFORMED));
+    CHECK(offset <= given.len);
     if (message->text) {
         struct answer answer = ask_units(rows, &given, sizeof(octseq_dns_row), MAY_OK);
         const octseq_dns_row *found = (const octseq_dns_row *)(void *)answer.out;

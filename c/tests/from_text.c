@@ -74,8 +74,8 @@ static void check_record(const char *text, size_t len, const octseq_dns_row *row
     CHECK((u16_at(middle + 4) << 16 | u16_at(middle + 6)) == row->ttl);
     CHECK(u16_at(middle + 8) == answer.len - wire.len - 10);
     check_shown(name_text, &given, text, (size_t)(after_words(text, 1) - text) - 1);
-    given.place = wire.len + 10;
-    given.data_len = answer.len - given.place;
+    given.offset = wire.len + 10;
+    given.data_len = answer.len - given.offset;
     given.rtype = row->rtype;
     given.rclass = row->rclass;
     const char *data = after_words(text, 4);
@@ -105,10 +105,10 @@ static void check_text(const struct message *message, const octseq_dns_row *rows
     }
 }
 
-/* Lines of records with their octets, or with the place where they are refused. */
+/* Lines of records with their octets, or with the offset where they are refused. */
 static const struct {
     const char *text;
-    size_t place;
+    size_t offset;
     size_t len;
     const char *octets;
 } RECORDS[] = {
@@ -133,15 +133,15 @@ static void check_records(void) {
                                        MAY_OK | MAY(OCTSEQ_MALFORMED));
         CHECK(answer.status == (RECORDS[i].octets ? OCTSEQ_OK : OCTSEQ_MALFORMED));
         CHECK(answer.len == RECORDS[i].len && is_same(answer.out, RECORDS[i].octets, answer.len));
-        CHECK(answer.status == OCTSEQ_OK || refused.offset == RECORDS[i].place);
+        CHECK(answer.status == OCTSEQ_OK || refused.offset == RECORDS[i].offset);
         release(answer.out);
     }
 }
 
-/* Texts of no message, with the line and the place where each is refused. */
+/* Texts of no message, with the line and the offset where each is refused. */
 static const struct {
     const char *text;
-    size_t line, place;
+    size_t line, offset;
 } NO_MESSAGES[] = {
     {"", 1, 0},
     {"id 7 opcode 0 rcode 0 flags", 1, 27},
@@ -159,7 +159,7 @@ static void check_no_messages(void) {
         const char *text = NO_MESSAGES[i].text;
         struct answer answer = of_text(message_from_text, text, strlen(text), MAY(OCTSEQ_MALFORMED));
         CHECK(answer.status == OCTSEQ_MALFORMED);
-        CHECK(refused.line == NO_MESSAGES[i].line && refused.offset == NO_MESSAGES[i].place);
+        CHECK(refused.line == NO_MESSAGES[i].line && refused.offset == NO_MESSAGES[i].offset);
     }
 }
 

@@ -11,7 +11,7 @@
 
 #define HEADER_LEN 12
 
-/* The text of a record, from one place to another. */
+/* The text of a record, from one offset to another. */
 struct text {
     const char *at, *end;
 };

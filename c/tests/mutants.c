@@ -85,8 +85,8 @@ static void check_line(const struct message *message) {
 
 #define MOST_ROWS 64
 
-/* The number of an entry, a length or a place: mostly one that may be right. */
-static size_t place_in(size_t len) {
+/* The number of an entry, a length or an offset: mostly one that may be right. */
+static size_t offset_in(size_t len) {
     switch (below(16)) {
     case 0:
         return len;
@@ -175,11 +175,11 @@ static void check_answer(struct given given, int is_message, const octseq_dns_ro
         if (below(32) == 0)
             made[i].section = (uint32_t)below(6);
         if (below(32) == 0)
-            made[i].name_at = place_in(given.source_len);
+            made[i].name_at = offset_in(given.source_len);
         if (below(32) == 0)
-            made[i].data_at = place_in(given.source_len);
+            made[i].data_at = offset_in(given.source_len);
         if (below(32) == 0)
-            made[i].data_len = place_in(given.source_len);
+            made[i].data_len = offset_in(given.source_len);
         if (below(32) == 0)
             made[i].rtype = (uint16_t)below(70);
     }
@@ -195,16 +195,16 @@ static void check_answer(struct given given, int is_message, const octseq_dns_ro
     release((uint8_t *)made);
 }
 
-/* Wire form and text at a place agree on whether a name is there, and on which. */
+/* Wire form and text at an offset agree on whether a name is there, and on which. */
 static void check_name(struct given given) {
-    given.place = place_in(given.len);
+    given.offset = offset_in(given.len);
     struct answer wire = ask(name_wire, &given, MAY_OK | MAY(OCTSEQ_MALFORMED));
     int is_name = wire.status == OCTSEQ_OK;
     struct answer text = ask(name_text, &given, is_name ? MAY_OK : MAY(OCTSEQ_MALFORMED));
-    size_t other_place = place_in(given.len);
+    size_t other_offset = offset_in(given.len);
     int32_t order = 99;
-    uint32_t status = octseq_dns_name_compare(given.octets, given.len, given.place, given.octets, given.len,
-                                              other_place, &order);
+    uint32_t status = octseq_dns_name_compare(given.octets, given.len, given.offset, given.octets, given.len,
+                                              other_offset, &order);
     CHECK(status == OCTSEQ_OK || status == OCTSEQ_MALFORMED);
     CHECK(status == OCTSEQ_OK ? -1 <= order && order <= 1 : order == 2);
     CHECK(is_name || status == OCTSEQ_MALFORMED);
@@ -224,15 +224,15 @@ static void check_name(struct given given) {
 }
 
 static void check_data(struct given given) {
-    given.place = place_in(given.len);
-    given.data_len = place_in(given.len);
-    if (given.place < given.len && below(4))
-        given.data_len = below(given.len - given.place + 1);
+    given.offset = offset_in(given.len);
+    given.data_len = offset_in(given.len);
+    if (given.offset < given.len && below(4))
+        given.data_len = below(given.len - given.offset + 1);
     given.rtype = (uint16_t)below(70);
     given.rclass = below(4) ? 1 : (uint16_t)number();
-    int is_within = given.place <= given.len && given.data_len <= given.len - given.place;
+    int is_within = given.offset <= given.len && given.data_len <= given.len - given.offset;
     struct answer text = ask(data_text, &given, is_within ? MAY_OK : MAY(OCTSEQ_MALFORMED));
-    uint32_t is_typed = octseq_dns_data_is_typed(given.octets, given.len, given.place, given.data_len, given.rtype,
+    uint32_t is_typed = octseq_dns_data_is_typed(given.octets, given.len, given.offset, given.data_len, given.rtype,
                                                  given.rclass);
     if (is_within)
         CHECK(is_typed == (text.len > 2 && is_same(text.out, "\\# ", 3) ? 0u : 1u));
@@ -245,7 +245,7 @@ static void check_data(struct given given) {
     for (size_t i = 0; i < fields.len; i++) {
         const octseq_dns_field *field = (const octseq_dns_field *)(void *)fields.out + i;
         CHECK(field->kind <= OCTSEQ_DNS_PARAMETER);
-        CHECK(field->kind == OCTSEQ_DNS_NUMBER || (field->at >= given.place && field->len <= given.len - field->at));
+        CHECK(field->kind == OCTSEQ_DNS_NUMBER || (field->at >= given.offset && field->len <= given.len - field->at));
     }
     release(fields.out);
 }

@@ -8,20 +8,20 @@
 #define NAME_SIZE 255
 
 /* The wire form of a name that is known to be there. Returns how many octets it has. */
-static inline size_t plain_name(const uint8_t *octets, size_t len, size_t place, uint8_t *wire) {
+static inline size_t plain_name(const uint8_t *octets, size_t len, size_t offset, uint8_t *wire) {
     size_t count = 0;
     for (;;) {
-        CHECK(place < len);
-        size_t label = octets[place];
+        CHECK(offset < len);
+        size_t label = octets[offset];
         if (label >= 0xC0) {
-            CHECK(place + 1 < len);
-            place = (label & 0x3F) << 8 | octets[place + 1];
+            CHECK(offset + 1 < len);
+            offset = (label & 0x3F) << 8 | octets[offset + 1];
             continue;
         }
-        CHECK(label < 0x40 && place + label < len && count + label < NAME_SIZE);
-        memcpy(wire + count, octets + place, label + 1);
+        CHECK(label < 0x40 && offset + label < len && count + label < NAME_SIZE);
+        memcpy(wire + count, octets + offset, label + 1);
         count += label + 1;
-        place += label + 1;
+        offset += label + 1;
         if (label == 0)
             return count;
     }

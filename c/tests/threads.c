@@ -46,8 +46,8 @@ static void read_texts_of(struct room *room, const struct message *message) {
 }
 
 static void read_message(struct room *room, const struct message *message) {
-    size_t written = 0, count = 0, count_of_fields = 0, place = 0;
-    take(room, octseq_dns_message_fault(message->octets, message->len, &place), &place, sizeof place);
+    size_t written = 0, count = 0, count_of_fields = 0, offset = 0;
+    take(room, octseq_dns_message_fault(message->octets, message->len, &offset), &offset, sizeof offset);
     take(room, octseq_dns_message_text(message->octets, message->len, room->out, sizeof room->out, &written),
          room->out, written);
     take(room, octseq_dns_rewrite(message->octets, message->len, room->out, sizeof room->out, &written), room->out,

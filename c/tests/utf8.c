@@ -282,7 +282,7 @@ static void take(struct reading *reading, const uint8_t *piece, size_t len) {
     release(out);
 }
 
-/* Takes a piece that goes from one place of a string to another, and looks at what the state keeps. */
+/* Takes a piece that goes from one offset of a string to another, and looks at what the state keeps. */
 static void take_piece(struct reading *reading, const uint8_t *octets, size_t from, size_t to) {
     static const uint8_t NONE[1] = {0};
     uint8_t text[3 * MOST];

@@ -15,10 +15,10 @@ def decode(pieces) -> str:
     return "".join([decoder.decode(piece) for piece in pieces] + [decoder.decode(b"", final=True)])
 
 
-def cut(octets: bytes, places) -> list:
-    """The octets in pieces, which begin at these places."""
-    ends = [*places, len(octets)]
-    return [octets[start:end] for start, end in zip([0, *places], ends)]
+def cut(octets: bytes, offsets) -> list:
+    """The octets in pieces, which begin at these offsets."""
+    ends = [*offsets, len(octets)]
+    return [octets[start:end] for start, end in zip([0, *offsets], ends)]
 
 
 class InPieces(unittest.TestCase):
@@ -33,12 +33,12 @@ class InPieces(unittest.TestCase):
         for first in FIRST_OCTETS:
             for octets in (bytes([first, second, third]) for second in following for third in range(256)):
                 text = octets.decode(errors="replace")
-                for places in ((1,), (2,), (1, 2)):
-                    if decode(cut(octets, places)) != text:
-                        self.fail(f"{octets!r} cut at {places}")
+                for offsets in ((1,), (2,), (1, 2)):
+                    if decode(cut(octets, offsets)) != text:
+                        self.fail(f"{octets!r} cut at {offsets}")
 
     def test_all_strings_of_three_octets_in_lines(self) -> None:
-        # The length of a piece has no factor in common with that of a line, so lines are cut at each of their places.
+        # The length of a piece has no factor in common with that of a line, so lines are cut at each of their offsets.
         for first in FIRST_OCTETS:
             octets = b"".join(string + b"\n" for string in three_octets(first))
             if decode(cut(octets, range(997, len(octets), 997))) != octets.decode(errors="replace"):
@@ -47,15 +47,15 @@ class InPieces(unittest.TestCase):
     def test_broken_texts_cut_at_random(self) -> None:
         chance = random.Random(7)
         for octets in broken_texts(1_000):
-            places = sorted(chance.choices(range(len(octets) + 1), k=chance.randrange(8)))
-            if decode(cut(octets, places)) != octets.decode(errors="replace"):
-                self.fail(f"{octets!r} cut at {places}")
+            offsets = sorted(chance.choices(range(len(octets) + 1), k=chance.randrange(8)))
+            if decode(cut(octets, offsets)) != octets.decode(errors="replace"):
+                self.fail(f"{octets!r} cut at {offsets}")
 
     def test_examples_of_the_standard_cut_everywhere(self) -> None:
         for octets, text in STANDARD:
             whole = bytes.fromhex(octets)
-            for place in range(len(whole) + 1):
-                self.assertEqual(decode([whole[:place], whole[place:]]), text)
+            for offset in range(len(whole) + 1):
+                self.assertEqual(decode([whole[:offset], whole[offset:]]), text)
 
     def test_the_last_piece_may_have_octets(self) -> None:
         decoder = octseq.LossyDecoder()
@@ -130,7 +130,7 @@ class AsACodec(unittest.TestCase):
 
     def test_iterdecode(self) -> None:
         for octets in broken_texts(100):
-            pieces = [octets[place : place + 5] for place in range(0, len(octets), 5)]
+            pieces = [octets[offset : offset + 5] for offset in range(0, len(octets), 5)]
             self.assertEqual("".join(codecs.iterdecode(pieces, NAME, "replace")), octets.decode(errors="replace"))
 
     def test_text_files(self) -> None:
@@ -138,16 +138,16 @@ class AsACodec(unittest.TestCase):
         with io.TextIOWrapper(io.BytesIO(octets), encoding=NAME, errors="replace", newline="") as file:
             self.assertEqual(file.read(), octets.decode(errors="replace"))
 
-    def test_places_in_text_files(self) -> None:
+    def test_offsets_in_text_files(self) -> None:
         octets = "\n".join(TEXTS).encode() + b"\xff\xe2\x82\n"
         text = octets.decode(errors="replace")
         with io.TextIOWrapper(io.BytesIO(octets), encoding=NAME, errors="replace", newline="") as file:
             for count in range(0, len(text), 7):
                 file.seek(0)
                 self.assertEqual(file.read(count), text[:count])
-                place = file.tell()
+                offset = file.tell()
                 self.assertEqual(file.read(), text[count:])
-                file.seek(place)
+                file.seek(offset)
                 self.assertEqual(file.read(), text[count:])
 
     def test_line_ends(self) -> None:
@@ -162,7 +162,7 @@ class InThreads(unittest.TestCase):
 
         def read(number: int) -> None:
             octets = TEXTS[number].encode() * 200 + b"\xff"
-            texts[number] = decode(octets[place : place + 11] for place in range(0, len(octets), 11))
+            texts[number] = decode(octets[offset : offset + 11] for offset in range(0, len(octets), 11))
 
         threads = [threading.Thread(target=read, args=(number,)) for number in range(1, 7)]
         for thread in threads:

@@ -62,7 +62,7 @@ class Records(unittest.TestCase):
             ["line 1, offset 10: something else has to come here", "a.\t1 IN A 1.2.3", "  \t       ^"],
         )
 
-    def test_what_is_refused_without_a_place(self) -> None:
+    def test_what_is_refused_without_a_offset(self) -> None:
         with self.assertRaises(Malformed) as caught:
             Record.from_text("é. 1 IN A 1.2.3.4")
         self.assertEqual((caught.exception.line, caught.exception.offset), (None, None))

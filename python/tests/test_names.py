@@ -78,17 +78,17 @@ class Texts(unittest.TestCase):
 
 class OfOctets(unittest.TestCase):
     def test_pointers_are_followed(self) -> None:
-        for place, wire in (
+        for offset, wire in (
             (20, b"\x01F\x03ISI\x04ARPA\x00"),
             (40, b"\x03FOO\x01F\x03ISI\x04ARPA\x00"),
             (64, b"\x04ARPA\x00"),
             (92, b"\x00"),
         ):
             for octets in (bytes(COMPRESSED), COMPRESSED, memoryview(bytes(COMPRESSED))):
-                self.assertEqual(Name.read(octets, place).to_wire(), wire)
+                self.assertEqual(Name.read(octets, offset).to_wire(), wire)
 
-    def test_places_without_a_name(self) -> None:
-        for octets, place in (
+    def test_offsets_without_a_name(self) -> None:
+        for octets, offset in (
             (b"", 0),
             (b"\x00", 1),
             (b"\x00", 2),
@@ -102,8 +102,8 @@ class OfOctets(unittest.TestCase):
             (b"\x40\x00", 0),
             (b"\x80\x00", 0),
         ):
-            with self.subTest(octets=octets, place=place), self.assertRaises(Malformed):
-                Name.read(octets, place)
+            with self.subTest(octets=octets, offset=offset), self.assertRaises(Malformed):
+                Name.read(octets, offset)
 
     def test_a_name_keeps_nothing_of_what_it_was_read_from(self) -> None:
         octets = bytearray(b"\x01a\x00")

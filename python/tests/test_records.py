@@ -19,7 +19,7 @@ from octseq.dns import (
 
 # RFC 1035, 4.1: a header, and a question after it.
 QUERY = bytes.fromhex("0007" "0000" "0001" "0000" "0000" "0000") + b"\x07example\x03com\x00" + b"\x00\x01\x00\x01"
-# The flags QR and AA; one answer, whose name is a pointer to place 12.
+# The flags QR and AA; one answer, whose name is a pointer to offset 12.
 RESPONSE = (
     bytes.fromhex("0007" "8400" "0001" "0001" "0000" "0000")
     + QUERY[12:]

@@ -49,8 +49,8 @@ def broken_texts(count: int) -> Iterator[bytes]:
     for _ in range(count):
         octets = bytearray("".join(chance.choices(TEXTS, k=2)).encode())
         for _ in range(chance.randrange(4)):
-            place = chance.randrange(len(octets) + 1)
-            octets[place : place + chance.randrange(3)] = chance.randbytes(chance.randrange(3))
+            offset = chance.randrange(len(octets) + 1)
+            octets[offset : offset + chance.randrange(3)] = chance.randbytes(chance.randrange(3))
         yield bytes(octets)
 
 

@@ -277,7 +277,8 @@ no_chained_second Fits code Suits spelling octets after a reported fits read non
 -- octets whose length was read before, wherever that was
 pub counted_code : {A : Type 0} (Fits : A → Type 0) (code : A → List ℕ) (count : A → ℕ) → IsCode Fits code
     → IsCode {A = A × List ℕ} (λ p. Fits p.0 × (length p.1 ≡ count p.0)) (λ p. code p.0 ++ p.1)
-counted_code Fits code count reported = chained_code Fits code (λ a octets. length octets ≡ count a) (λ _ octets. octets)
+counted_code Fits code count reported = chained_code Fits code (λ a octets. length octets ≡ count a)
+    (λ _ octets. octets)
     reported (λ a _. octets_code (count a))
 
 -- what gives their length isn't there
@@ -293,5 +294,6 @@ pub no_counted_octets : {A : Type 0} (Fits : A → Type 0) (code : A → List �
     → left w < count a → ¬ HasFront {A = A × List ℕ} (λ p. Fits p.0 × (length p.1 ≡ count p.0)) (λ p. code p.0 ++ p.1)
     octets
 no_counted_octets Fits code count octets w a reported fits read few =
-    no_chained_second Fits code (λ a octets. length octets ≡ count a) (λ _ octets. octets) octets (rest w) a reported fits
+    no_chained_second Fits code (λ a octets. length octets ≡ count a) (λ _ octets. octets) octets
+    (rest w) a reported fits
     read (no_octets w (count a) (λ room. omega arith))

@@ -53,7 +53,8 @@ front_comes_next w front more n is many =
     )
 
 -- a parser of all the octets that moved past a front of n octets is after that front
-pub past_whole : (front more : List ℕ) (n : ℕ) → length front ≡ n → past n (whole (front ++ more)) ≡ window_after front more
+pub past_whole : (front more : List ℕ) (n : ℕ) → length front ≡ n
+    → past n (whole (front ++ more)) ≡ window_after front more
 past_whole front more n many =
     let place : 0 + n ≡ length front = omega arith in
     ap (λ p. at p (whole (front ++ more))) place
@@ -74,7 +75,8 @@ come_next front octets after k many =
     )
 
 -- after a front, the octets of an integer, big-endian, come next and have its value, and others are left after them
-pub be_comes_next : (front after : List ℕ) (k n : ℕ) → n < 256 ^ k → (k ≤ left (window_after front (octets_be k n ++ after)))
+pub be_comes_next : (front after : List ℕ) (k n : ℕ) → n < 256 ^ k
+    → (k ≤ left (window_after front (octets_be k n ++ after)))
     × (be (next k (window_after front (octets_be k n ++ after))) ≡ n)
     × (rest (past k (window_after front (octets_be k n ++ after))) ≡ after)
 be_comes_next front after k n fits =
@@ -82,7 +84,8 @@ be_comes_next front after k n fits =
     (come.0, ap be come.1 ∙ value_be k n fits, come.2)
 
 -- and so do the octets of an integer, little-endian
-pub le_comes_next : (front after : List ℕ) (k n : ℕ) → n < 256 ^ k → (k ≤ left (window_after front (octets_le k n ++ after)))
+pub le_comes_next : (front after : List ℕ) (k n : ℕ) → n < 256 ^ k
+    → (k ≤ left (window_after front (octets_le k n ++ after)))
     × (le (next k (window_after front (octets_le k n ++ after))) ≡ n)
     × (rest (past k (window_after front (octets_le k n ++ after))) ≡ after)
 le_comes_next front after k n fits =

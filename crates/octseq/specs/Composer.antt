@@ -2,7 +2,7 @@
 use Rattle.std.specs.List.{AllByRecursion}
 use Rattle.std.specs.Prelude.{◌≡◌, ℕ, Bool, true, ◌+◌, ◌<◌, ◌≤◌, ◌^◌, ◌↔◌}
 use Rattle.std.specs.Prelude.{Option, List, ◌++◌, length, Result, OnOk, OnErr}
-use Rattle.octseq_core.specs.Limit.{IsPast}
+use Rattle.octseq_core.specs.Limit.{ExceedsLimit}
 use Rattle.octseq_core.specs.declared.builder.AppendError.{AppendError}
 use Rattle.octseq.specs.Part.{part_of}
 use Rattle.octseq.specs.Refusal.{IsShort, IsMemory, IsTooLong, compose_error}
@@ -28,7 +28,7 @@ pub record AppendsInteger (limit : Option ℕ) (asks : Bool) (result : Result (U
   pub ok : OnOk result (new ≡ old ++ octets)
   pub err : OnErr result (new ≡ old)
   pub too_long : IsTooLong compose_error result ↔ (256 ^ k ≤ integer)
-  pub short : IsShort compose_error result ↔ (integer < 256 ^ k) × IsPast limit (length old + length octets)
+  pub short : IsShort compose_error result ↔ (integer < 256 ^ k) × ExceedsLimit limit (length old + length octets)
   pub memory : IsMemory compose_error result → asks ≡ true
 
 -- A call adds a part: its length, an integer in k octets, followed by its own octets. It is refused as too long exactly

@@ -69,7 +69,7 @@ impl<R: AsOctets> Parser<R> {
     /// # Examples
     ///
     /// ```
-    /// // crates/octseq_uses/src/levels.rt
+    /// // crates/octseq_callers/src/levels.rt
     /// let mut parser = Parser::from_ref(octets);
     /// let mut levels = Vec::new(alloc);
     /// while parser.remaining() > 0 {
@@ -296,7 +296,7 @@ impl<R: AsOctets> Parser<R> {
     /// # Examples
     ///
     /// ```
-    /// // crates/octseq_uses/src/lines.rt
+    /// // crates/octseq_callers/src/lines.rt
     /// let octets = parser.peek_all();
     /// if octets.is_empty() {
     ///     return Ok(None);
@@ -331,7 +331,7 @@ impl<R: AsOctets> Parser<R> {
     /// # Examples
     ///
     /// ```
-    /// // crates/octseq_uses/src/records.rt
+    /// // crates/octseq_callers/src/records.rt
     /// let key = parser.parse_u16_be()?;
     /// let len = parser.parse_u8()?;
     /// let value = parser.parse_octets(usize::from(len))?;

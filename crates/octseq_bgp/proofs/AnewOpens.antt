@@ -1,5 +1,6 @@
 -- An OPEN that is written anew has no more octets than it had, and the same ones if it is minimal.
-use Rattle.std.proofs.Common.{◌≡◌, ◌≢◌, ℕ, ◌+◌, ◌*◌, ◌/◌, ◌%◌, ◌<◌, ◌≤◌, inl, inr, Bool, true, false, List, [], ◌∷◌, ◌++◌}
+use Rattle.std.proofs.Common.{◌≡◌, ◌≢◌, ℕ, ◌+◌, ◌*◌, ◌/◌, ◌%◌, ◌<◌, ◌≤◌, inl, inr, Bool, true, false, List, [], ◌∷◌}
+use Rattle.std.proofs.Common.{◌++◌}
 use Rattle.std.proofs.Common.{length, map, refl, sym, ap, ◌∙◌, subst, arith, append_assoc, length-append}
 use Rattle.std.proofs.lemmas.Bool.Decides.{nat_tests}
 use Rattle.std.specs.List.{AllByRecursion}
@@ -16,13 +17,16 @@ use Rattle.octseq_bgp.specs.Capability.{CapabilityValue, HasCode, IsCapabilityVa
 use Rattle.octseq_bgp.specs.Composed.{header_octets, long_after, message_octets}
 use Rattle.octseq_bgp.specs.Fills.{Fills}
 use Rattle.octseq_bgp.specs.ItemOctets.{are_tuple, tuple_octets}
-use Rattle.octseq_bgp.specs.Minimal.{HasNoReserved, IsCapabilityMinimal, IsFormMinimal, IsOpenMinimal, IsParameterMinimal}
+use Rattle.octseq_bgp.specs.Minimal.{HasNoReserved, IsCapabilityMinimal, IsFormMinimal, IsOpenMinimal}
+use Rattle.octseq_bgp.specs.Minimal.{IsParameterMinimal}
 use Rattle.octseq_bgp.specs.OneOpen.{says_parameter}
 use Rattle.octseq_bgp.specs.Open.{HasParameters, IsLong, IsOpen, Open}
 use Rattle.octseq_bgp.specs.Parts.{IsCounted, IsTlv}
-use Rattle.octseq_bgp.specs.RewrittenOpen.{Appended, AreItemsSound, Each, IsCapabilityAnew, IsOpenRewritten, IsParameterAnew, bits_anew, capability_anew}
+use Rattle.octseq_bgp.specs.RewrittenOpen.{AppendedRow, AreItemsSound, Each, IsCapabilityAnew, IsOpenRewritten}
+use Rattle.octseq_bgp.specs.RewrittenOpen.{IsParameterAnew, bits_anew, capability_anew}
 use Rattle.octseq_bgp.specs.RewrittenOpen.{family_anew, needs_long, open_form, open_front, open_numbers, said_octets}
-use Rattle.octseq_bgp.specs.WrittenOpen.{WrittenParameter, front_len, is_apart, lengths, parameter_octets, parameters_octets}
+use Rattle.octseq_bgp.specs.WrittenOpen.{WrittenParameter, front_len, is_apart, lengths, parameter_octets}
+use Rattle.octseq_bgp.specs.WrittenOpen.{parameters_octets}
 use Rattle.octseq_bgp.specs.declared.capability.capability_type.CapabilityType.{CapabilityType}
 use Rattle.octseq_bgp.specs.declared.capability.capability_type.CapabilityType.TheVariants as code
 use Rattle.octseq_bgp.proofs.Anew.{Kept, Shrinks, both_kept, kept_as, kept_by, row_kept}
@@ -340,7 +344,7 @@ module _ (o : Open) (long : Bool) (len : ℕ) (sound : AreItemsSound o.parameter
 
   -- what comes before its parameters, and then these, are the OPEN
   pub open_put : (old front all : List ℕ) → old ≡ [] → front ≡ old ++ open_front o long len
-      → Appended IsParameterAnew (parameter_octets long) o.parameters front all → IsOpenRewritten o all
+      → AppendedRow IsParameterAnew (parameter_octets long) o.parameters front all → IsOpenRewritten o all
   open_put old front all none first put =
       let kept = items_kept parameter_kept o.parameters put.0 sound put.1 in
       let ps = parameters_octets long put.0 in (

@@ -1,5 +1,6 @@
 -- An UPDATE that is written anew has no more octets than it had, and the same ones if it is minimal.
-use Rattle.std.proofs.Common.{◌≡◌, ℕ, ◌+◌, ◌*◌, ◌/◌, ◌%◌, ◌^◌, ◌<◌, ◌≤◌, inl, inr, Bool, true, false, List, [], ◌∷◌, ◌++◌, length}
+use Rattle.std.proofs.Common.{◌≡◌, ℕ, ◌+◌, ◌*◌, ◌/◌, ◌%◌, ◌^◌, ◌<◌, ◌≤◌, inl, inr, Bool, true, false, List, [], ◌∷◌}
+use Rattle.std.proofs.Common.{◌++◌, length}
 use Rattle.std.proofs.Common.{get_or, refl, sym, ap, ◌∙◌, subst, arith, append_assoc, length-append}
 use Rattle.std.proofs.Math.Decide.{dec_le}
 use Rattle.std.proofs.Math.Nat.{div-add-mod, lt_of_not-le, mul_comm}
@@ -22,12 +23,14 @@ use Rattle.octseq_bgp.specs.Parts.{Attribute, flags_of, inside_of, is_extended, 
 use Rattle.octseq_bgp.specs.Prefix.{Nlri}
 use Rattle.octseq_bgp.specs.PrefixValue.{address_from, bits_after, cleared}
 use Rattle.octseq_bgp.specs.ReadWritten.{attribute_says}
-use Rattle.octseq_bgp.specs.Rewritten.{AreAttributesAnew, AreFew, IsWritable, IsAttributeAnew, IsUpdateRewritten, attribute_anew}
+use Rattle.octseq_bgp.specs.Rewritten.{AreAttributesAnew, AreFew, IsWritable, IsAttributeAnew, IsUpdateRewritten}
+use Rattle.octseq_bgp.specs.Rewritten.{attribute_anew}
 use Rattle.octseq_bgp.specs.Rewritten.{attribute_size, flags_anew, prefix_anew, prefixes_anew, value_anew}
 use Rattle.octseq_bgp.specs.Session.{adds_path}
 use Rattle.octseq_bgp.specs.Update.{IsUpdate, Update}
 use Rattle.octseq_bgp.specs.Value.{HasForm, IsReach, IsUnreach, IsValue, Reach, Unreach, Value}
-use Rattle.octseq_bgp.specs.Written.{IsHopOf, WrittenAttribute, attribute_octets, attributes_octets, body_octets, hop_octets}
+use Rattle.octseq_bgp.specs.Written.{IsHopOf, WrittenAttribute, attribute_octets, attributes_octets, body_octets}
+use Rattle.octseq_bgp.specs.Written.{hop_octets}
 use Rattle.octseq_bgp.specs.Written.{length_width, path_octets, prefix_octets, prefixes_octets}
 use Rattle.octseq_bgp.specs.declared.attribute.attribute_type.AttributeType.{AttributeType}
 use Rattle.octseq_bgp.specs.declared.attribute.attribute_type.AttributeType.TheVariants as kind
@@ -42,7 +45,8 @@ use Rattle.octseq_bgp.proofs.Kept.{address_at}
 use Rattle.octseq_bgp.proofs.Octets.{one_octet, width_extended, width_short}
 use Rattle.octseq_bgp.proofs.Prefixes.{address_long}
 use Rattle.octseq_bgp.proofs.UpdateParts.{body_long}
-use Rattle.octseq_bgp.proofs.WrittenBack.{◌back_and◌, HasItsOctets, IsAttributeSound, attributes_back, counted_back, hop_back}
+use Rattle.octseq_bgp.proofs.WrittenBack.{◌back_and◌, HasItsOctets, IsAttributeSound, attributes_back, counted_back}
+use Rattle.octseq_bgp.proofs.WrittenBack.{hop_back}
 use Rattle.octseq_bgp.proofs.WrittenBack.{nlri_back, nlri_octets, number_back, read_octets, rest_back, whole_back}
 
 -- ---- prefixes

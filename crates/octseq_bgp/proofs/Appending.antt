@@ -1,11 +1,12 @@
 -- What each of a row is written as is appended, one after another.
-use Rattle.std.proofs.Common.{◌≡◌, ℕ, ◌+◌, ◌≤◌, Option, Some, None, List, [], ◌∷◌, ◌++◌, length, refl, sym, ap, ◌∙◌, subst, arith}
+use Rattle.std.proofs.Common.{◌≡◌, ℕ, ◌+◌, ◌≤◌, Option, Some, None, List, [], ◌∷◌, ◌++◌, length, refl, sym, ap, ◌∙◌}
+use Rattle.std.proofs.Common.{subst, arith}
 use Rattle.std.proofs.Common.{append-nil, append_assoc, length-append}
 use Rattle.std.proofs.lemmas.List.Concat.{flat_map-cons}
 use Rattle.std.specs.List.{flat_map}
 use Rattle.std.specs.Prelude.{◌↔◌, OnOk, Result, Ok, Err}
-use Rattle.octseq.specs.Limit.{IsPast, IsWithin}
-use Rattle.octseq_bgp.specs.RewrittenOpen.{Appended, Each}
+use Rattle.octseq.specs.Limit.{ExceedsLimit, IsWithin}
+use Rattle.octseq_bgp.specs.RewrittenOpen.{AppendedRow, Each}
 
 pub within_less : (limit : Option ℕ) (m n : ℕ) → m ≤ n → IsWithin limit n → IsWithin limit m
 within_less (Some limit) m n less within = omega arith
@@ -32,7 +33,7 @@ each_none Is none = ([], subst (λ row. Each Is row []) (sym none) refl)
 -- If those ahead are appended to what there is now, all are to what there was.
 pub record Goes {A B : Type 0} (Is : A → B → Type 0) (octets : B → List ℕ) (all ahead : List A) (old now : List ℕ)
     : Type 0 where
-  pub on : (last : List ℕ) → Appended Is octets ahead now last → Appended Is octets all old last
+  pub on : (last : List ℕ) → AppendedRow Is octets ahead now last → AppendedRow Is octets all old last
 
 pub goes_none : {A B : Type 0} {Is : A → B → Type 0} {octets : B → List ℕ} (all : List A) (old : List ℕ)
     → Goes Is octets all all old old
@@ -55,7 +56,7 @@ goes_on {Is = Is} {octets = octets} {now = now} goes steps b is put = record {
 }
 
 pub goes_all : {A B : Type 0} {Is : A → B → Type 0} {octets : B → List ℕ} {all ahead : List A} {old now : List ℕ}
-    → Goes Is octets all ahead old now → ahead ≡ [] → Appended Is octets all old now
+    → Goes Is octets all ahead old now → ahead ≡ [] → AppendedRow Is octets all old now
 unfolding each_none
 goes_all {Is = Is} {now = now} goes none =
     let row = each_none Is none in
@@ -64,8 +65,9 @@ goes_all {Is = Is} {now = now} goes none =
 -- ---- whether what is written is past a limit
 
 module _ {Is : List ℕ → Type 0} (limit : Option ℕ) (n : ℕ) (long : (out : List ℕ) → Is out → length out ≡ n) where
-  pub is_short : IsPast limit n → (out : List ℕ) → Is out → (out : List ℕ) × Is out × IsPast limit (length out)
-  is_short past out is = (out, is, subst (IsPast limit) (sym (long out is)) past)
+  pub is_short : ExceedsLimit limit n → (out : List ℕ) → Is out → (out : List ℕ) × Is out
+      × ExceedsLimit limit (length out)
+  is_short past out is = (out, is, subst (ExceedsLimit limit) (sym (long out is)) past)
 
-  pub not_short : ¬ IsPast limit n → ⊥ ↔ ((out : List ℕ) × Is out × IsPast limit (length out))
-  not_short isnt = (λ no. absurd no, λ short. isnt (subst (IsPast limit) (long short.0 short.1) short.2))
+  pub not_short : ¬ ExceedsLimit limit n → ⊥ ↔ ((out : List ℕ) × Is out × ExceedsLimit limit (length out))
+  not_short isnt = (λ no. absurd no, λ short. isnt (subst (ExceedsLimit limit) (long short.0 short.1) short.2))

@@ -7,9 +7,10 @@ use Rattle.std.proofs.Math.Nat.{lt_of_not-le}
 use Rattle.std.proofs.lemmas.Bool.Decides.{nat_tests}
 use Rattle.octseq.specs.Integer.{octets_be}
 use Rattle.octseq_bgp.specs.AttributeType.{type_flags}
-use Rattle.octseq_bgp.specs.Held.{Held}
+use Rattle.octseq_bgp.specs.Held.{HeldUpdate}
 use Rattle.octseq_bgp.specs.PartOctets.{PartOctets}
-use Rattle.octseq_bgp.specs.Written.{AttributeFits, WrittenAttribute, attribute_octets, flags_for, head_octets, length_width}
+use Rattle.octseq_bgp.specs.Written.{AttributeFits, WrittenAttribute, attribute_octets, flags_for, head_octets}
+use Rattle.octseq_bgp.specs.Written.{length_width}
 use Rattle.octseq_bgp.specs.Written.{prefixes_octets, attributes_octets}
 use Rattle.octseq_bgp.specs.Writing.{UpToAttributes, more_attributes}
 use Rattle.octseq_bgp.specs.declared.attribute.attribute_type.AttributeType.{AttributeType}
@@ -30,19 +31,20 @@ head_and flags kind octets =
 
 -- nothing is announced yet
 pub none_announced : {B : Type 0} {s : SessionConfig} {parts : PartOctets B} {open_list : Option MpList} {open_at : ℕ}
-    → Held UpToAttributes s parts open_list open_at → parts.announced ≡ []
+    → HeldUpdate UpToAttributes s parts open_list open_at → parts.announced ≡ []
 none_announced held = held_announced held ∙ ap prefixes_octets (held_attributes_up held)
 
 -- the UPDATE with another attribute
 pub attribute_wanted : {B : Type 0} {s : SessionConfig} {parts : PartOctets B} {open_list : Option MpList} {open_at : ℕ}
-    (held : Held UpToAttributes s parts open_list open_at) (a : WrittenAttribute) (octets : List ℕ)
+    (held : HeldUpdate UpToAttributes s parts open_list open_at) (a : WrittenAttribute) (octets : List ℕ)
     → AttributeFits a → octets ≡ attribute_octets a
     → Wanted UpToAttributes s parts.withdrawn (parts.attributes ++ octets) [] (more_attributes held.0 a)
 attribute_wanted held a octets fits is =
     let now = held_fits held in
     record {
       withdrawn_is = held_withdrawn held;
-      attributes_is = ap (λ o. o ++ octets) (held_attributes held) ∙ ap (λ o. attributes_octets held.0.attributes ++ o) is
+      attributes_is = ap (λ o. o ++ octets) (held_attributes held)
+          ∙ ap (λ o. attributes_octets held.0.attributes ++ o) is
           ∙ sym (one_more attribute_octets held.0.attributes a);
       announced_is = sym (ap prefixes_octets (held_attributes_up held));
       withdrawn = now.withdrawn;
@@ -53,7 +55,7 @@ attribute_wanted held a octets fits is =
 
 -- the same, with the head that was made for it
 pub attribute_after : {B : Type 0} {s : SessionConfig} {parts : PartOctets B} {open_list : Option MpList} {open_at : ℕ}
-    (held : Held UpToAttributes s parts open_list open_at) (a : WrittenAttribute) {head : List ℕ}
+    (held : HeldUpdate UpToAttributes s parts open_list open_at) (a : WrittenAttribute) {head : List ℕ}
     → head ≡ head_octets a.flags a.kind (length a.octets) → a.flags < 256 → a.kind < 256
     → length a.octets < 256 ^ length_width a.flags
     → Wanted UpToAttributes s parts.withdrawn (parts.attributes ++ (head ++ a.octets)) [] (more_attributes held.0 a)

@@ -51,14 +51,17 @@ pub no_open : (s : SessionConfig) (w : Window) (kind : ℕ) → kind ≡ 1 → (
     → IsBody s w kind m → ⊥
 no_open s w kind is none m body = let it = as_open s w kind m is body in none it.0 it.2
 
-pub no_update : (s : SessionConfig) (w : Window) (kind : ℕ) → kind ≡ 2 → ((u : Update) → IsUpdate s w u → ⊥) → (m : Message)
+pub no_update : (s : SessionConfig) (w : Window) (kind : ℕ) → kind ≡ 2 → ((u : Update) → IsUpdate s w u → ⊥)
+    → (m : Message)
     → IsBody s w kind m → ⊥
 no_update s w kind is none m body = let it = as_update s w kind m is body in none it.0 it.2
 
-pub no_notification : (s : SessionConfig) (w : Window) (kind : ℕ) → kind ≡ 3 → ((n : ℕ × (ℕ × Window)) → Whole IsNotification w n → ⊥) → (m : Message)
+pub no_notification : (s : SessionConfig) (w : Window) (kind : ℕ) → kind ≡ 3
+    → ((n : ℕ × (ℕ × Window)) → Whole IsNotification w n → ⊥) → (m : Message)
     → IsBody s w kind m → ⊥
 no_notification s w kind is none m body = let it = as_notification s w kind m is body in none it.0 it.2
 
-pub no_route_refresh : (s : SessionConfig) (w : Window) (kind : ℕ) → kind ≡ 5 → ((r : ℕ × (ℕ × (ℕ × Window))) → Whole IsRouteRefresh w r → ⊥) → (m : Message)
+pub no_route_refresh : (s : SessionConfig) (w : Window) (kind : ℕ) → kind ≡ 5
+    → ((r : ℕ × (ℕ × (ℕ × Window))) → Whole IsRouteRefresh w r → ⊥) → (m : Message)
     → IsBody s w kind m → ⊥
 no_route_refresh s w kind is none m body = let it = as_route_refresh s w kind m is body in none it.0 it.2

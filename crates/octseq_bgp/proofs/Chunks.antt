@@ -1,5 +1,6 @@
 -- A window is filled by values of k octets exactly if the number of its octets is a multiple of k.
-use Rattle.std.proofs.Common.{◌≡◌, ℕ, zero, suc, ◌+◌, ◌-◌, ◌*◌, ◌/◌, ◌%◌, ◌<◌, ◌≤◌, List, [], ◌∷◌, length, take, drop, refl, sym, ap, subst, ◌∙◌, arith}
+use Rattle.std.proofs.Common.{◌≡◌, ℕ, zero, suc, ◌+◌, ◌-◌, ◌*◌, ◌/◌, ◌%◌, ◌<◌, ◌≤◌, List, [], ◌∷◌, length, take, drop}
+use Rattle.std.proofs.Common.{refl, sym, ap, subst, ◌∙◌, arith}
 use Rattle.std.proofs.lemmas.List.{drop-drop, drop-take, take-take}
 use Rattle.std.proofs.Math.Nat.{mul-mod_right}
 use Rattle.std.specs.Prelude.{slice_range}
@@ -57,10 +58,10 @@ divided k d o same some =
 -- k octets of the n octets from p on, i octets after p
 pub cut : (o : List ℕ) (p q i k n : ℕ) → q ≡ p + i → i + k ≤ n
     → take k (drop i (slice_range o p (p + n))) ≡ slice_range o q (q + k)
-cut o p q i k n place within =
+cut o p q i k n offset within =
     let ahead = drop p o in
     let all : p + n - p ≡ i + (n - i) = omega (arith, within) in
-    let from : p + i ≡ q = omega (arith, place) in
+    let from : p + i ≡ q = omega (arith, offset) in
     let many : k ≡ q + k - q = omega arith in
     ap (λ m. take k (drop i (take m ahead))) all ∙ ap (take k) (drop-take i (n - i) ahead)
     ∙ take-take k (n - i) (drop i ahead) (omega (arith, within)) ∙ ap (take k) (drop-drop i p o)

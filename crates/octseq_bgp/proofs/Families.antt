@@ -17,4 +17,5 @@ family_again family.Ipv6Multicast = refl
 
 pub one_family : (f g : AfiSafiType) → afi_number f ≡ afi_number g → safi_number f ≡ safi_number g → f ≡ g
 one_family f g afi safi =
-    sym (family_again f) ∙ ap (λ n. family_of n (safi_number f)) afi ∙ ap (family_of (afi_number g)) safi ∙ family_again g
+    sym (family_again f) ∙ ap (λ n. family_of n (safi_number f)) afi ∙ ap (family_of (afi_number g)) safi
+    ∙ family_again g

@@ -1,6 +1,7 @@
 -- Messages that are filled with prefixes.
 use Rattle.std.proofs.Common.{◌≡◌, ℕ, zero, suc, ◌+◌, ◌<◌, ◌≤◌, Bool, Option, Ok, Err, List, [], ◌∷◌, ◌++◌, length}
-use Rattle.std.proofs.Common.{take, drop, map, refl, sym, ap, ◌∙◌, subst, arith, append_assoc, append-nil, length-append}
+use Rattle.std.proofs.Common.{take, drop, map, refl, sym, ap, ◌∙◌, subst, arith, append_assoc, append-nil}
+use Rattle.std.proofs.Common.{length-append}
 use Rattle.std.proofs.Common.{Result, take_all}
 use Rattle.std.specs.List.{AllByRecursion, sum_by}
 use Rattle.std.proofs.Math.Decide.{dec_le}
@@ -26,7 +27,8 @@ use Rattle.octseq_bgp.proofs.Updates.{update_long}
 
 -- ---- what a call that fills a message does
 
-module _ {A B : Type 0} (Good : A → Type 0) (more : List A → WrittenUpdate) (row : List A) (most : ℕ) (old : Writing B) where
+module _ {A B : Type 0} (Good : A → Type 0) (more : List A → WrittenUpdate) (row : List A) (most : ℕ)
+    (old : Writing B) where
   -- The first items of a row were pushed.
   pub record ArePut (now : Writing B) (n : ℕ) : Type 0 where
     pub few : n ≤ length row
@@ -60,11 +62,13 @@ all_last P (y ∷ xs) all = all_last P xs all.1
 
 -- an UPDATE with more items of a row has no fewer octets
 abbrev pub Grows : {A : Type 0} → (List A → WrittenUpdate) → List A → Type 0
-Grows more row = (k m : ℕ) → k ≤ m → length (update_octets (more (take k row))) ≤ length (update_octets (more (take m row)))
+Grows more row = (k m : ℕ) → k ≤ m
+    → length (update_octets (more (take k row))) ≤ length (update_octets (more (take m row)))
 
 -- no more items fit a message that is full
 full_most : {A : Type 0} (more : List A → WrittenUpdate) (row : List A) (most n : ℕ) → Grows more row
-    → most < length (update_octets (more (take (n + 1) row))) → (m : ℕ) → FitWith most more (take m row) → Dec (m ≤ n) → m ≤ n
+    → most < length (update_octets (more (take (n + 1) row))) → (m : ℕ) → FitWith most more (take m row) → Dec (m ≤ n)
+    → m ≤ n
 full_most more row most n grows past m fits (yes few) = few
 full_most more row most n grows past m fits (no many) =
     let less = lt_of_not-le many in
@@ -72,7 +76,8 @@ full_most more row most n grows past m fits (no many) =
     absurd (omega (arith, long, past, fits))
 
 -- and none is reached that isn't good
-full_good : {A : Type 0} (Good : A → Type 0) (more : List A → WrittenUpdate) (row : List A) (most n : ℕ) → Grows more row
+full_good : {A : Type 0} (Good : A → Type 0) (more : List A → WrittenUpdate) (row : List A) (most n : ℕ)
+    → Grows more row
     → most < length (update_octets (more (take (n + 1) row))) → AllByRecursion Good (take (n + 1) row) → (k : ℕ)
     → ArePushed Good (FitWith most more) row k → ¬ AllByRecursion Good (take (k + 1) row) → Dec (k ≤ n) → ⊥
 full_good Good more row most n grows past good k reached bad (yes few) =
@@ -148,7 +153,8 @@ module _ {A B : Type 0} {Good : A → Type 0} {more : List A → WrittenUpdate} 
         good = good;
         err = tt;
         malformed = λ none. absurd none;
-        bad = λ k reached bad. absurd (full_good Good more row (least (longest old.session) limit) n grows past good k reached bad (dec_le k n));
+        bad = λ k reached bad. absurd
+            (full_good Good more row (least (longest old.session) limit) n grows past good k reached bad (dec_le k n));
         never_short = λ none. none;
         memory = λ none. absurd none;
         open_list = pushed.kept ∙ are.open_list;
@@ -240,12 +246,14 @@ fits_after most more size rises k run fits =
 pub next_withdrawn : (u : WrittenUpdate) (row : List Given) (p : Given)
     → more_withdrawn (with_withdrawn u row) (given p) ≡ with_withdrawn u (row ++ p ∷ [])
 next_withdrawn u row p = ap (λ w. record u { withdrawn = w })
-    (append_assoc u.withdrawn (map given row) (given p ∷ []) ∙ ap (λ w. u.withdrawn ++ w) (sym (map-append given row (p ∷ []))))
+    (append_assoc u.withdrawn (map given row) (given p ∷ [])
+    ∙ ap (λ w. u.withdrawn ++ w) (sym (map-append given row (p ∷ []))))
 
 pub next_announced : (u : WrittenUpdate) (row : List Given) (p : Given)
     → more_announced (with_announced u row) (given p) ≡ with_announced u (row ++ p ∷ [])
 next_announced u row p = ap (λ n. record u { announced = n })
-    (append_assoc u.announced (map given row) (given p ∷ []) ∙ ap (λ n. u.announced ++ n) (sym (map-append given row (p ∷ []))))
+    (append_assoc u.announced (map given row) (given p ∷ [])
+    ∙ ap (λ n. u.announced ++ n) (sym (map-append given row (p ∷ []))))
 
 -- nothing more
 pub no_withdrawn : (u : WrittenUpdate) → u ≡ with_withdrawn u []
@@ -254,7 +262,8 @@ no_withdrawn u = ap (λ w. record u { withdrawn = w }) (sym (append-nil u.withdr
 pub no_announced : (u : WrittenUpdate) → u ≡ with_announced u []
 no_announced u = ap (λ n. record u { announced = n }) (sym (append-nil u.announced))
 
-module _ {B : Type 0} {limit : Option ℕ} {asks : Bool} {most : ℕ} {row : List Given} {old now next : Writing B} {n : ℕ} where
+module _ {B : Type 0} {limit : Option ℕ} {asks : Bool} {most : ℕ} {row : List Given} {old now next : Writing B}
+    {n : ℕ} where
   -- a push of the next prefix
   pub step : (Good : SessionConfig → Option MpList → Given → Type 0) (result : Result (Unit {0}) WriteError) (x : Given)
       (one : WrittenUpdate → WrittenPrefix → WrittenUpdate) (more : List Given → WrittenUpdate)

@@ -20,9 +20,9 @@ pub front_put : (w x y z k : ℕ) (octets : List ℕ) → length octets ≤ 32 �
     ≡ w ∷ x ∷ y ∷ z ∷ (octets ++ 0 ∷ [])
 front_put w x y z k octets few same =
     let zeros : List ℕ = replicate 33 0 in
-    let place : 5 + length octets ≡ suc (suc (suc (suc (length octets + 1)))) = omega arith in
+    let offset : 5 + length octets ≡ suc (suc (suc (suc (length octets + 1)))) = omega arith in
     let left : 33 - k ≡ suc (32 - k) = omega (arith, few, same) in
     let end : take 1 (drop k zeros) ≡ 0 ∷ [] =
     ap (take 1) (drop-replicate k 33 0 ∙ ap (λ n. replicate n 0) left) in
-    ap (λ n. take n (w ∷ x ∷ y ∷ z ∷ (octets ++ drop k zeros))) place
+    ap (λ n. take n (w ∷ x ∷ y ∷ z ∷ (octets ++ drop k zeros))) offset
     ∙ ap (λ o. w ∷ x ∷ y ∷ z ∷ o) (take-append-add octets (drop k zeros) 1 ∙ ap (λ o. octets ++ o) end)

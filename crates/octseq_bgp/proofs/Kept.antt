@@ -19,9 +19,9 @@ address_at zero i bits octets k below = absurd (omega (arith, below))
 address_at (suc n) i bits octets zero below =
     ap (λ j. cleared (bits_after bits j) (get_or octets j 0)) (omega arith)
 address_at (suc n) i bits octets (suc k) below =
-    let place : i + 1 + k ≡ i + suc k = omega arith in
+    let offset : i + 1 + k ≡ i + suc k = omega arith in
     address_at n (i + 1) bits octets k (omega (arith, below))
-    ∙ ap (λ j. cleared (bits_after bits j) (get_or octets j 0)) place
+    ∙ ap (λ j. cleared (bits_after bits j) (get_or octets j 0)) offset
 
 -- bits that are cleared stay so
 pub cleared_twice : (z x : ℕ) → cleared z x ≡ cleared z (cleared z x)
@@ -44,7 +44,8 @@ kept_at bits k octets each (inr past) =
     let none : cleared 8 (get_or octets k 0) ≡ 0 = omega (arith, small) in
     let nothing : cleared 8 0 ≡ 0 = omega arith in
     ap (λ z. cleared z (get_or octets k 0)) all ∙ none ∙ sym nothing ∙ ap (λ z. cleared z 0) (sym all)
-    ∙ ap (cleared z) (sym (get_or_past (address_from (octets_of_bits bits) 0 bits octets) k 0 (omega (arith, long, past))))
+    ∙ ap (cleared z) (sym
+    (get_or_past (address_from (octets_of_bits bits) 0 bits octets) k 0 (omega (arith, long, past))))
 
 -- an index is below another or not
 below_or_not : (k n : ℕ) → (k < n) ⊎ (n ≤ k)

@@ -12,11 +12,12 @@ use Rattle.octseq_format.specs.Row.{each_once}
 use Rattle.octseq.specs.Integer.{octets_be}
 use Rattle.octseq.proofs.Written.{length_be}
 use Rattle.octseq_bgp.specs.AttributeType.{type_number}
-use Rattle.octseq_bgp.specs.Held.{Held}
+use Rattle.octseq_bgp.specs.Held.{HeldUpdate}
 use Rattle.octseq_bgp.specs.PartOctets.{PartOctets}
 use Rattle.octseq_bgp.specs.Written.{AttributeFits, WrittenAttribute, attribute_octets, attributes_octets}
-use Rattle.octseq_bgp.specs.Written.{flags_for, head_octets, length_width, prefixes_octets, typed_attribute, update_octets}
-use Rattle.octseq_bgp.specs.Writing.{IsLast, IsOpen, UpToAttributes, grown, list_type, more_in_last}
+use Rattle.octseq_bgp.specs.Written.{flags_for, head_octets, length_width, prefixes_octets, typed_attribute}
+use Rattle.octseq_bgp.specs.Written.{update_octets}
+use Rattle.octseq_bgp.specs.Writing.{IsLast, IsListOpen, UpToAttributes, grown, list_type, more_in_last}
 use Rattle.octseq_bgp.specs.declared.attribute.attribute_type.AttributeType.{AttributeType}
 use Rattle.octseq_bgp.specs.declared.message.update_builder.part.MpList.{MpList}
 use Rattle.octseq_bgp.specs.declared.session.SessionConfig.{SessionConfig}
@@ -64,7 +65,7 @@ pub record Last (t : AttributeType) (at : ℕ) (octets : List ℕ) : Type 0 wher
   pub front : List ℕ
   pub own : List ℕ
   pub is : octets ≡ front ++ (head_of t (length own) ++ own)
-  pub place : at ≡ length front
+  pub offset : at ≡ length front
 
 last_is : (t : AttributeType) (at : ℕ) (attributes : List WrittenAttribute) (last : IsLast t at attributes)
     → attributes_octets attributes
@@ -84,7 +85,7 @@ module _ {t : AttributeType} {at : ℕ} {octets : List ℕ} (last : Last t at oc
   last_long =
       let one = ap length last.is ∙ length-append last.front (head_of t (length last.own) ++ last.own) in
       let two = length-append (head_of t (length last.own)) last.own in
-      omega (arith, one, two, last.place)
+      omega (arith, one, two, last.offset)
 
   -- the octets of its head
   pub last_head : (old : ℕ) → Heads t at (length octets) old → old ≡ length (head_of t (length last.own))
@@ -96,44 +97,44 @@ module _ {t : AttributeType} {at : ℕ} {octets : List ℕ} (last : Last t at oc
   -- and what is after them
   pub last_own : (old : ℕ) → old ≡ length (head_of t (length last.own)) → drop old (drop at octets) ≡ last.own
   last_own old is =
-      ap (λ k. drop old (drop k octets)) last.place ∙ ap (λ o. drop old (drop (length last.front) o)) last.is
+      ap (λ k. drop old (drop k octets)) last.offset ∙ ap (λ o. drop old (drop (length last.front) o)) last.is
       ∙ ap (drop old) (drop-append_seam last.front (head_of t (length last.own) ++ last.own))
       ∙ ap (λ k. drop k (head_of t (length last.own) ++ last.own)) is
       ∙ drop-append_seam (head_of t (length last.own)) last.own
 
   pub last_front : take at octets ≡ last.front
   last_front =
-      ap (λ k. take k octets) last.place ∙ ap (take (length last.front)) last.is
+      ap (λ k. take k octets) last.offset ∙ ap (take (length last.front)) last.is
       ∙ take-append_seam last.front (head_of t (length last.own) ++ last.own)
 
 -- ---- the list that a builder has open
 
 -- Its attributes end with it.
 pub last_held : {B : Type 0} {s : SessionConfig} {parts : PartOctets B} {open_list : Option MpList} {open_at : ℕ}
-    (held : Held UpToAttributes s parts open_list open_at) (l : MpList) → open_list ≡ Some l
+    (held : HeldUpdate UpToAttributes s parts open_list open_at) (l : MpList) → open_list ≡ Some l
     → ∥ IsLast (list_type l) open_at held.0.attributes ∥₁
 last_held {open_at = open_at} held l is =
-    ∥∥₁_map held.1 (λ x. subst (λ o. IsOpen o open_at held.0.attributes) is x.opened)
+    ∥∥₁_map held.1 (λ x. subst (λ o. IsListOpen o open_at held.0.attributes) is x.opened)
 
 module _ {B : Type 0} {s : SessionConfig} {parts : PartOctets B} {open_list : Option MpList} {at : ℕ}
-    (held : Held UpToAttributes s parts open_list at) (l : MpList) (is : open_list ≡ Some l) where
+    (held : HeldUpdate UpToAttributes s parts open_list at) (l : MpList) (is : open_list ≡ Some l) where
   abbrev last_in : IsLast (list_type l) at held.0.attributes → Last (list_type l) at parts.attributes
   last_in last = record {
     front = attributes_octets last.front;
     own = last.octets;
     is = held_attributes held ∙ last_is (list_type l) at held.0.attributes last;
-    place = last.place;
+    offset = last.offset;
   }
 
-  -- its place
-  pub place_fits : at + 3 ≤ length parts.attributes
-  place_fits = ∥∥₁_elim (last_held held l is) (λ a b. le_prop a b) (λ last.
+  -- its offset
+  pub offset_fits : at + 3 ≤ length parts.attributes
+  offset_fits = ∥∥₁_elim (last_held held l is) (λ a b. le_prop a b) (λ last.
       let now = last_in last in
       let all = last_long now in
       omega (arith, all, head_size (list_type l) (length now.own)))
 
   module _ (old : ℕ) (heads : Heads (list_type l) at (length parts.attributes) old) where
-    -- the place of its octets
+    -- the offset of its octets
     pub head_fits : at + old ≤ length parts.attributes
     head_fits = ∥∥₁_elim (last_held held l is) (λ a b. le_prop a b) (λ last.
         let now = last_in last in
@@ -208,7 +209,8 @@ module _ {B : Type 0} {s : SessionConfig} {parts : PartOctets B} {open_list : Op
         let now = held_fits held in
         record {
           withdrawn_is = held_withdrawn held;
-          attributes_is = ap (λ h. take at parts.attributes ++ (h ++ (drop old (drop at parts.attributes) ++ more))) head
+          attributes_is = ap (λ h. take at parts.attributes
+              ++ (h ++ (drop old (drop at parts.attributes) ++ more))) head
               ∙ grown_octets more n count;
           announced_is = sym (ap prefixes_octets (held_attributes_up held));
           withdrawn = now.withdrawn;
@@ -232,14 +234,14 @@ module _ {B : Type 0} {s : SessionConfig} {parts : PartOctets B} {open_list : Op
         omega (arith, all, octets, one, two, three, first, second, count, past)
 
   -- and the list stays open
-  pub grown_open : (more : List ℕ) → IsOpen open_list at held.0.attributes
-      → IsOpen open_list at (grown (list_type l) more held.0.attributes)
+  pub grown_open : (more : List ℕ) → IsListOpen open_list at held.0.attributes
+      → IsListOpen open_list at (grown (list_type l) more held.0.attributes)
   grown_open more opened =
-      let last = subst (λ o. IsOpen o at held.0.attributes) is opened in
-      let now : IsOpen (Some l) at (grown (list_type l) more held.0.attributes) = record {
+      let last = subst (λ o. IsListOpen o at held.0.attributes) is opened in
+      let now : IsListOpen (Some l) at (grown (list_type l) more held.0.attributes) = record {
         front = last.front;
         octets = last.octets ++ more;
         is = ap (grown (list_type l) more) last.is ∙ grown_last (list_type l) more last.front last.octets;
-        place = last.place;
+        offset = last.offset;
       } in
-      subst (λ o. IsOpen o at (grown (list_type l) more held.0.attributes)) (sym is) now
+      subst (λ o. IsListOpen o at (grown (list_type l) more held.0.attributes)) (sym is) now

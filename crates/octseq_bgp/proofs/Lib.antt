@@ -37,7 +37,7 @@ pub mod RewrittenOpens
 pub mod Runs
 pub mod Segments
 pub mod Shown
-pub mod Spoken
+pub mod Advertised
 pub mod Stops
 pub mod StopsAtEnd
 pub mod Streams

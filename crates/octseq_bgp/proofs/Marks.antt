@@ -1,5 +1,6 @@
 -- Types that were seen are marked in a table.
-use Rattle.std.proofs.Common.{◌≡◌, ◌≢◌, ◌<◌, ◌≤◌, ℕ, List, ◌∷◌, Bool, true, false, length, get_or, set, sym, ◌∙◌, subst, arith}
+use Rattle.std.proofs.Common.{◌≡◌, ◌≢◌, ◌<◌, ◌≤◌, ℕ, List, ◌∷◌, Bool, true, false, length, get_or, set, sym, ◌∙◌}
+use Rattle.std.proofs.Common.{subst, arith}
 use Rattle.std.specs.Prelude.{◌↔◌}
 use Rattle.std.proofs.lemmas.List.{get_or-set_other, get_or-set_same}
 use Rattle.std.proofs.Math.Decide.{dec_le}
@@ -35,7 +36,8 @@ mark seen before e code k same room is _ (no low) =
     apart seen before e code k same other is
 
 -- one more type is marked
-pub marked : (seen : List Bool) (before : List Attribute) (e : Attribute) (code : ℕ) → code ≡ type_of e → code < length seen
+pub marked : (seen : List Bool) (before : List Attribute) (e : Attribute) (code : ℕ) → code ≡ type_of e
+    → code < length seen
     → Marks seen before → Marks (set seen code true) (e ∷ before)
 marked seen before e code same room marks k fits =
     mark seen before e code k same room (marks k fits) (dec_le k code) (dec_le code k)

@@ -20,12 +20,14 @@ use Rattle.octseq_bgp.specs.Open.{HasParameters, IsLong, IsLongPart, IsOpenFront
 use Rattle.octseq_bgp.specs.WrittenMessage.{keepalive_octets, longest}
 use Rattle.octseq_bgp.specs.WrittenNotification.{WrittenNotification, notification_octets, notification_says}
 use Rattle.octseq_bgp.specs.WrittenOpen.{FitsOpen, FitsParameter, WrittenOpen, WrittenParameter, is_apart, lengths}
-use Rattle.octseq_bgp.specs.WrittenOpen.{most_parameters, numbers_octets, open_octets, parameter_octets, parameters_octets}
+use Rattle.octseq_bgp.specs.WrittenOpen.{most_parameters, numbers_octets, open_octets, parameter_octets}
+use Rattle.octseq_bgp.specs.WrittenOpen.{parameters_octets}
 use Rattle.octseq_bgp.specs.WrittenRouteRefresh.{WrittenRouteRefresh, route_refresh_octets, route_refresh_says}
 use Rattle.octseq_bgp.specs.declared.session.SessionConfig.{SessionConfig}
 use Rattle.octseq_bgp.proofs.Octets.{one_octet}
 use Rattle.octseq_bgp.proofs.ReadBack.{counted_extent, counted_fits, counted_part, message_read}
-use Rattle.octseq_bgp.proofs.WholesBack.{HasAll, IsExtent, extent, extent_back, extent_of, extent_octets, fills_back, has_extent}
+use Rattle.octseq_bgp.proofs.WholesBack.{HasAll, IsExtent, extent, extent_back, extent_of, extent_octets, fills_back}
+use Rattle.octseq_bgp.proofs.WholesBack.{has_extent}
 use Rattle.octseq_bgp.proofs.WholesBack.{none_left, whole_back}
 
 -- what is written as some octets is read of a window that has them
@@ -54,7 +56,8 @@ notification_back = delimited_fixed (are_be 1) back_then delimited_fixed (are_be
 
 pub notification_read : (s : SessionConfig) (n : WrittenNotification) → n.code < 256 → n.subcode < 256
     → length (notification_octets n) ≤ longest s.extended_message
-    → (it : ℕ × (ℕ × Window)) × IsMessage s (notification_octets n) (Message.notification it) × (notification_says it ≡ n)
+    → (it : ℕ × (ℕ × Window)) × IsMessage s (notification_octets n) (Message.notification it)
+    × (notification_says it ≡ n)
 unfolding both_say both_octets
 notification_read s n code subcode fits =
     let body = n.code ∷ n.subcode ∷ n.«data» in

@@ -10,7 +10,8 @@ use Rattle.octseq_format.specs.Rest.{IsRest}
 use Rattle.octseq_format.specs.Scaled.{Scales}
 use Rattle.octseq_format.specs.Tagged.{onward_by_switch}
 use Rattle.octseq_format.specs.Where.{onward_where}
-use Rattle.octseq_bgp.specs.Parts.{IsNumber, IsCounted, IsNext, ◌deciding◌, IsPrefix, IsPathPrefix, IsAttribute, IsTlv, IsSegment}
+use Rattle.octseq_bgp.specs.Parts.{IsNumber, IsCounted, IsNext, ◌deciding◌, IsPrefix, IsPathPrefix, IsAttribute}
+use Rattle.octseq_bgp.specs.Parts.{IsTlv, IsSegment}
 use Rattle.octseq_bgp.specs.Parts.{IsSegmentType, octets_of_bits, is_extended}
 
 pub onward_number : (k : ℕ) → IsOnward k (IsNumber k)
@@ -53,7 +54,8 @@ path_prefix_moves most = moving_of (onward_number 4 onward_then onward_prefix mo
 
 pub attribute_moves : IsMoving IsAttribute
 attribute_moves = moving_of (onward_deciding (onward_number 1) (λ flags. any_onward
-    (onward_number 1 onward_then onward_by_switch (is_extended flags) (onward_octets 2) (onward_octets 1)))) (omega arith)
+    (onward_number 1 onward_then onward_by_switch (is_extended flags) (onward_octets 2) (onward_octets 1))))
+    (omega arith)
 
 pub tlv_moves : (k : ℕ) → IsMoving (IsTlv k)
 tlv_moves k = moving_of (onward_number 1 onward_then onward_octets k) (omega arith)

@@ -22,7 +22,8 @@ to_session s family paths afi w row same_paths same_afi are =
 pub from_session : (s : SessionConfig) (family : AfiSafiType) (paths : Bool) (afi : Afi) (w : Window) (row : List Nlri)
     → paths ≡ adds_path s.add_path family → afi ≡ afi_of family → ArePrefixes s family w row → AreNlri paths afi w row
 from_session s family paths afi w row same_paths same_afi are =
-    subst (λ a. AreNlri paths a w row) (sym same_afi) (subst (λ p. AreNlri p (afi_of family) w row) (sym same_paths) are)
+    subst (λ a. AreNlri paths a w row) (sym same_afi)
+    (subst (λ p. AreNlri p (afi_of family) w row) (sym same_paths) are)
 
 -- ---- with path ids
 

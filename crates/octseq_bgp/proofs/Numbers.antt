@@ -28,5 +28,6 @@ numbers_are wide w count row fills size =
     let k = asn_size wide in
     let all = row_left k be w fills.0 row fills.1.0 in
     let none = fills.1.1 in
-    let many = same_count wide (length row) count (let product : k * length row ≡ left w = omega (arith, all, none) in product ∙ size) in
+    let many = same_count wide (length row) count
+    (let product : k * length row ≡ left w = omega (arith, all, none) in product ∙ size) in
     row_numbers k w fills.0 row fills.1.0 ∙ ap (λ n. numbers k n (rest w)) many

@@ -49,7 +49,8 @@ pub address_first : (n m i bits : ℕ) (octets : List ℕ) → n ≤ m
 address_first zero m i bits octets few = refl
 address_first (suc n) zero i bits octets few = absurd (omega (arith, few))
 address_first (suc n) (suc m) i bits octets few =
-    ap (λ o. cleared (bits_after bits i) (slice_index octets i) ∷ o) (address_first n m (i + 1) bits octets (omega (arith, few)))
+    ap (λ o. cleared (bits_after bits i) (slice_index octets i) ∷ o)
+    (address_first n m (i + 1) bits octets (omega (arith, few)))
 
 -- and the first of four, before zeros
 pub four_first : (n bits : ℕ) (four octets : List ℕ) → four ≡ address_from 4 0 bits octets → n ≤ 4
@@ -81,13 +82,13 @@ made (a ∷ b ∷ c ∷ d ∷ e ∷ rest) address bits long = absurd (omega (ari
 pub with_id : (id address : List ℕ) (bits n : ℕ) → length id ≡ 4
     → slice_range (id ++ bits ∷ address) 0 (5 + n) ≡ id ++ bits ∷ take n address
 with_id id address bits n long =
-    let place : 5 + n - 0 ≡ length id + suc n = omega (arith, long) in
-    ap (λ k. take k (id ++ bits ∷ address)) place ∙ take-append-add id (bits ∷ address) (suc n)
+    let offset : 5 + n - 0 ≡ length id + suc n = omega (arith, long) in
+    ap (λ k. take k (id ++ bits ∷ address)) offset ∙ take-append-add id (bits ∷ address) (suc n)
 
 pub without_id : (id address : List ℕ) (bits n : ℕ) → length id ≡ 4
     → slice_range (id ++ bits ∷ address) 4 (5 + n) ≡ bits ∷ take n address
 without_id id address bits n long =
-    let place : 5 + n - 4 ≡ suc n = omega arith in
-    ap (λ k. take k (drop 4 (id ++ bits ∷ address))) place
+    let offset : 5 + n - 4 ≡ suc n = omega arith in
+    ap (λ k. take k (drop 4 (id ++ bits ∷ address))) offset
     ∙ ap (λ k. take (suc n) (drop k (id ++ bits ∷ address))) (sym long)
     ∙ ap (take (suc n)) (drop-append_seam id (bits ∷ address))

@@ -57,7 +57,8 @@ one_restart w r o a b =
     ap (λ f. restart_from f.0 r.families) front ∙ ap (restart_from o.bits) row
 
 one_form : (c : CapabilityType) (w : Window) → OneSaid (HasCode c w)
-one_form code.MultiProtocol w = one_said CapabilityValue.multi_protocol (one_whole (IsNumber 2 then IsNumber 1 then IsNumber 1)
+one_form code.MultiProtocol w = one_said CapabilityValue.multi_protocol
+    (one_whole (IsNumber 2 then IsNumber 1 then IsNumber 1)
     (one_number 2 one_then one_number 1 one_then one_number 1) w)
 one_form code.RouteRefresh w = λ v u a b. a.0 ∙ sym b.0
 one_form code.ExtendedMessage w = λ v u a b. a.0 ∙ sym b.0

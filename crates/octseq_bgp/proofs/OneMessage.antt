@@ -52,7 +52,8 @@ one_update s w u o a b =
 pub one_long_part : IsOne IsLongPart
 one_long_part = one_number 1 one_then one_number 1 one_then one_octets 2
 
-one_parameters : (w : Window) (row others : List (ℕ × Window)) → HasParameters w row → HasParameters w others → row ≡ others
+one_parameters : (w : Window) (row others : List (ℕ × Window)) → HasParameters w row → HasParameters w others
+    → row ≡ others
 one_parameters w row others (HasParameters.short not inside is fills) (HasParameters.short _ there other rest) =
     let same = one_whole (IsCounted 1) (one_octets 1) w inside there is other in
     one_fills (one_tlv 1) (tlv_moves 1) there row others (subst (λ x. Fills (IsTlv 1) x row) same fills) rest
@@ -69,7 +70,8 @@ no_long w is none row (HasParameters.short not _ _ _) = not is
 no_long w is none row (HasParameters.long _ marks are fills) = none row marks are fills
 
 -- nor if there are none in the short form
-pub no_short : (w : Window) → (IsLong w → ⊥) → ((row : List (ℕ × Window)) (inside : Window) → Whole (IsCounted 1) w inside
+pub no_short : (w : Window) → (IsLong w → ⊥)
+    → ((row : List (ℕ × Window)) (inside : Window) → Whole (IsCounted 1) w inside
     → Fills (IsTlv 1) inside row → ⊥) → (row : List (ℕ × Window)) → HasParameters w row → ⊥
 no_short w not none row (HasParameters.short _ inside is fills) = none row inside is fills
 no_short w not none row (HasParameters.long is _ _ _) = not is
@@ -92,7 +94,8 @@ open_numbers o rest = (o.version, (o.my_asn, (o.holdtime, (o.identifier, rest)))
 pub one_open : (w : Window) (o p : Open) → IsOpen w o → IsOpen w p → o ≡ p
 unfolding open_from
 one_open w o p a b =
-    let front = one_whole IsOpenFront one_open_front w (open_numbers o a.rest) (open_numbers p b.rest) a.front b.front in
+    let front = one_whole IsOpenFront one_open_front w (open_numbers o a.rest)
+    (open_numbers p b.rest) a.front b.front in
     let row = one_parameters b.rest o.parameters p.parameters
     (subst (λ n. HasParameters n.1.1.1.1 o.parameters) front a.parameters) b.parameters in
     ap (λ n. open_from n o.parameters) front ∙ ap (λ row. open_from (open_numbers p b.rest) row) row

@@ -134,7 +134,8 @@ delimited_segment wide = record {
       let k = asn_size wide in
       let raw = raw_segment k segment in
       let same = octets_of_raw wide segment in
-      let taken = (delimited_raw k).next w raw more (fits_raw wide segment fits) (is ∙ ap (λ o. o ++ more) (sym same)) in
+      let taken = (delimited_raw k).next w raw more (fits_raw wide segment fits)
+      (is ∙ ap (λ o. o ++ more) (sym same)) in
       record {
         it = taken.it;
         tells = sym (said_of_raw wide taken.it) ∙ ap (segment_of_raw k) taken.tells

@@ -4,7 +4,7 @@ use Rattle.std.proofs.Common.{length, refl, sym, ap, ◌∙◌}
 use Rattle.std.specs.Prelude.{IfSome}
 use Rattle.std.specs.Option.{is_some}
 use Rattle.octseq_bgp.specs.Family.{afi_of}
-use Rattle.octseq_bgp.specs.Held.{Held}
+use Rattle.octseq_bgp.specs.Held.{HeldUpdate}
 use Rattle.octseq_bgp.specs.Parts.{octets_of_bits}
 use Rattle.octseq_bgp.specs.PartOctets.{PartOctets}
 use Rattle.octseq_bgp.specs.Prefix.{most_bits}
@@ -34,7 +34,8 @@ path_fits false (Some id) same few = absurd (cc)
 path_fits false None same few = tt
 
 -- a prefix of a family is written as one that fits
-pub written_fits : (s : SessionConfig) (f : AfiSafiType) (p : Prefix) (path_id : Option PathId) → IsPrefixOf s f p path_id
+pub written_fits : (s : SessionConfig) (f : AfiSafiType) (p : Prefix) (path_id : Option PathId)
+    → IsPrefixOf s f p path_id
     → IfSome path_id (λ id. id.0 < 256 ^ 4)
     → PrefixFits (most_bits (afi_of f)) (adds_path s.add_path f) (written_prefix p path_id)
 written_fits s f p path_id is few = record {
@@ -45,7 +46,7 @@ written_fits s f p path_id is few = record {
 
 -- the UPDATE with another announced prefix
 pub announced_wanted : {B : Type 0} {s : SessionConfig} {parts : PartOctets B} {open_list : Option MpList} {open_at : ℕ}
-    (held : Held UpToAnnounced s parts open_list open_at) (p : WrittenPrefix) (octets : List ℕ)
+    (held : HeldUpdate UpToAnnounced s parts open_list open_at) (p : WrittenPrefix) (octets : List ℕ)
     → PrefixFits 32 (adds_path s.add_path family.Ipv4Unicast) p → octets ≡ prefix_octets p
     → Wanted UpToAnnounced s parts.withdrawn parts.attributes (parts.announced ++ octets) (more_announced held.0 p)
 announced_wanted {s = s} {parts = parts} held p octets fits is =
@@ -57,13 +58,14 @@ announced_wanted {s = s} {parts = parts} held p octets fits is =
           ∙ sym (one_more prefix_octets held.0.announced p);
       withdrawn = now.withdrawn;
       attributes = now.attributes;
-      announced = all_more (PrefixFits 32 (adds_path s.add_path family.Ipv4Unicast)) held.0.announced now.announced fits;
+      announced = all_more (PrefixFits 32
+          (adds_path s.add_path family.Ipv4Unicast)) held.0.announced now.announced fits;
       reaches = tt;
     }
 
 -- and with another withdrawn one
 pub withdrawn_wanted : {B : Type 0} {s : SessionConfig} {parts : PartOctets B} {open_list : Option MpList} {open_at : ℕ}
-    (held : Held UpToWithdrawn s parts open_list open_at) (p : WrittenPrefix) (octets : List ℕ)
+    (held : HeldUpdate UpToWithdrawn s parts open_list open_at) (p : WrittenPrefix) (octets : List ℕ)
     → PrefixFits 32 (adds_path s.add_path family.Ipv4Unicast) p → octets ≡ prefix_octets p
     → Wanted UpToWithdrawn s (parts.withdrawn ++ octets) parts.attributes parts.announced (more_withdrawn held.0 p)
 withdrawn_wanted {s = s} {parts = parts} held p octets fits is =
@@ -73,7 +75,8 @@ withdrawn_wanted {s = s} {parts = parts} held p octets fits is =
           ∙ sym (one_more prefix_octets held.0.withdrawn p);
       attributes_is = held_attributes held;
       announced_is = held_announced held;
-      withdrawn = all_more (PrefixFits 32 (adds_path s.add_path family.Ipv4Unicast)) held.0.withdrawn now.withdrawn fits;
+      withdrawn = all_more (PrefixFits 32
+          (adds_path s.add_path family.Ipv4Unicast)) held.0.withdrawn now.withdrawn fits;
       attributes = now.attributes;
       announced = now.announced;
       reaches = held_withdrawn_up held;

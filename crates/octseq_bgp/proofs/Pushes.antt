@@ -10,9 +10,9 @@ use Rattle.octseq.specs.Refusal.{IsMalformed, IsShort, IsMemory, write_error}
 use Rattle.octseq.specs.declared.error.WriteError.{WriteError}
 use Rattle.octseq.specs.declared.error.WriteError.TheVariants.{Short}
 use Rattle.octseq_bgp.specs.Composed.{least}
-use Rattle.octseq_bgp.specs.Held.{Held, held_is}
-use Rattle.octseq_bgp.specs.PartOctets.{PartOctets, Puts}
-use Rattle.octseq_bgp.specs.Writing.{IsHeld, IsOpen, Pushes, Writing}
+use Rattle.octseq_bgp.specs.Held.{HeldUpdate, held_is}
+use Rattle.octseq_bgp.specs.PartOctets.{PartOctets, PutsParts}
+use Rattle.octseq_bgp.specs.Writing.{IsHeld, IsListOpen, Pushes, Writing}
 use Rattle.octseq_bgp.specs.Written.{WrittenUpdate, update_octets, UnicastFits, AttributeFits, longest}
 use Rattle.octseq_bgp.specs.Written.{prefixes_octets, attributes_octets}
 use Rattle.octseq_bgp.specs.declared.message.update_builder.part.MpList.{MpList}
@@ -52,7 +52,7 @@ module _ {Reaches : WrittenUpdate → Type 0} {s : SessionConfig} {w a n : List 
 
   pub wanted_held : {B : Type 0} {parts : PartOctets B} {open_list : Option MpList} {open_at : ℕ} → parts.withdrawn ≡ w
       → parts.attributes ≡ a → parts.announced ≡ n → 23 + length w + length a + length n ≤ longest s
-      → IsOpen open_list open_at u.attributes → IsHeld Reaches s parts open_list open_at u
+      → IsListOpen open_list open_at u.attributes → IsHeld Reaches s parts open_list open_at u
   wanted_held withdrawn attributes announced short opened = record {
     withdrawn_is = withdrawn ∙ wanted.withdrawn_is;
     attributes_is = attributes ∙ wanted.attributes_is;
@@ -70,15 +70,16 @@ module _ {Reaches : WrittenUpdate → Type 0} {s : SessionConfig} {w a n : List 
 module _ {B : Type 0} {Reaches : WrittenUpdate → Type 0} {s : SessionConfig} {w a n : List ℕ} {most : ℕ} {asks : Bool}
     {old new : PartOctets B} {open_list : Option MpList} {open_at : ℕ} where
   -- a call that put the octets that a push wants
-  pub put_held : {u : WrittenUpdate} → Puts most asks (Ok tt) w a n old new → most ≤ longest s
-      → Wanted Reaches s w a n u → IsOpen open_list open_at u.attributes → IsHeld Reaches s new open_list open_at u
+  pub put_held : {u : WrittenUpdate} → PutsParts most asks (Ok tt) w a n old new → most ≤ longest s
+      → Wanted Reaches s w a n u → IsListOpen open_list open_at u.attributes → IsHeld Reaches s new open_list open_at u
   put_held puts most wanted opened =
       let fits = puts_within puts in
       wanted_held wanted puts.withdrawn_is puts.attributes_is puts.announced_is (omega (arith, fits, most)) opened
 
   -- one that put none
-  pub none_held : {e : WriteError} → Puts most asks (Err e) w a n old new → Held Reaches s old open_list open_at
-      → Held Reaches s new open_list open_at
+  pub none_held : {e : WriteError} → PutsParts most asks (Err e) w a n old new
+      → HeldUpdate Reaches s old open_list open_at
+      → HeldUpdate Reaches s new open_list open_at
   none_held puts held = (
     held.0,
     ∥∥₁_map held.1 (λ x. record {
@@ -92,11 +93,12 @@ module _ {B : Type 0} {Reaches : WrittenUpdate → Type 0} {s : SessionConfig} {
   )
 
   -- either, if the list that is open stays the same
-  pub push_held : {u : WrittenUpdate} (result : Result (Unit {0}) WriteError) → Puts most asks result w a n old new
-      → most ≤ longest s → Wanted Reaches s w a n u → (held : Held Reaches s old open_list open_at)
-      → (IsOpen open_list open_at held.0.attributes → IsOpen open_list open_at u.attributes)
-      → Held Reaches s new open_list open_at
-  push_held {u} (Ok done) puts most wanted held opens = (u, ∥∥₁_map held.1 (λ x. put_held puts most wanted (opens x.opened)))
+  pub push_held : {u : WrittenUpdate} (result : Result (Unit {0}) WriteError) → PutsParts most asks result w a n old new
+      → most ≤ longest s → Wanted Reaches s w a n u → (held : HeldUpdate Reaches s old open_list open_at)
+      → (IsListOpen open_list open_at held.0.attributes → IsListOpen open_list open_at u.attributes)
+      → HeldUpdate Reaches s new open_list open_at
+  push_held {u} (Ok done) puts most wanted held opens =
+      (u, ∥∥₁_map held.1 (λ x. put_held puts most wanted (opens x.opened)))
   push_held (Err e) puts most wanted held opens = none_held puts held
 
 -- ---- what a push ensures
@@ -135,8 +137,8 @@ put_short {Asks = Asks} {s = s} limit t wanted same short =
 module _ {B : Type 0} {Reaches : WrittenUpdate → Type 0} {s : SessionConfig} {w a n : List ℕ} {u : WrittenUpdate}
     {limit : Option ℕ} {asks : Bool} {old new : PartOctets B} where
   pub pushes_ok : {Good : Type 0} {open_list other_list : Option MpList} {open_at : ℕ} {before after : Writing B}
-      → Puts (least (longest s) limit) asks (Ok tt) w a n old new → Wanted Reaches s w a n u → Good
-      → before.session ≡ s → after.session ≡ before.session → (held : Held Reaches s new other_list open_at)
+      → PutsParts (least (longest s) limit) asks (Ok tt) w a n old new → Wanted Reaches s w a n u → Good
+      → before.session ≡ s → after.session ≡ before.session → (held : HeldUpdate Reaches s new other_list open_at)
       → after.update ≡ held.0 → after.open_list ≡ open_list → Pushes limit asks Good (Ok tt) u open_list before after
   pushes_ok puts wanted good session same held update opens =
       good_pushes (Ok tt) good
@@ -144,9 +146,11 @@ module _ {B : Type 0} {Reaches : WrittenUpdate → Type 0} {s : SessionConfig} {
       opens tt tt same puts.fits (put_short limit _ wanted session puts.short) puts.memory
 
   pub pushes_err : {e : WriteError} {Good : Type 0} {wanted_list open_list : Option MpList} {open_at : ℕ}
-      {before after : Writing B} → Puts (least (longest s) limit) asks (Err e) w a n old new → Wanted Reaches s w a n u
-      → Good → before.session ≡ s → after.session ≡ before.session → (first : Held Reaches s old open_list open_at)
-      → before.update ≡ first.0 → (held : Held Reaches s new open_list open_at) → after.update ≡ held.0
+      {before after : Writing B} → PutsParts (least (longest s) limit) asks (Err e) w a n old new
+      → Wanted Reaches s w a n u
+      → Good → before.session ≡ s → after.session ≡ before.session
+      → (first : HeldUpdate Reaches s old open_list open_at)
+      → before.update ≡ first.0 → (held : HeldUpdate Reaches s new open_list open_at) → after.update ≡ held.0
       → after.open_list ≡ before.open_list → Pushes limit asks Good (Err e) u wanted_list before after
   unfolding none_held
   pushes_err {e = e} puts wanted good session same first begun held update opens =
@@ -154,9 +158,11 @@ module _ {B : Type 0} {Reaches : WrittenUpdate → Type 0} {s : SessionConfig} {
       (put_short limit _ wanted session puts.short) puts.memory
 
   pub pushes : (result : Result (Unit {0}) WriteError) {Good : Type 0} {open_list : Option MpList} {open_at : ℕ}
-      {before after : Writing B} → Puts (least (longest s) limit) asks result w a n old new → Wanted Reaches s w a n u
-      → Good → before.session ≡ s → after.session ≡ before.session → (first : Held Reaches s old open_list open_at)
-      → before.update ≡ first.0 → (held : Held Reaches s new open_list open_at) → after.update ≡ held.0
+      {before after : Writing B} → PutsParts (least (longest s) limit) asks result w a n old new
+      → Wanted Reaches s w a n u
+      → Good → before.session ≡ s → after.session ≡ before.session
+      → (first : HeldUpdate Reaches s old open_list open_at)
+      → before.update ≡ first.0 → (held : HeldUpdate Reaches s new open_list open_at) → after.update ≡ held.0
       → after.open_list ≡ before.open_list → Pushes limit asks Good result u before.open_list before after
   pushes (Ok done) puts wanted good session same first begun held update opens =
       pushes_ok puts wanted good session same held update opens

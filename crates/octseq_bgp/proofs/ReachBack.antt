@@ -126,7 +126,8 @@ pub reach_back : (s : SessionConfig) (w : Window) (r : WrittenReach) → FitsHop
 unfolding both_say
 reach_back s w r hop prefixes all =
     let f = r.family in
-    let front = whole_back reach_front w (front_of r) (fits_front r hop) (subst (HasAll w) (sym (octets_of_front r)) all) in
+    let front = whole_back reach_front w (front_of r) (fits_front r hop)
+    (subst (HasAll w) (sym (octets_of_front r)) all) in
     let it = front.0 in
     let tells = front.1 in
     let hops = has_extent it.1.1.0 (hop_octets r.next_hop) (ap (λ (e : Front). e.1.1.0) tells) in

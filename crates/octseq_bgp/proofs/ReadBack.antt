@@ -32,7 +32,8 @@ use Rattle.octseq_bgp.specs.declared.family.Afi.TheVariants as addresses
 use Rattle.octseq_bgp.specs.declared.family.AfiSafiType.TheVariants as family
 use Rattle.octseq_bgp.specs.declared.session.SessionConfig.{SessionConfig}
 use Rattle.octseq_bgp.proofs.Composing.{header_parts}
-use Rattle.octseq_bgp.proofs.WholesBack.{HasAll, IsExtent, counted_is, extent, extent_back, extent_of, extent_octets, fills_back}
+use Rattle.octseq_bgp.proofs.WholesBack.{HasAll, IsExtent, counted_is, extent, extent_back, extent_of, extent_octets}
+use Rattle.octseq_bgp.proofs.WholesBack.{fills_back}
 use Rattle.octseq_bgp.proofs.WholesBack.{has_extent, whole_back}
 
 -- ---- prefixes
@@ -100,7 +101,8 @@ header_read kind body small few =
       };
     } in
     let all : HasAll (whole octets) (header_written said) =
-    subst (HasAll (whole octets)) (sym same) (record { are = rest_after [] octets; end = sym (zero-add (length octets)) }) in
+    subst (HasAll (whole octets)) (sym same)
+    (record { are = rest_after [] octets; end = sym (zero-add (length octets)) }) in
     let taken = whole_back header_back (whole octets) said fits all in
     let b = taken.0.1.1.1 in
     let tells = taken.1 in
@@ -193,7 +195,8 @@ update_read_back s u fits =
     let few : 19 + length body ≤ longest s = omega (arith, short, count) in
     message_read Message.update message_type.update body (omega arith) (omega (arith, most, few))
     (short_enough s (19 + length body) few) (λ b same.
-    let parts = parts_read (prefixes_octets u.withdrawn) (attributes_octets u.attributes) (prefixes_octets u.announced) b
+    let parts = parts_read (prefixes_octets u.withdrawn) (attributes_octets u.attributes)
+    (prefixes_octets u.announced) b
     same (omega (arith, short, most, all)) (omega (arith, short, most, all)) in
     let paths = adds_path s.add_path family.Ipv4Unicast in
     let withdrawn = nlri_back paths addresses.Ipv4 parts.0.0 u.withdrawn fits.withdrawn parts.2 in
@@ -216,6 +219,7 @@ update_read_back s u fits =
         attributes = map attribute_says attributes.0;
         announced = map nlri_says announced.0;
       }) withdrawn.2
-          ∙ ap (λ a. record { withdrawn = u.withdrawn; attributes = a; announced = map nlri_says announced.0 }) attributes.1
+          ∙ ap (λ a. record { withdrawn = u.withdrawn; attributes = a; announced = map nlri_says announced.0 })
+          attributes.1
           ∙ ap (λ n. record { withdrawn = u.withdrawn; attributes = u.attributes; announced = n }) announced.2,
     ))

@@ -15,16 +15,20 @@ use Rattle.octseq_bgp.specs.Open.{IsOpen, Open}
 use Rattle.octseq_bgp.specs.Parts.{Attribute, flags_of, inside_of, octets_of_bits, type_of}
 use Rattle.octseq_bgp.specs.Prefix.{Nlri}
 use Rattle.octseq_bgp.specs.PrefixValue.{address_from, address_of, bits_after, cleared}
-use Rattle.octseq_bgp.specs.Rewritten.{AreAttributesAnew, AreSound, IsAttributeAnew, IsReady, IsUpdateRewritten, attribute_anew}
-use Rattle.octseq_bgp.specs.Rewritten.{attribute_size, attributes_size, flags_anew, prefix_anew, prefixes_anew, update_size}
+use Rattle.octseq_bgp.specs.Rewritten.{AreAttributesAnew, AreSound, IsAttributeAnew, IsReady, IsUpdateRewritten}
+use Rattle.octseq_bgp.specs.Rewritten.{attribute_anew}
+use Rattle.octseq_bgp.specs.Rewritten.{attribute_size, attributes_size, flags_anew, prefix_anew, prefixes_anew}
+use Rattle.octseq_bgp.specs.Rewritten.{update_size}
 use Rattle.octseq_bgp.specs.Rewritten.{value_anew}
 use Rattle.octseq_bgp.specs.Update.{IsUpdate, Update}
 use Rattle.octseq_bgp.specs.Value.{Value}
-use Rattle.octseq_bgp.specs.Written.{WrittenAttribute, attribute_octets, attributes_octets, body_octets, head_octets, path_octets}
+use Rattle.octseq_bgp.specs.Written.{WrittenAttribute, attribute_octets, attributes_octets, body_octets, head_octets}
+use Rattle.octseq_bgp.specs.Written.{path_octets}
 use Rattle.octseq_bgp.specs.Written.{prefix_octets, written_prefix}
 use Rattle.octseq_bgp.specs.declared.prefix.Prefix.{Prefix}
 use Rattle.octseq_bgp.specs.declared.session.SessionConfig.{SessionConfig}
-use Rattle.octseq_bgp.proofs.AnewUpdates.{all_few, attribute_long, flags_few, flags_many, prefixes_kept, read_fits, update_back, value_formed}
+use Rattle.octseq_bgp.proofs.AnewUpdates.{all_few, attribute_long, flags_few, flags_many, prefixes_kept, read_fits}
+use Rattle.octseq_bgp.proofs.AnewUpdates.{update_back, value_formed}
 use Rattle.octseq_bgp.proofs.Attributes.{head_and}
 use Rattle.octseq_bgp.proofs.Kept.{address_at, cleared_twice}
 use Rattle.octseq_bgp.proofs.Octets.{head_extended, head_short}

@@ -6,7 +6,7 @@ use Rattle.std.proofs.Math.Decide.{dec_le}
 use Rattle.std.proofs.Math.Nat.{lt_of_not-le}
 use Rattle.std.proofs.Math.Seq.{drop-append-add}
 use Rattle.std.proofs.lemmas.List.{drop-append-le}
-use Rattle.octseq_bgp.specs.Filling.{IsMost, AreFilled, AreRuns}
+use Rattle.octseq_bgp.specs.Filling.{IsMost, AreRunsFilled, AreRunsThatFit}
 
 all_drop : {A : Type 0} (P : A → Type 0) (n : ℕ) (row : List A) → AllByRecursion P row → AllByRecursion P (drop n row)
 all_drop P zero row all = all
@@ -23,17 +23,20 @@ module _ {A : Type 0} (Fits : List A → Type 0) where
       let m = length run - k in
       let is : row ≡ drop k run ++ others = sym left ∙ drop-append-le k run others (omega (arith, less)) in
       let long : length (drop k run) ≡ m = length-drop k run in
-      let all : length row ≡ m + length others = ap length is ∙ length-append (drop k run) others ∙ ap (λ n. n + length others) long in
+      let all : length row ≡ m + length others = ap length is ∙ length-append (drop k run) others
+      ∙ ap (λ n. n + length others) long in
       let front : take m row ≡ drop k run = ap (take m) is ∙ take_at (drop k run) others m long in
       let few = most.most m (omega (arith, all)) (subst Fits (sym front) (after k run fits)) in
       omega (arith, few, less)
 
   fewest_from : (after : (k : ℕ) (run : List A) → Fits run → Fits (drop k run)) (row : List A) (counts : List ℕ)
-      (runs : List (List A)) (k : ℕ) → AreFilled Fits row counts → AllByRecursion Fits runs
+      (runs : List (List A)) (k : ℕ) → AreRunsFilled Fits row counts → AllByRecursion Fits runs
       → drop k (flat_map (λ run. run) runs) ≡ row → length counts ≤ length runs
   fewest_from after row [] runs k filled fit left = omega arith
-  fewest_from after row (n ∷ counts) [] zero filled fit left = let none = ap length left in absurd (omega (arith, filled.0, none))
-  fewest_from after row (n ∷ counts) [] (suc k) filled fit left = let none = ap length left in absurd (omega (arith, filled.0, none))
+  fewest_from after row (n ∷ counts) [] zero filled fit left = let none = ap length left in absurd
+      (omega (arith, filled.0, none))
+  fewest_from after row (n ∷ counts) [] (suc k) filled fit left = let none = ap length left in absurd
+      (omega (arith, filled.0, none))
   fewest_from after row (n ∷ counts) (run ∷ runs) k filled fit left =
       let others = flat_map (λ run. run) runs in
       let far = reaches after row run others n k filled.1 fit.0 left (dec_le (length run) k) in
@@ -46,11 +49,13 @@ module _ {A : Type 0} (Fits : List A → Type 0) where
 
   -- runs that are filled are no more than those of any cut
   pub fewest : (after : (k : ℕ) (run : List A) → Fits run → Fits (drop k run)) (row : List A) (counts : List ℕ)
-      (runs : List (List A)) → AreFilled Fits row counts → AreRuns Fits row runs → length counts ≤ length runs
+      (runs : List (List A)) → AreRunsFilled Fits row counts → AreRunsThatFit Fits row runs
+      → length counts ≤ length runs
   fewest after row counts runs filled cut = fewest_from after row counts runs 0 filled cut.fit cut.whole
 
   -- and none is empty, if each item fits alone
-  pub none_empty : (row : List A) (counts : List ℕ) → AllByRecursion (λ x. Fits (x ∷ [])) row → AreFilled Fits row counts
+  pub none_empty : (row : List A) (counts : List ℕ) → AllByRecursion (λ x. Fits (x ∷ [])) row
+      → AreRunsFilled Fits row counts
       → AllByRecursion (λ n. 1 ≤ n) counts
   none_empty row [] alone filled = tt
   none_empty [] (n ∷ counts) alone filled = absurd (omega (arith, filled.0))

@@ -1,5 +1,6 @@
 -- Reading octets that are a message stops at their end.
-use Rattle.std.proofs.Common.{◌≡◌, ◌+◌, ◌≤◌, ℕ, Bool, true, false, List, length, inl, inr, refl, sym, ap, ◌∙◌, subst, arith}
+use Rattle.std.proofs.Common.{◌≡◌, ◌+◌, ◌≤◌, ℕ, Bool, true, false, List, length, inl, inr, refl, sym, ap, ◌∙◌, subst}
+use Rattle.std.proofs.Common.{arith}
 use Rattle.octseq.specs.Window.{Window, left, past, at, whole}
 use Rattle.octseq_format.proofs.Parts.{part_of_counted}
 use Rattle.octseq_bgp.specs.Fills.{Whole}
@@ -8,7 +9,8 @@ use Rattle.octseq_bgp.specs.Open.{Open, IsOpen, HasParameters}
 use Rattle.octseq_bgp.specs.Parts.{IsCounted}
 use Rattle.octseq_bgp.specs.Prefix.{Nlri, AreNlri}
 use Rattle.octseq_bgp.specs.Session.{adds_path}
-use Rattle.octseq_bgp.specs.Stop.{PrefixFilled, ParametersStop, OpenStop, UpdateStop, FixedStop, BodyStop, HasHeader, IsStop}
+use Rattle.octseq_bgp.specs.Stop.{PrefixFilled, ParametersStop, OpenStop, UpdateStop, FixedStop, BodyStop, HasHeader}
+use Rattle.octseq_bgp.specs.Stop.{IsStop}
 use Rattle.octseq_bgp.specs.Update.{Update, IsUpdate}
 use Rattle.octseq_bgp.specs.declared.family.Afi.TheVariants as addresses
 use Rattle.octseq_bgp.specs.declared.family.AfiSafiType.TheVariants as family
@@ -63,7 +65,8 @@ same_end : (k : ℕ) (w inside v : Window) → IsCounted k w inside v → v.end 
 same_end k w inside v is = ap (λ (x : Window). x.end) (part_of_counted k w inside v is).2
 
 -- IPv4 prefixes that fill a window
-prefixes_fill : (paths : Bool) (w : Window) (row : List Nlri) → AreNlri paths addresses.Ipv4 w row → PrefixFilled paths w
+prefixes_fill : (paths : Bool) (w : Window) (row : List Nlri) → AreNlri paths addresses.Ipv4 w row
+    → PrefixFilled paths w
 prefixes_fill true w row are = (are.0, are.1)
 prefixes_fill false w row are = (are.0, are.1)
 
@@ -92,7 +95,7 @@ update_end s w u is =
 -- ---- the others
 
 notification_end : (w : Window) (n : ℕ × (ℕ × Window)) → Whole IsNotification w n
-    → FixedStop 2 (λ place. place ≡ w.end) w w.end
+    → FixedStop 2 (λ offset. offset ≡ w.end) w w.end
 notification_end w n is =
     let first = ap left is.1.1.2 in
     let one = is.1.1.0 in
@@ -100,7 +103,7 @@ notification_end w n is =
     inl (omega (arith, first, one, two), refl)
 
 route_refresh_end : (w : Window) (r : ℕ × (ℕ × (ℕ × Window))) → Whole IsRouteRefresh w r
-    → FixedStop 4 (λ place. place ≡ w.end) w w.end
+    → FixedStop 4 (λ offset. offset ≡ w.end) w w.end
 route_refresh_end w r is =
     let first = ap left is.1.1.2 in
     let second = ap left (is.1.2.1.2 ∙ ap (past 1) is.1.1.2) in

@@ -12,7 +12,7 @@ use Rattle.octseq_format.specs.Canonical.{IsSound, each_next, many_next, sound_p
 use Rattle.octseq_bgp.specs.MessageType as message_type
 use Rattle.octseq_bgp.specs.Message.{Message, IsMessage, IsShortEnough}
 use Rattle.octseq_bgp.specs.OneFrame.{length_in_front, marked_front, marked_more}
-use Rattle.octseq_bgp.specs.Stream.{IsFramed, IsFront, IsMisframed, longest_message, message_length}
+use Rattle.octseq_bgp.specs.Stream.{IsFramed, IsFrameHeader, IsMisframed, longest_message, message_length}
 use Rattle.octseq_bgp.specs.declared.session.SessionConfig.{SessionConfig}
 use Rattle.octseq_stream.specs.Frames.{IsHeader}
 
@@ -76,7 +76,7 @@ framed s octets m each message =
 -- ---- what was read
 
 -- a front and as many octets as it says are a framed message
-pub front_header : (s : SessionConfig) (front : List ℕ) (more : ℕ) → IsFront s front more
+pub front_header : (s : SessionConfig) (front : List ℕ) (more : ℕ) → IsFrameHeader s front more
     → IsHeader 18 true (IsFramed s) (λ octets. octets) front more
 front_header s front more is = record {
   long = is.long;

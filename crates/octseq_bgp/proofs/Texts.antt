@@ -34,7 +34,8 @@ one_update_text u text other a b =
     a.2 ∙ ap (λ attributes. codes "update\n" ++ nlri_lines (codes "withdrawn") u.withdrawn ++ attributes
     ++ nlri_lines (codes "announced") u.announced) (one_attributes u.session u.attributes a.0 b.0 a.1 b.1) ∙ sym b.2
 
-one_capabilities : (row : List (ℕ × Window)) (text other : List ℕ) → AreCapabilityLines row text → AreCapabilityLines row other
+one_capabilities : (row : List (ℕ × Window)) (text other : List ℕ) → AreCapabilityLines row text
+    → AreCapabilityLines row other
     → text ≡ other
 one_capabilities [] text other a b = a ∙ sym b
 one_capabilities (e ∷ more) text other a b =
@@ -58,7 +59,8 @@ one_value_lines : (kind : ℕ) (v : ParameterValue) (text other : List ℕ) → 
 one_value_lines kind (ParameterValue.capabilities row) text other a b = one_capabilities row text other a b
 one_value_lines kind (ParameterValue.opaque octets) text other a b = a ∙ sym b
 
-one_parameters : (row : List (ℕ × Window)) (text other : List ℕ) → AreParameterLines row text → AreParameterLines row other
+one_parameters : (row : List (ℕ × Window)) (text other : List ℕ) → AreParameterLines row text
+    → AreParameterLines row other
     → text ≡ other
 one_parameters [] text other a b = a ∙ sym b
 one_parameters (p ∷ more) text other a b =
@@ -69,7 +71,8 @@ one_parameters (p ∷ more) text other a b =
 
 pub one_open_text : (o : Open) (text other : List ℕ) → IsOpenText o text → IsOpenText o other → text ≡ other
 one_open_text o text other a b =
-    a.2 ∙ ap (λ parameters. line (codes "open") (open_text o) ++ parameters) (one_parameters o.parameters a.0 b.0 a.1 b.1)
+    a.2 ∙ ap (λ parameters. line (codes "open") (open_text o) ++ parameters)
+    (one_parameters o.parameters a.0 b.0 a.1 b.1)
     ∙ sym b.2
 
 one_communication : IsOne (Counted 1 0 IsText)
@@ -88,7 +91,8 @@ one_data code subcode w (NotificationData.opaque octets) (NotificationData.opaqu
 pub one_notification_text : (n : ℕ × (ℕ × Window)) (text other : List ℕ) → IsNotificationText n text
     → IsNotificationText n other → text ≡ other
 one_notification_text n text other a b =
-    a.2 ∙ ap (λ it. line (codes "notification") (notification_text n.0 n.1.0 it)) (one_data n.0 n.1.0 n.1.1 a.0 b.0 a.1 b.1)
+    a.2 ∙ ap (λ it. line (codes "notification") (notification_text n.0 n.1.0 it))
+    (one_data n.0 n.1.0 n.1.1 a.0 b.0 a.1 b.1)
     ∙ sym b.2
 
 pub one_message_text : (m : Message) (text other : List ℕ) → IsMessageText m text → IsMessageText m other → text ≡ other

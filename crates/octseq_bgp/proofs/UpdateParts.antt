@@ -11,7 +11,7 @@ use Rattle.octseq.specs.Refusal.{IsMalformed, IsMemory, IsShort, write_error}
 use Rattle.octseq.proofs.Written.{length_be}
 use Rattle.octseq.specs.declared.error.WriteError.{WriteError}
 use Rattle.octseq_bgp.specs.Composed.{Extends, header_octets, header_long, message_octets, long_after}
-use Rattle.octseq_bgp.specs.PartOctets.{AreParts, Arranges, PartOctets, Puts, after_length, parts_in, parts_octets}
+use Rattle.octseq_bgp.specs.PartOctets.{AreParts, Arranges, PartOctets, PutsParts, after_length, parts_in, parts_octets}
 use Rattle.octseq_bgp.specs.Written.{body_octets}
 
 part_long : (a : List ℕ) → length (part_of 2 a) ≡ 2 + length a
@@ -60,7 +60,7 @@ known o {content} w a n {k} {m} is first second most =
 
 -- ---- octets that are arranged anew
 
--- places of what is arranged, and how many octets there are in all
+-- offsets of what is arranged, and how many octets there are in all
 pub arranged_long : (W A N w a n : List ℕ) {slice : List ℕ} {at k x y : ℕ}
     → Arranges (after_length W A N) at k slice x y w a n
     → (length w + length a + length n ≡ length W + length A + length N) × (k ≤ length slice)
@@ -109,7 +109,7 @@ arranges_as first second third one two is = rw (first, second, third, one, two) 
 
 -- a call that put octets stayed within its limit
 pub puts_within : {B : Type 0} {most : ℕ} {asks : Bool} {w a n : List ℕ} {old new : PartOctets B}
-    → Puts most asks (Ok tt) w a n old new → 23 + length w + length a + length n ≤ most
+    → PutsParts most asks (Ok tt) w a n old new → 23 + length w + length a + length n ≤ most
 puts_within puts = let less = lt_of_not-le puts.short.1 in omega (arith, less)
 
 -- a call that was refused as short exactly if the message with these parts would be too long
@@ -119,7 +119,7 @@ pub puts_by : {B : Type 0} {most long : ℕ} {asks : Bool} {result : Result (Uni
     → OnOk result (new.withdrawn ≡ w) → OnOk result (new.attributes ≡ a) → OnOk result (new.announced ≡ n)
     → OnErr result ((new.withdrawn ≡ old.withdrawn) × (new.attributes ≡ old.attributes)
     × (new.announced ≡ old.announced))
-    → Puts most asks result w a n old new
+    → PutsParts most asks result w a n old new
 puts_by {most = most} {result = result} is fits short memory first second third kept = record {
   withdrawn_is = first;
   attributes_is = second;
@@ -137,7 +137,7 @@ pub appended : {B : Type 0} (o : B) {most : ℕ} {asks : Bool} {old new : List �
     → Extends write_error most asks result (message_octets kind (body ++ tail)) old new)
     → most ≤ 65535
     → AreParts new k m (parts_in o new k m)
-    × Puts most asks result parts.withdrawn parts.attributes (parts.announced ++ tail) parts (parts_in o new k m)
+    × PutsParts most asks result parts.withdrawn parts.attributes (parts.announced ++ tail) parts (parts_in o new k m)
 appended o {parts = parts} tail (Ok done) are extends few =
     let w = parts.withdrawn in
     let a = parts.attributes in
@@ -160,7 +160,8 @@ appended o {parts = parts} tail (Err e) are extends few =
     let same : message_octets 2 (body_octets w a n ++ tail) ≡ parts_octets w a (n ++ tail) =
     ap (message_octets 2) (simp append_assoc) in
     let made = found o w a n (done.err ∙ are.is) are.withdrawn_is are.attributes_is in (
-      known o w a n (done.err ∙ are.is) are.withdrawn_is are.attributes_is (omega (arith, ap length done.err, are.most)),
+      known o w a n (done.err ∙ are.is) are.withdrawn_is are.attributes_is
+          (omega (arith, ap length done.err, are.most)),
       puts_by (ap length same ∙ all_long w a (n ++ tail)) done.fits done.short done.memory tt tt tt
           (ap (λ p. p.withdrawn) made, ap (λ p. p.attributes) made, ap (λ p. p.announced) made),
     )
@@ -169,7 +170,7 @@ appended o {parts = parts} tail (Err e) are extends few =
 
 pub withdrawn_more : (w a n s : List ℕ) {k : ℕ} → k ≡ length w → Arranges (after_length w a (n ++ s)) k 0 s
     (length w + length s) (length a + 0) (w ++ s) a n
-withdrawn_more w a n s place = record {
+withdrawn_more w a n s offset = record {
   front = w;
   replaced = [];
   moved = octets_be 2 (length a) ++ (a ++ n);
@@ -177,7 +178,7 @@ withdrawn_more w a n s place = record {
   between = octets_be 2 (length a);
   was = simp append_assoc;
   is = simp append_assoc;
-  at_is = sym place;
+  at_is = sym offset;
   old_is = refl;
   over_is = omega arith;
   withdrawn_is = length-append w s;
@@ -207,7 +208,7 @@ pub attribute_grown : (w a n head more : List ℕ) (at old : ℕ) {k : ℕ} → 
     → old ≤ length head
     → Arranges (after_length w a (n ++ (more ++ drop old head))) (2 + k + at) old head (length w + 0)
     (length a + length (more ++ drop old head)) w (take at a ++ (head ++ (drop old (drop at a) ++ more))) []
-attribute_grown w a n head more at old place none inside fits =
+attribute_grown w a n head more at old offset none inside fits =
     let rest = drop at a in
     let count = octets_be 2 (length a) in
     let parts : a ≡ take at a ++ (take old rest ++ drop old rest) = sym (simp take-append-drop) in
@@ -224,7 +225,7 @@ attribute_grown w a n head more at old place none inside fits =
       was = ap (λ m. w ++ (count ++ (a ++ (m ++ (more ++ drop old head))))) none
           ∙ ap (λ x. w ++ (count ++ (x ++ (more ++ drop old head)))) parts ∙ simp append_assoc;
       is = simp (append_assoc, append-nil);
-      at_is = simp length-append (omega (arith, first, two, place));
+      at_is = simp length-append (omega (arith, first, two, offset));
       old_is = second;
       over_is = simp length-drop (omega (arith, second, fits));
       withdrawn_is = omega arith;

@@ -6,9 +6,9 @@ use Rattle.std.proofs.Math.Logic.{∥∥₁_elim, ∥∥₁_map}
 use Rattle.std.proofs.Props.{props}
 use Rattle.std.specs.Coded.{Coded-set, codes, coded_list, le_prop, Unit-prop}
 use Rattle.octseq_bgp.specs.Composed.{long_after}
-use Rattle.octseq_bgp.specs.Held.{Held, held_is, attribute_code, prefix_code, update_code}
+use Rattle.octseq_bgp.specs.Held.{HeldUpdate, held_is, attribute_code, prefix_code, update_code}
 use Rattle.octseq_bgp.specs.PartOctets.{PartOctets}
-use Rattle.octseq_bgp.specs.Writing.{IsHeld, IsOpen, UpToWithdrawn, UpToAttributes, empty_update}
+use Rattle.octseq_bgp.specs.Writing.{IsHeld, IsListOpen, UpToWithdrawn, UpToAttributes, empty_update}
 use Rattle.octseq_bgp.specs.Written.{WrittenAttribute, WrittenUpdate, body_octets, update_octets, UpdateFits}
 use Rattle.octseq_bgp.specs.Written.{prefixes_octets, attributes_octets, update_body, longest, PathFits}
 use Rattle.octseq_bgp.specs.Written.{AttributeFits}
@@ -26,7 +26,8 @@ update_long u =
     omega (arith, body, all)
 
 pub longest_most : (s : SessionConfig) → longest s ≤ 65535
-longest_most s = elim s.extended_message as (λ b. (if b then 65535 else 4096) ≤ 65535) [ true ↦ omega arith | false ↦ omega arith ]
+longest_most s = elim s.extended_message as
+    (λ b. (if b then 65535 else 4096) ≤ 65535) [ true ↦ omega arith | false ↦ omega arith ]
 
 -- ---- that an UPDATE fits is a fact
 
@@ -42,7 +43,7 @@ attribute_once a = hlevel props
 -- ---- what a builder holds
 
 module _ {B : Type 0} {Reaches : WrittenUpdate → Type 0} {s : SessionConfig} {parts : PartOctets B}
-    {open_list : Option MpList} {open_at : ℕ} (held : Held Reaches s parts open_list open_at) where
+    {open_list : Option MpList} {open_at : ℕ} (held : HeldUpdate Reaches s parts open_list open_at) where
   held_all : (UpdateFits s held.0) × (parts.withdrawn ≡ prefixes_octets held.0.withdrawn)
       × (parts.attributes ≡ attributes_octets held.0.attributes) × (parts.announced ≡ prefixes_octets held.0.announced)
   held_all = ∥∥₁_elim held.1 (hlevel (props, path_once))
@@ -70,8 +71,9 @@ module _ {B : Type 0} {Reaches : WrittenUpdate → Type 0} {s : SessionConfig} {
 
   -- up to another part, or with another list open
   pub held_as : {Others : WrittenUpdate → Type 0} {other_list : Option MpList} {other_at : ℕ}
-      → (Reaches held.0 → Others held.0) → (IsOpen open_list open_at held.0.attributes → IsOpen other_list other_at held.0.attributes)
-      → Held Others s parts other_list other_at
+      → (Reaches held.0 → Others held.0)
+      → (IsListOpen open_list open_at held.0.attributes → IsListOpen other_list other_at held.0.attributes)
+      → HeldUpdate Others s parts other_list other_at
   held_as reaches opens = (
     held.0,
     ∥∥₁_map held.1 (λ x. record {
@@ -86,14 +88,15 @@ module _ {B : Type 0} {Reaches : WrittenUpdate → Type 0} {s : SessionConfig} {
 
 -- the UPDATEs of two builders with the same parts are equal
 pub held_same : {B : Type 0} {Reaches Others : WrittenUpdate → Type 0} {s : SessionConfig} {parts : PartOctets B}
-    {open_list other_list : Option MpList} {open_at other_at : ℕ} (a : Held Reaches s parts open_list open_at)
-    (b : Held Others s parts other_list other_at) → a.0 ≡ b.0
+    {open_list other_list : Option MpList} {open_at other_at : ℕ} (a : HeldUpdate Reaches s parts open_list open_at)
+    (b : HeldUpdate Others s parts other_list other_at) → a.0 ≡ b.0
 held_same a b = ∥∥₁_elim b.1 (Coded-set update_code a.0 b.0) (λ y. held_is a y)
 
 -- ---- an UPDATE that says nothing
 
 pub longest_least : (s : SessionConfig) → 4096 ≤ longest s
-longest_least s = elim s.extended_message as (λ b. 4096 ≤ (if b then 65535 else 4096)) [ true ↦ omega arith | false ↦ omega arith ]
+longest_least s = elim s.extended_message as
+    (λ b. 4096 ≤ (if b then 65535 else 4096)) [ true ↦ omega arith | false ↦ omega arith ]
 
 pub empty_held : {B : Type 0} (s : SessionConfig) (parts : PartOctets B) → parts.withdrawn ≡ [] → parts.attributes ≡ []
     → parts.announced ≡ [] → IsHeld UpToWithdrawn s parts None 0 empty_update
@@ -111,15 +114,21 @@ empty_held s parts withdrawn attributes announced =
 
 -- a builder's octets are as many as its UPDATE has
 pub held_total : {B : Type 0} {Reaches : WrittenUpdate → Type 0} {s : SessionConfig} {parts : PartOctets B}
-    {open_list : Option MpList} {open_at : ℕ} (held : Held Reaches s parts open_list open_at)
+    {open_list : Option MpList} {open_at : ℕ} (held : HeldUpdate Reaches s parts open_list open_at)
     → 23 + length parts.withdrawn + length parts.attributes + length parts.announced ≡ length (update_octets held.0)
 held_total held =
     let all = update_long held.0 in
-    omega (arith, all, ap length (held_withdrawn held), ap length (held_attributes held), ap length (held_announced held))
+    omega (
+      arith,
+      all,
+      ap length (held_withdrawn held),
+      ap length (held_attributes held),
+      ap length (held_announced held),
+    )
 
 -- and few enough
 pub held_long : {B : Type 0} {Reaches : WrittenUpdate → Type 0} {s : SessionConfig} {parts : PartOctets B}
-    {open_list : Option MpList} {open_at : ℕ} → Held Reaches s parts open_list open_at
+    {open_list : Option MpList} {open_at : ℕ} → HeldUpdate Reaches s parts open_list open_at
     → 23 + length parts.withdrawn + length parts.attributes + length parts.announced ≤ longest s
 held_long held =
     let fits = held_fits held in
@@ -127,10 +136,12 @@ held_long held =
     omega (arith, short, held_total held)
 
 -- it has nothing after its part
-pub held_withdrawn_up : {B : Type 0} {s : SessionConfig} {parts : PartOctets B} {open_list : Option MpList} {open_at : ℕ}
-    (held : Held UpToWithdrawn s parts open_list open_at) → UpToWithdrawn held.0
+pub held_withdrawn_up : {B : Type 0} {s : SessionConfig} {parts : PartOctets B} {open_list : Option MpList}
+    {open_at : ℕ}
+    (held : HeldUpdate UpToWithdrawn s parts open_list open_at) → UpToWithdrawn held.0
 held_withdrawn_up held = ∥∥₁_elim held.1 (hlevel (codes, attribute_code, prefix_code, Coded-set)) (λ x. x.reaches)
 
-pub held_attributes_up : {B : Type 0} {s : SessionConfig} {parts : PartOctets B} {open_list : Option MpList} {open_at : ℕ}
-    (held : Held UpToAttributes s parts open_list open_at) → UpToAttributes held.0
+pub held_attributes_up : {B : Type 0} {s : SessionConfig} {parts : PartOctets B} {open_list : Option MpList}
+    {open_at : ℕ}
+    (held : HeldUpdate UpToAttributes s parts open_list open_at) → UpToAttributes held.0
 held_attributes_up held = ∥∥₁_elim held.1 (Coded-set (coded_list prefix_code) held.0.announced []) (λ x. x.reaches)

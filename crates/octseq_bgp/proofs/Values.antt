@@ -88,7 +88,8 @@ pair : (k : ℕ) (w : Window) → OneSaid (Whole (IsNumber k then IsNumber 4) w)
 pair k w = one_whole (IsNumber k then IsNumber 4) (one_number k one_then one_number 4) w
 
 path : (wide : Bool) (w : Window) → OneSaid (IsPath wide w)
-path wide w p q a b = same_pair (a.0 ∙ sym b.0) (one_fills (one_segment (asn_size wide)) (segment_moves (asn_size wide)) w p.1 q.1 a.1 b.1)
+path wide w p q a b = same_pair (a.0 ∙ sym b.0)
+    (one_fills (one_segment (asn_size wide)) (segment_moves (asn_size wide)) w p.1 q.1 a.1 b.1)
 
 pub one_form : (s : SessionConfig) (t : AttributeType) (w : Window) → OneSaid (HasForm s t w)
 one_form s kind.Origin w = one_made Value.origin (one_whole (IsWhere (IsNumber 1) (λ n. n) (λ n. n ≤ 2))
@@ -110,7 +111,8 @@ one_form s kind.As4Aggregator w = one_made Value.as4_aggregator (pair 4 w)
 one_form s kind.LargeCommunities w = one_made Value.large_communities (one_items 12 large_community w (omega arith))
 
 -- octets of a known type have its form
-pub form_of_type : (s : SessionConfig) (number : ℕ) (t : AttributeType) (w : Window) (v : Value) → type_number t ≡ number
+pub form_of_type : (s : SessionConfig) (number : ℕ) (t : AttributeType) (w : Window) (v : Value)
+    → type_number t ≡ number
     → IsTyped s number w v → HasForm s t w v
 form_of_type s number t w v known is =
     subst (λ t. HasForm s t w v) (one_type is.0 t (sym is.1 ∙ sym known)) is.2
@@ -118,7 +120,8 @@ form_of_type s number t w v known is =
 one_typed : (s : SessionConfig) (number : ℕ) (w : Window) → OneSaid (IsTyped s number w)
 one_typed s number w v u a b = one_form s b.0 w v u (form_of_type s number b.0 w v (sym b.1) a) b.2
 
-pub one_value : (s : SessionConfig) (number : ℕ) (w : Window) (a b : Value) → IsValue s number w a → IsValue s number w b
+pub one_value : (s : SessionConfig) (number : ℕ) (w : Window) (a b : Value) → IsValue s number w a
+    → IsValue s number w b
     → a ≡ b
 one_value s number w v u (inl a) (inl b) = one_typed s number w v u a b
 one_value s number w v u (inl a) (inr b) = absurd (b.1 v a)

@@ -32,7 +32,8 @@ IsOrigin w = Whole (IsWhere (IsNumber 1) (λ n. n) (λ n. n ≤ 2)) w
 
 origin_back : (w : Window) (n : ℕ) → n ≤ 2 → HasAll w (octets_be 1 n) → IsOrigin w n
 origin_back w n few all =
-    let back = where_read_back (IsNumber 1) (λ n. n) (λ n. n ≤ 2) (octets_be 1) (FitsIn 1) (fixed_read_back (are_be 1)) in
+    let back = where_read_back (IsNumber 1) (λ n. n) (λ n. n ≤ 2) (octets_be 1) (FitsIn 1)
+    (fixed_read_back (are_be 1)) in
     let it = whole_back back w n (omega (arith, few), few) all in
     subst (IsOrigin w) it.1 it.2
 

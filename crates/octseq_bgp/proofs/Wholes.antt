@@ -23,7 +23,8 @@ pub one_nlri : (paths : Bool) (afi : Afi) (w : Window) (row others : List Nlri) 
     → AreNlri paths afi w others → row ≡ others
 one_nlri true afi w row others a b =
     let most = most_bits afi in
-    a.2 ∙ ap (map (path_nlri afi)) (one_fills (one_path_prefix most) (path_prefix_moves most) w a.0 b.0 a.1 b.1) ∙ sym b.2
+    a.2 ∙ ap (map (path_nlri afi)) (one_fills (one_path_prefix most) (path_prefix_moves most) w a.0 b.0 a.1 b.1)
+    ∙ sym b.2
 one_nlri false afi w row others a b =
     let most = most_bits afi in
     a.2 ∙ ap (map (plain_nlri afi)) (one_fills (one_prefix most) (prefix_moves most) w a.0 b.0 a.1 b.1) ∙ sym b.2

@@ -1,5 +1,6 @@
 -- What was read is written as the octets that it was read from.
-use Rattle.std.proofs.Common.{◌≡◌, ℕ, ◌+◌, ◌<◌, ◌≤◌, ◌^◌, Bool, true, false, cond, List, [], ◌∷◌, ◌++◌, length, map, take, drop}
+use Rattle.std.proofs.Common.{◌≡◌, ℕ, ◌+◌, ◌<◌, ◌≤◌, ◌^◌, Bool, true, false, cond, List, [], ◌∷◌, ◌++◌, length, map}
+use Rattle.std.proofs.Common.{take, drop}
 use Rattle.std.proofs.Common.{sym, ap, ◌∙◌, subst, arith, append_assoc, append-nil, zero-add}
 use Rattle.std.proofs.lemmas.List.Concat.{flat_map-cons}
 use Rattle.std.proofs.lemmas.List.Folds.{flat_map-map}
@@ -26,7 +27,8 @@ use Rattle.octseq_bgp.specs.Message.{IsMessage, Message}
 use Rattle.octseq_bgp.specs.NextHop.{AreOctets, IsNextHop}
 use Rattle.octseq_bgp.specs.OneOpen.{says_parameter}
 use Rattle.octseq_bgp.specs.Open.{length_octets}
-use Rattle.octseq_bgp.specs.Parts.{◌deciding◌, Attribute, IsAttribute, IsCounted, IsNext, IsNumber, IsPathPrefix, IsPrefix, IsTlv}
+use Rattle.octseq_bgp.specs.Parts.{◌deciding◌, Attribute, IsAttribute, IsCounted, IsNext, IsNumber, IsPathPrefix}
+use Rattle.octseq_bgp.specs.Parts.{IsPrefix, IsTlv}
 use Rattle.octseq_bgp.specs.Parts.{flags_of, inside_of, is_extended, octets_of_bits}
 use Rattle.octseq_bgp.specs.Prefix.{AreNlri, Nlri, most_bits, path_nlri, plain_nlri}
 use Rattle.octseq_bgp.specs.ReadWritten.{attribute_says, nlri_says}

@@ -4,7 +4,7 @@ use Rattle.std.proofs.Common.{refl, ap, sym, ◌∙◌, subst, arith}
 use Rattle.std.proofs.Math.Nat.{lt_of_not-le}
 use Rattle.std.specs.Prelude.{◌↔◌, OnOk, OnErr}
 use Rattle.octseq.specs.Integer.{octets_be}
-use Rattle.octseq.specs.Limit.{IsPast}
+use Rattle.octseq.specs.Limit.{ExceedsLimit}
 use Rattle.octseq.specs.Refusal.{IsMemory, IsShort, Refusal}
 use Rattle.octseq.proofs.Written.{value_be}
 use Rattle.octseq_bgp.specs.Composed.{Extends, header_octets, least, long_after, message_octets}
@@ -31,7 +31,7 @@ pub record Pushed {M : Type 0} (octets : M → List ℕ) (Fits : M → Type 0) (
   pub now : IsWritten octets Fits found most new
   pub ok : OnOk result (found new ≡ more (found old) slice)
   pub err : OnErr result (found new ≡ found old)
-  pub short : IsShort says result ↔ IsPast (limit_of most limit) (length (octets (more (found old) slice)))
+  pub short : IsShort says result ↔ ExceedsLimit (limit_of most limit) (length (octets (more (found old) slice)))
   pub memory : IsMemory says result → asks ≡ true
 
 module _ {M : Type 0} {octets : M → List ℕ} {Fits : M → Type 0} {found : List ℕ → M} {more : M → List ℕ → M}

@@ -13,14 +13,6 @@ header_octets length kind = replicate 16 255 ++ (octets_be 2 length ++ octets_be
 abbrev pub message_octets : ℕ → List ℕ → List ℕ
 message_octets kind body = header_octets (19 + length body) kind ++ body
 
--- its number of octets
-pub header_long : (n kind : ℕ) → length (header_octets n kind) ≡ 19
-unfolding header_octets octets_be
-header_long n kind = refl
-
-pub long_after : (n kind : ℕ) (body : List ℕ) → length (header_octets n kind ++ body) ≡ 19 + length body
-long_after n kind body = length-append (header_octets n kind) body ∙ ap (λ n. n + length body) (header_long n kind)
-
 -- the greatest length of a message of at most `most` octets in a builder with a limit
 abbrev pub least : ℕ → Option ℕ → ℕ
 least most None = most
@@ -35,3 +27,13 @@ pub record Extends {E : Type 0} (says : E → Refusal) (most : ℕ) (asks : Bool
   pub fits : ¬ IsMalformed says result
   pub short : IsShort says result ↔ (most < length wanted)
   pub memory : IsMemory says result → asks ≡ true
+
+-- ---- lemmas: proved below this line, so what the words mean is read above it
+
+-- its number of octets
+pub header_long : (n kind : ℕ) → length (header_octets n kind) ≡ 19
+unfolding header_octets octets_be
+header_long n kind = refl
+
+pub long_after : (n kind : ℕ) (body : List ℕ) → length (header_octets n kind ++ body) ≡ 19 + length body
+long_after n kind body = length-append (header_octets n kind) body ∙ ap (λ n. n + length body) (header_long n kind)

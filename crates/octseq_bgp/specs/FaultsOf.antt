@@ -10,16 +10,16 @@ use Rattle.octseq_bgp.specs.declared.attribute.PathAttribute.{PathAttribute}
 use Rattle.octseq_bgp.specs.declared.message.fault.Fault.{Fault}
 use Rattle.octseq_bgp.specs.declared.message.fault.Faults.{Faults}
 
-abbrev pub place_of : {R : Type 0} {g : Ghosts R} → Option (PathAttribute R g) → Option Attribute
-place_of (Some attribute) = Some (attribute_of attribute)
-place_of None = None
+abbrev pub attribute_if_any : {R : Type 0} {g : Ghosts R} → Option (PathAttribute R g) → Option Attribute
+attribute_if_any (Some attribute) = Some (attribute_of attribute)
+attribute_if_any None = None
 
 -- a fault
-abbrev pub fault_of : {R : Type 0} {g : Ghosts R} → Fault R g → said.Fault
-fault_of f = record { place = place_of f.attribute; rank = rank f.handling }
+abbrev pub fault_of : {R : Type 0} {g : Ghosts R} → Fault R g → said.AttributeFault
+fault_of f = record { attribute = attribute_if_any f.attribute; rank = rank f.handling }
 
 -- These are the faults that are left, given any attributes whose types were seen.
-abbrev pub AreLeft : {R : Type 0} {g : Ghosts R} → Faults R g → List said.Fault → Type 0
+abbrev pub AreLeft : {R : Type 0} {g : Ghosts R} → Faults R g → List said.AttributeFault → Type 0
 AreLeft q row = (before : List Attribute) → Marks q.seen before
     → AreFaults (attributes_session q.attributes) q.external before (attributes_left q.attributes) (rank q.missing) row
 

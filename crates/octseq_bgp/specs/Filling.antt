@@ -22,12 +22,12 @@ pub record IsMost {A : Type 0} (Fits : List A → Type 0) (row : List A) (n : �
 
 -- The numbers of items of runs that are filled one after another, each with the most that fit of what is left, until
 -- none is left.
-abbrev pub AreFilled : {A : Type 0} → (List A → Type 0) → List A → List ℕ → Type 0
-AreFilled Fits row [] = row ≡ []
-AreFilled Fits row (n ∷ counts) = (1 ≤ length row) × IsMost Fits row n × AreFilled Fits (drop n row) counts
+abbrev pub AreRunsFilled : {A : Type 0} → (List A → Type 0) → List A → List ℕ → Type 0
+AreRunsFilled Fits row [] = row ≡ []
+AreRunsFilled Fits row (n ∷ counts) = (1 ≤ length row) × IsMost Fits row n × AreRunsFilled Fits (drop n row) counts
 
 -- A row is cut into runs, in order, each of which fits.
-pub record AreRuns {A : Type 0} (Fits : List A → Type 0) (row : List A) (runs : List (List A)) : Type 0 where
+pub record AreRunsThatFit {A : Type 0} (Fits : List A → Type 0) (row : List A) (runs : List (List A)) : Type 0 where
   pub whole : flat_map (λ run. run) runs ≡ row
   pub fit : AllByRecursion Fits runs
 
@@ -71,8 +71,8 @@ pub record ArePushed {A : Type 0} (Good : A → Type 0) (Fits : List A → Type 
   pub fits : 1 ≤ n → Fits (take n row)
 
 -- A call pushes items of a row, from its front, until the message is full, and says how many. Each of them is good, and
--- so is the one that doesn't fit. It is refused as malformed exactly if it comes to one that isn't good, and for lack of
--- memory only if the type requests memory. The items before the one that is refused stay pushed.
+-- so is the one that doesn't fit. It is refused as malformed exactly if it comes to one that isn't good, and for lack
+-- of memory only if the type requests memory. The items before the one that is refused stay pushed.
 pub record FillsMessage {A B : Type 0} (limit : Option ℕ) (asks : Bool) (Good : A → Type 0)
     (more : List A → WrittenUpdate) (row : List A) (result : Result ℕ WriteError) (old new : Writing B) : Type 0 where
   pub ok : IfOk result (λ n. new.update ≡ more (take n row))

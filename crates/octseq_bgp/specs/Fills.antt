@@ -1,5 +1,6 @@
 -- What fills a window.
-use Rattle.std.specs.Prelude.{◌≡◌, ℕ, ◌-◌, ◌<◌, List, [], ◌∷◌, length, Option, Result, IfOk, IsErr, IfSome, IsNone, IsSome}
+use Rattle.std.specs.Prelude.{◌≡◌, ℕ, ◌-◌, ◌<◌, List, [], ◌∷◌, length, Option, Result, IfOk, IsErr, IfSome, IsNone}
+use Rattle.std.specs.Prelude.{IsSome}
 use Rattle.octseq.specs.Window.{Window, left}
 use Rattle.octseq_format.specs.Laws.{Relation, NoneAt}
 use Rattle.octseq_format.specs.Row.{Row, RowTo, Holds}
@@ -17,13 +18,13 @@ abbrev pub AreFilled : {A : Type 0} → Relation A → Window → Type 0
 AreFilled {A} Is w = (row : List A) × Fills Is w row
 
 -- Values, one after another, followed by octets with which none begins: reading stops there.
-pub record ListStops {A : Type 0} (Is : Relation A) (w : Window) (place : ℕ) : Type 0 where
+pub record ListStops {A : Type 0} (Is : Relation A) (w : Window) (offset : ℕ) : Type 0 where
   pub row : List A
   pub there : Window
   pub are : Row Is w row there
   pub some : 0 < left there
   pub none : NoneAt Is there
-  pub is : place ≡ there.position
+  pub is : offset ≡ there.position
 
 -- A call returns how many values fill a window, or fails if none do.
 pub record Counts {A E : Type 0} (Is : Relation A) (w : Window) (result : Result ℕ E) : Type 0 where

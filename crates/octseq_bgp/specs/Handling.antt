@@ -100,13 +100,14 @@ IsWorst s external before (e ∷ more) n =
     × (y : ℕ) × IsWorst s external (e ∷ before) more y × (n ≡ max x y)
 
 -- the attribute is an MP_REACH_NLRI that has prefixes
-abbrev pub Reaches : SessionConfig → Attribute → Type 0
-Reaches s e = (type_of e ≡ type_number kind.MpReachNlri) × (r : Reach) × IsReach s (inside_of e) r × (1 ≤ length r.prefixes)
+abbrev pub IsReachWithPrefixes : SessionConfig → Attribute → Type 0
+IsReachWithPrefixes s e = (type_of e ≡ type_number kind.MpReachNlri) × (r : Reach) × IsReach s (inside_of e) r
+    × (1 ≤ length r.prefixes)
 
 -- one of the attributes is
 abbrev pub ReachesSome : SessionConfig → List Attribute → Type 0
 ReachesSome s [] = ⊥
-ReachesSome s (e ∷ more) = Reaches s e ⊎ ReachesSome s more
+ReachesSome s (e ∷ more) = IsReachWithPrefixes s e ⊎ ReachesSome s more
 
 -- prefixes are announced, by the UPDATE itself or by an attribute
 abbrev pub Announces : SessionConfig → Update → Type 0
@@ -114,14 +115,15 @@ Announces s u = (1 ≤ length u.announced) ⊎ ReachesSome s u.attributes
 
 -- A mandatory attribute is missing: ORIGIN or AS_PATH if prefixes are announced, NEXT_HOP if the UPDATE itself
 -- announces them: RFC 4271, 5, and RFC 7606, 3 (d).
-abbrev pub Misses : SessionConfig → Update → Type 0
-Misses s u = Announces s u × (¬ HasType u.attributes (type_number kind.Origin) ⊎ ¬ HasType u.attributes (type_number kind.AsPath))
+abbrev pub LacksMandatory : SessionConfig → Update → Type 0
+LacksMandatory s u = Announces s u
+    × (¬ HasType u.attributes (type_number kind.Origin) ⊎ ¬ HasType u.attributes (type_number kind.AsPath))
     ⊎ (1 ≤ length u.announced) × ¬ HasType u.attributes (type_number kind.NextHop)
 
 -- the handling of an UPDATE: the worst of all these
 pub record IsHandling (external : Bool) (u : Update) (n : ℕ) : Type 0 where
   pub worst : ℕ
   pub is_worst : IsWorst u.session external [] u.attributes worst
-  pub misses : Bool
-  pub is_missing : IsTrue misses ↔ Misses u.session u
-  pub is : n ≡ max worst (if misses then treat_as_withdraw else accept)
+  pub lacks_mandatory : Bool
+  pub is_missing : IsTrue lacks_mandatory ↔ LacksMandatory u.session u
+  pub is : n ≡ max worst (if lacks_mandatory then treat_as_withdraw else accept)

@@ -14,8 +14,14 @@ use Rattle.octseq_bgp.specs.declared.family.AfiSafiType.TheVariants as family
 use Rattle.octseq_bgp.specs.declared.message.update_builder.part.MpList.{MpList}
 use Rattle.octseq_bgp.specs.declared.session.SessionConfig.{SessionConfig}
 
--- ---- codes, by which values are equal in at most one way
+-- the UPDATE
+abbrev pub HeldUpdate : {B : Type 0} → (WrittenUpdate → Type 0) → SessionConfig → PartOctets B → Option MpList → ℕ
+    → Type 0
+HeldUpdate Reaches s parts open_list open_at = (u : WrittenUpdate) × ∥ IsHeld Reaches s parts open_list open_at u ∥₁
 
+-- ---- lemmas: proved below this line, so what the words mean is read above it
+
+-- ---- codes, by which values are equal in at most one way
 pub prefix_code : Coded WrittenPrefix
 prefix_code = Prim.hlevel codes
 
@@ -39,19 +45,15 @@ same_update {s} u v here there withdrawn attributes announced =
     let third = prefixes_once 32 (omega arith) paths u.announced v.announced here.announced there.announced announced in
     λ i. record { withdrawn = first i; attributes = second i; announced = third i }
 
--- the UPDATE
-abbrev pub Held : {B : Type 0} → (WrittenUpdate → Type 0) → SessionConfig → PartOctets B → Option MpList → ℕ → Type 0
-Held Reaches s parts open_list open_at = (u : WrittenUpdate) × ∥ IsHeld Reaches s parts open_list open_at u ∥₁
-
 -- it is any UPDATE that those octets are
 pub held_is : {B : Type 0} {Reaches Others : WrittenUpdate → Type 0} {s : SessionConfig} {parts : PartOctets B}
-    {open_list other_list : Option MpList} {open_at other_at : ℕ} (held : Held Reaches s parts open_list open_at)
+    {open_list other_list : Option MpList} {open_at other_at : ℕ} (held : HeldUpdate Reaches s parts open_list open_at)
     {u : WrittenUpdate} → IsHeld Others s parts other_list other_at u → held.0 ≡ u
 held_is held {u} is = ∥∥₁_elim held.1 (Coded-set update_code held.0 u) (λ x. same_update held.0 u x.fits is.fits
     (sym x.withdrawn_is ∙ is.withdrawn_is) (sym x.attributes_is ∙ is.attributes_is)
     (sym x.announced_is ∙ is.announced_is))
 
 pub held_once : {B : Type 0} (Reaches : WrittenUpdate → Type 0) (s : SessionConfig) (parts : PartOctets B)
-    (open_list : Option MpList) (open_at : ℕ) → IsProp (Held Reaches s parts open_list open_at)
+    (open_list : Option MpList) (open_at : ℕ) → IsProp (HeldUpdate Reaches s parts open_list open_at)
 held_once Reaches s parts open_list open_at a b =
     Σ_prop_path (λ u. ∥∥₁_prop) (∥∥₁_elim b.1 (Coded-set update_code a.0 b.0) (λ y. held_is a y))

@@ -36,6 +36,11 @@ tuple_octets = three_octets 2 1 1
 abbrev pub FitsTuple : ℕ × (ℕ × ℕ) → Type 0
 FitsTuple = FitThree 2 1 1
 
+abbrev three : ℕ → ℕ → ℕ → List ℕ → ℕ × (ℕ × ℕ)
+three i j k octets = (be (take i octets), (be (take j (drop i octets)), be (take k (drop (i + j) octets))))
+
+-- ---- lemmas: proved below this line, so what the words mean is read above it
+
 -- ---- they are read as the three numbers
 
 -- a list ahead of another is its first part
@@ -47,9 +52,6 @@ drop_front xs ys n many = subst (λ n. drop n (xs ++ ys) ≡ ys) many (drop-appe
 
 pub take_all : (xs : List ℕ) (n : ℕ) → length xs ≡ n → take n xs ≡ xs
 take_all xs n many = subst (λ n. take n xs ≡ xs) many (take-length xs)
-
-abbrev three : ℕ → ℕ → ℕ → List ℕ → ℕ × (ℕ × ℕ)
-three i j k octets = (be (take i octets), (be (take j (drop i octets)), be (take k (drop (i + j) octets))))
 
 three_back : (i j k : ℕ) (t : ℕ × (ℕ × ℕ)) → FitThree i j k t → three i j k (three_octets i j k t) ≡ t
 three_back i j k t fits =

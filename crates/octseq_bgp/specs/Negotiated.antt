@@ -29,26 +29,26 @@ SayAll (p ∷ more) values = (v : ParameterValue) × IsParameterValue p.0 p.1 v
     × (rest : List CapabilityValue) × SayAll more rest × (values ≡ here ++ rest)
 
 -- What capabilities say together: four-octet AS numbers; extended messages; families with path ids.
-pub record Spoken : Type 0 where
+pub record Advertised : Type 0 where
   pub four_octet_asn : Bool
   pub extended_message : Bool
   pub paths : List (ℕ × (ℕ × ℕ))
 
 -- one more capability is added: of families with path ids, the last list counts
-abbrev pub also_says : Spoken → CapabilityValue → Spoken
+abbrev pub also_says : Advertised → CapabilityValue → Advertised
 also_says s (CapabilityValue.four_octet_asn asn) = record s { four_octet_asn = true }
 also_says s CapabilityValue.extended_message = record s { extended_message = true }
 also_says s (CapabilityValue.add_path paths) = record s { paths = paths }
 also_says s _ = s
 
 -- the same for a list
-abbrev pub all_say : Spoken → List CapabilityValue → Spoken
+abbrev pub all_say : Advertised → List CapabilityValue → Advertised
 all_say s [] = s
 all_say s (v ∷ more) = all_say (also_says s v) more
 
 -- nothing is said
-abbrev pub silence : Spoken
-silence = record { four_octet_asn = false; extended_message = false; paths = [] }
+abbrev pub none_advertised : Advertised
+none_advertised = record { four_octet_asn = false; extended_message = false; paths = [] }
 
 -- what a list says of the path ids of a family, by its last entry, otherwise what was said before
 abbrev pub path_flags : AfiSafiType → ℕ → List (ℕ × (ℕ × ℕ)) → ℕ
@@ -61,11 +61,11 @@ abbrev pub agrees : ℕ → ℕ → Bool
 agrees ours theirs = (nat_eq ours 1 || nat_eq ours 3) && (nat_eq theirs 2 || nat_eq theirs 3)
 
 -- a family has path ids in the messages they send us: we receive them, and they send them
-abbrev pub agree_on : Spoken → Spoken → AfiSafiType → Bool
+abbrev pub agree_on : Advertised → Advertised → AfiSafiType → Bool
 agree_on ours theirs f = agrees (path_flags f 0 ours.paths) (path_flags f 0 theirs.paths)
 
 -- the families with path ids
-abbrev pub paths_agreed : Spoken → Spoken → AddPath
+abbrev pub paths_agreed : Advertised → Advertised → AddPath
 paths_agreed ours theirs = record {
   ipv4_unicast = agree_on ours theirs family.Ipv4Unicast;
   ipv4_multicast = agree_on ours theirs family.Ipv4Multicast;
@@ -74,7 +74,7 @@ paths_agreed ours theirs = record {
 }
 
 -- how to read the messages that they send us
-abbrev pub agreed : Spoken → Spoken → SessionConfig
+abbrev pub agreed : Advertised → Advertised → SessionConfig
 agreed ours theirs = record {
   four_octet_asn = ours.four_octet_asn && theirs.four_octet_asn;
   add_path = paths_agreed ours theirs;
@@ -84,4 +84,4 @@ agreed ours theirs = record {
 -- the same for two lists of parameters
 abbrev pub IsAgreed : List (ℕ × Window) → List (ℕ × Window) → SessionConfig → Type 0
 IsAgreed ours theirs s = (a b : List CapabilityValue) × SayAll ours a × SayAll theirs b
-    × (s ≡ agreed (all_say silence a) (all_say silence b))
+    × (s ≡ agreed (all_say none_advertised a) (all_say none_advertised b))

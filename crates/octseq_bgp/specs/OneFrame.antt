@@ -9,6 +9,8 @@ use Rattle.octseq_bgp.specs.Stream.{IsMarked, IsFramed, BeginsFramed, IsMisframe
 use Rattle.octseq_bgp.specs.declared.session.SessionConfig.{SessionConfig}
 use Rattle.octseq_stream.proofs.Headers.{range_in_front, range_of_front}
 
+-- ---- lemmas: proved below this line, so what the words mean is read above it
+
 -- the length of a message, whatever follows it
 pub length_in_front : (x y : List ℕ) → 18 ≤ length x → message_length (x ++ y) ≡ message_length x
 length_in_front x y long = ap be (range_in_front x y 16 18 (omega arith) long)

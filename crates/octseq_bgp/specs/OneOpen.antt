@@ -23,8 +23,25 @@ use Rattle.octseq_bgp.specs.WrittenOpen.{FitsParameter, HoldsOpen, IsOpenWritten
 use Rattle.octseq_bgp.specs.WrittenOpen.{front_len, lengths, numbers_octets, open_octets}
 use Rattle.octseq_bgp.specs.WrittenOpen.{parameter_octets, parameters_octets}
 
--- ---- its parts are found in its octets
+-- ---- parameters are read back
 
+-- what a parameter that was read says
+abbrev pub says_parameter : ℕ × Window → WrittenParameter
+says_parameter it = (it.0, rest it.1)
+
+-- what an OPEN that was read in the long form or the short one says
+abbrev pub open_says : Bool → Open → WrittenOpen
+open_says long o = record {
+  long = long;
+  my_asn = o.my_asn;
+  holdtime = o.holdtime;
+  identifier = o.identifier;
+  parameters = map says_parameter o.parameters;
+}
+
+-- ---- lemmas: proved below this line, so what the words mean is read above it
+
+-- ---- its parts are found in its octets
 asn_in : (o : WrittenOpen) → o.my_asn < 65536 → be (take 2 (drop 20 (open_octets o))) ≡ o.my_asn
 unfolding header_octets octets_be
 asn_in o fits = value_be 2 o.my_asn fits
@@ -45,22 +62,6 @@ dropped false o ps = refl
 
 parameters_in : (o : WrittenOpen) → drop (front_len o.long) (open_octets o) ≡ parameters_octets o.long o.parameters
 parameters_in o = dropped o.long o (parameters_octets o.long o.parameters)
-
--- ---- parameters are read back
-
--- what a parameter that was read says
-abbrev pub says_parameter : ℕ × Window → WrittenParameter
-says_parameter it = (it.0, rest it.1)
-
--- what an OPEN that was read in the long form or the short one says
-abbrev pub open_says : Bool → Open → WrittenOpen
-open_says long o = record {
-  long = long;
-  my_asn = o.my_asn;
-  holdtime = o.holdtime;
-  identifier = o.identifier;
-  parameters = map says_parameter o.parameters;
-}
 
 raw_parameter : (k : ℕ) → IsDelimited (IsTlv k) ((λ n. n) and rest) (octets_be 1 before counted_octets k 0 (λ o. o))
     ((λ n. n < 256) also CountFits k 0 (λ o. o) (λ _. Unit {0}))
@@ -123,7 +124,6 @@ row_once long a b fits other same =
     sym x.tells ∙ ap (map says_parameter) one.0 ∙ y.tells
 
 -- ---- at most one OPEN
-
 found_same : {A : Type 0} (found : List ℕ → A) (read : WrittenOpen → A) (a b : WrittenOpen)
     → found (open_octets a) ≡ read a → found (open_octets b) ≡ read b → open_octets a ≡ open_octets b → read a ≡ read b
 found_same found read a b x y same = sym x ∙ ap found same ∙ y

@@ -1,5 +1,5 @@
--- At most one part is at a place, with one end, and it takes at least one octet. So parts up to the end of a window are
--- a fact.
+-- At most one part is at an offset, with one end, and it takes at least one octet. So parts up to the end of a window
+-- are a fact.
 use Rattle.std.specs.Prelude.{ℕ, ◌*◌, ◌≤◌}
 use Rattle.std.proofs.Common.{sym, subst}
 use Rattle.std.specs.Coded.{Coded, coded×, coded_ℕ}
@@ -17,8 +17,16 @@ use Rattle.octseq_format.specs.Where.{one_where}
 use Rattle.octseq_bgp.specs.Parts.{IsNumber, IsCounted, IsNext, ◌deciding◌, IsPrefix, IsPathPrefix, IsAttribute, IsTlv}
 use Rattle.octseq_bgp.specs.Parts.{IsSegment, IsSegmentType, octets_of_bits, is_extended}
 
--- ---- at most one
+-- ---- a number of them is a fact
+abbrev pub prefix_code : Coded (ℕ × Window)
+prefix_code = coded× coded_ℕ window_code
 
+abbrev pub part_code : Coded (ℕ × (ℕ × Window))
+part_code = coded× coded_ℕ prefix_code
+
+-- ---- lemmas: proved below this line, so what the words mean is read above it
+
+-- ---- at most one
 pub one_number : (k : ℕ) → IsOne (IsNumber k)
 one_number k = one_fixed k be
 
@@ -56,11 +64,3 @@ pub one_segment : (k : ℕ) → IsOne (IsSegment k)
 one_segment k = one_where (IsNumber 1) (λ kind. kind) IsSegmentType (one_number 1)
     one_then one_deciding (one_number 1)
     (one_when (λ count. 1 ≤ count) (one_when (Scales k) (λ count. one_next (count * k))))
-
--- ---- a number of them is a fact
-
-abbrev pub prefix_code : Coded (ℕ × Window)
-prefix_code = coded× coded_ℕ window_code
-
-abbrev pub part_code : Coded (ℕ × (ℕ × Window))
-part_code = coded× coded_ℕ prefix_code

@@ -62,7 +62,7 @@ pub record Arranges (before : List ℕ) (at old : ℕ) (slice : List ℕ) (withd
 
 -- A call makes the parts these, or leaves them unchanged. It is refused as short exactly if the message would exceed
 -- its greatest length, and for lack of memory only if the type requests memory.
-pub record Puts {B : Type 0} (most : ℕ) (asks : Bool) (result : Result (Unit {0}) WriteError)
+pub record PutsParts {B : Type 0} (most : ℕ) (asks : Bool) (result : Result (Unit {0}) WriteError)
     (withdrawn attributes announced : List ℕ) (old new : PartOctets B) : Type 0 where
   pub withdrawn_is : OnOk result (new.withdrawn ≡ withdrawn)
   pub attributes_is : OnOk result (new.attributes ≡ attributes)

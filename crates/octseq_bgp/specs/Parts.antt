@@ -1,6 +1,6 @@
--- What comes in the lists of a message: prefixes (RFC 4271, 4.3; with a path id RFC 7911, 3), path attributes (RFC 4271,
--- 4.3), parameters (RFC 4271, 4.2; with a length of two octets RFC 9072, 2), capabilities (RFC 5492, 4), and segments of
--- an AS path (RFC 4271, 4.3, and RFC 5065, 3).
+-- What comes in the lists of a message: prefixes (RFC 4271, 4.3; with a path id RFC 7911, 3), path attributes (RFC
+-- 4271, 4.3), parameters (RFC 4271, 4.2; with a length of two octets RFC 9072, 2), capabilities (RFC 5492, 4), and
+-- segments of an AS path (RFC 4271, 4.3, and RFC 5065, 3).
 use Rattle.std.specs.Prelude.{ℕ, ◌+◌, ◌*◌, ◌/◌, ◌%◌, ◌≤◌, Bool, cond, nat_eq}
 use Rattle.octseq.specs.Integer.{be}
 use Rattle.octseq.specs.Window.{Window}
@@ -25,7 +25,6 @@ IsCounted k = Counted k 0 IsRest
 abbrev pub IsNext : ByKey Window
 IsNext = IsSized 0 IsRest
 
-infixr 5 ◌deciding◌
 -- one value, and another whose form it decides
 abbrev pub ◌deciding◌ : {A B : Type 0} → Relation A → (A → Relation B) → Relation (A × B)
 (First deciding Second) w both v = (u : Window) × First w both.0 u × Second both.0 u both.1 v
@@ -88,3 +87,7 @@ Segment = ℕ × (ℕ × Window)
 abbrev pub IsSegment : ℕ → Relation Segment
 IsSegment k = IsWhere (IsNumber 1) (λ kind. kind) IsSegmentType
     then IsNumber 1 deciding IsWhen (λ count. 1 ≤ count) (IsWhen (Scales k) (λ count. IsNext (count * k)))
+
+-- ---- lemmas: proved below this line, so what the words mean is read above it
+
+infixr 5 ◌deciding◌

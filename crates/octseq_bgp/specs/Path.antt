@@ -24,5 +24,7 @@ segment_number kind.ConfedSet = 4
 abbrev pub AsnsAhead : Bool → Window → ℕ → Type 0
 AsnsAhead wide w left = Holds (IsNumber (asn_size wide)) w left
 
+-- ---- lemmas: proved below this line, so what the words mean is read above it
+
 pub asns_once : (wide : Bool) (w : Window) (left : ℕ) → IsProp (AsnsAhead wide w left)
 asns_once wide w left = held_once coded_ℕ (IsNumber (asn_size wide)) (one_number (asn_size wide)) w left

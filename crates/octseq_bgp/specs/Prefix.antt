@@ -49,12 +49,14 @@ abbrev pub AreAhead : Bool → Afi → Window → ℕ → Type 0
 AreAhead true afi w count = Holds (IsPathPrefix (most_bits afi)) w count
 AreAhead false afi w count = Holds (IsPrefix (most_bits afi)) w count
 
-pub ahead_once : (paths : Bool) (afi : Afi) (w : Window) (count : ℕ) → IsProp (AreAhead paths afi w count)
-ahead_once true afi w count =
-    held_once part_code (IsPathPrefix (most_bits afi)) (one_path_prefix (most_bits afi)) w count
-ahead_once false afi w count = held_once prefix_code (IsPrefix (most_bits afi)) (one_prefix (most_bits afi)) w count
-
 -- these
 abbrev pub nlri_ahead : (paths : Bool) (afi : Afi) (w : Window) (count : ℕ) → AreAhead paths afi w count → List Nlri
 nlri_ahead true afi w count ahead = map (path_nlri afi) ahead.0
 nlri_ahead false afi w count ahead = map (plain_nlri afi) ahead.0
+
+-- ---- lemmas: proved below this line, so what the words mean is read above it
+
+pub ahead_once : (paths : Bool) (afi : Afi) (w : Window) (count : ℕ) → IsProp (AreAhead paths afi w count)
+ahead_once true afi w count =
+    held_once part_code (IsPathPrefix (most_bits afi)) (one_path_prefix (most_bits afi)) w count
+ahead_once false afi w count = held_once prefix_code (IsPrefix (most_bits afi)) (one_prefix (most_bits afi)) w count

@@ -1,5 +1,6 @@
 -- Prefixes and attributes that were written are read back, and lists of them with the same octets are equal.
-use Rattle.std.specs.Prelude.{◌≡◌, Bool, true, false, cond, ℕ, ◌+◌, ◌^◌, ◌<◌, ◌≤◌, Option, Some, None, List, [], ◌++◌, length, map, refl}
+use Rattle.std.specs.Prelude.{◌≡◌, Bool, true, false, cond, ℕ, ◌+◌, ◌^◌, ◌<◌, ◌≤◌, Option, Some, None, List, [], ◌++◌}
+use Rattle.std.specs.Prelude.{length, map, refl}
 use Rattle.std.specs.Prelude.{if◌then◌else◌}
 use Rattle.std.proofs.Common.{sym, ap, ◌∙◌, subst, arith, zero-add}
 use Rattle.std.specs.List.{AllByRecursion, flat_map}
@@ -27,6 +28,48 @@ use Rattle.octseq_bgp.specs.Written.{WrittenPrefix, WrittenAttribute, WrittenUpd
 use Rattle.octseq_bgp.specs.Written.{PrefixFits, AttributeFits}
 use Rattle.octseq_bgp.specs.declared.prefix.PathId.{PathId}
 
+-- ---- prefixes
+
+-- what a prefix without a path id says, and one with it
+abbrev pub plain_says : ℕ × Window → WrittenPrefix
+plain_says it = record { path_id = None; bits = it.0; octets = rest it.1 }
+
+abbrev pub path_says : ℕ × (ℕ × Window) → WrittenPrefix
+path_says it = record { path_id = Some (record { 0 = it.0 }); bits = it.1.0; octets = rest it.1.1 }
+
+abbrev BitsFit : ℕ → ℕ × List ℕ → Type 0
+BitsFit most = KeyedFit (λ n. n) (λ n. n < 256 ^ 1)
+    (WhenFits (λ bits. bits ≤ most) (λ bits. SizedFit 0 (λ o. o) (λ _. Unit {0}) (octets_of_bits bits)))
+
+-- ---- attributes
+
+-- what an attribute says
+abbrev pub attribute_says : Attribute → WrittenAttribute
+attribute_says it = record { flags = it.0; kind = it.1.0; octets = rest it.1.1 }
+
+abbrev value_octets : ℕ → List ℕ → List ℕ
+value_octets flags = cond (is_extended flags) (counted_octets 2 0 (λ o. o)) (counted_octets 1 0 (λ o. o))
+
+abbrev ValueFits : ℕ → List ℕ → Type 0
+ValueFits flags = cond (is_extended flags) (CountFits 2 0 (λ o. o) (λ _. Unit {0}))
+    (CountFits 1 0 (λ o. o) (λ _. Unit {0}))
+
+-- ---- what is read
+
+-- what a prefix says, without its offset
+abbrev pub nlri_says : Nlri → WrittenPrefix
+nlri_says n = record { path_id = n.path_id; bits = n.bits; octets = rest n.octets }
+
+-- and an UPDATE
+abbrev pub update_says : Update → WrittenUpdate
+update_says u = record {
+  withdrawn = map nlri_says u.withdrawn;
+  attributes = map attribute_says u.attributes;
+  announced = map nlri_says u.announced;
+}
+
+-- ---- lemmas: proved below this line, so what the words mean is read above it
+
 -- what is delimited, with other values for what is said
 delimited_as : {A S T : Type 0} {Is : Relation A} {says : A → S} {octets : S → List ℕ} {Fits : S → Type 0}
     → IsDelimited Is says octets Fits → (from : S → T) (written : T → List ℕ) (Suits : T → Type 0)
@@ -43,19 +86,6 @@ delimited_as {Is = Is} delimited from written Suits known = record {
       };
 }
 
--- ---- prefixes
-
--- what a prefix without a path id says, and one with it
-abbrev pub plain_says : ℕ × Window → WrittenPrefix
-plain_says it = record { path_id = None; bits = it.0; octets = rest it.1 }
-
-abbrev pub path_says : ℕ × (ℕ × Window) → WrittenPrefix
-path_says it = record { path_id = Some (record { 0 = it.0 }); bits = it.1.0; octets = rest it.1.1 }
-
-abbrev BitsFit : ℕ → ℕ × List ℕ → Type 0
-BitsFit most = KeyedFit (λ n. n) (λ n. n < 256 ^ 1)
-    (WhenFits (λ bits. bits ≤ most) (λ bits. SizedFit 0 (λ o. o) (λ _. Unit {0}) (octets_of_bits bits)))
-
 delimited_bits : (most : ℕ) → IsDelimited (IsPrefix most) (both_say (λ n. n) rest)
     (keyed_octets (λ n. n) (octets_be 1) (λ bits o. o)) (BitsFit most)
 delimited_bits most = delimited_keyed (λ n. n) (λ n. n) (delimited_fixed (are_be 1))
@@ -71,7 +101,8 @@ bits_fit p few fits = let bits = fits.bits in record {
 pub delimited_plain : (most : ℕ) → most < 256
     → IsDelimited (IsPrefix most) plain_says prefix_octets (PrefixFits most false)
 unfolding both_say keyed_octets
-delimited_plain most few = delimited_as (delimited_bits most) (λ said. record { path_id = None; bits = said.0; octets = said.1 })
+delimited_plain most few = delimited_as (delimited_bits most)
+    (λ said. record { path_id = None; bits = said.0; octets = said.1 })
     prefix_octets (PrefixFits most false) (λ p. plain p.path_id p.bits p.octets) where
       plain : (id : Option PathId) (bits : ℕ) (octets : List ℕ)
           → PrefixFits most false (record { path_id = id; bits = bits; octets = octets })
@@ -80,7 +111,8 @@ delimited_plain most few = delimited_as (delimited_bits most) (λ said. record {
           (record { path_id = id; bits = bits; octets = octets }))
           × (prefix_octets (record { path_id = id; bits = bits; octets = octets })
           ≡ keyed_octets (λ n. n) (octets_be 1) (λ bits o. o) said)
-      plain None bits octets fits = ((bits, octets), bits_fit (record { path_id = None; bits = bits; octets = octets }) few fits, refl, refl)
+      plain None bits octets fits =
+          ((bits, octets), bits_fit (record { path_id = None; bits = bits; octets = octets }) few fits, refl, refl)
       plain (Some id) bits octets fits = absurd fits.path_id
 
 pub delimited_path : (most : ℕ) → most < 256
@@ -99,27 +131,19 @@ delimited_path most few = delimited_as (delimited_fixed (are_be 4) delimited_the
       path None bits octets fits = absurd fits.path_id
       path (Some id) bits octets fits = (
         (id.0, (bits, octets)),
-        record { first = fits.path_id; second = bits_fit (record { path_id = Some id; bits = bits; octets = octets }) few fits },
+        record {
+          first = fits.path_id;
+          second = bits_fit
+              (record { path_id = Some id; bits = bits; octets = octets }) few fits;
+        },
         refl,
         refl,
       )
-
--- ---- attributes
-
--- what an attribute says
-abbrev pub attribute_says : Attribute → WrittenAttribute
-attribute_says it = record { flags = it.0; kind = it.1.0; octets = rest it.1.1 }
 
 -- octets after their length of k octets
 delimited_octets : (k : ℕ) → IsDelimited (IsCounted k) rest (counted_octets k 0 (λ o. o))
     (CountFits k 0 (λ o. o) (λ _. Unit {0}))
 delimited_octets k = delimited_counted rest_read_back
-
-abbrev value_octets : ℕ → List ℕ → List ℕ
-value_octets flags = cond (is_extended flags) (counted_octets 2 0 (λ o. o)) (counted_octets 1 0 (λ o. o))
-
-abbrev ValueFits : ℕ → List ℕ → Type 0
-ValueFits flags = cond (is_extended flags) (CountFits 2 0 (λ o. o) (λ _. Unit {0})) (CountFits 1 0 (λ o. o) (λ _. Unit {0}))
 
 delimited_value : (flags : ℕ) → IsDelimited (cond (is_extended flags) (IsCounted 2) (IsCounted 1)) rest
     (value_octets flags) (ValueFits flags)
@@ -143,7 +167,8 @@ counted_by false octets fits = counted 1 octets fits
 pub delimited_attribute : IsDelimited IsAttribute attribute_says attribute_octets AttributeFits
 unfolding both_say both_octets keyed_octets
 delimited_attribute = delimited_as
-    (delimited_keyed (λ n. n) (λ n. n) (delimited_fixed (are_be 1)) (λ flags. delimited_fixed (are_be 1) delimited_then delimited_value flags))
+    (delimited_keyed (λ n. n) (λ n. n) (delimited_fixed (are_be 1))
+    (λ flags. delimited_fixed (are_be 1) delimited_then delimited_value flags))
     (λ said. record { flags = said.0; kind = said.1.0; octets = said.1.1 }) attribute_octets AttributeFits (λ a fits.
     let value = counted_by (is_extended a.flags) a.octets fits.octets in (
       (a.flags, (a.kind, a.octets)),
@@ -153,7 +178,6 @@ delimited_attribute = delimited_as
     ))
 
 -- ---- lists of them
-
 pub moving_prefix : (most : ℕ) → IsMoving (IsPrefix most)
 moving_prefix most = moving_of (onward_keyed (λ n. n) (λ n. n) (onward_fixed 1 be)
     (onward_when (λ bits. bits ≤ most) (λ bits. onward_sized 0 IsRest (octets_of_bits bits)))) (omega arith)
@@ -164,7 +188,8 @@ moving_path_prefix most = moving_of (onward_fixed 4 be onward_then onward_keyed 
 
 pub moving_attribute : IsMoving IsAttribute
 moving_attribute = moving_of (onward_keyed (λ n. n) (λ n. n) (onward_fixed 1 be) (λ flags. any_onward
-    (onward_fixed 1 be onward_then onward_by_switch (is_extended flags) (onward_counted 2 0 IsRest) (onward_counted 1 0 IsRest))))
+    (onward_fixed 1 be onward_then onward_by_switch (is_extended flags) (onward_counted 2 0 IsRest)
+    (onward_counted 1 0 IsRest))))
     (omega arith)
 
 -- lists that are read from the same octets are equal
@@ -177,7 +202,8 @@ rows_once {Is = Is} {says} {octets} {Fits} delimited one moving a b here there s
     let long : length all ≡ 0 + length all = omega arith in
     let first = back.back (whole all) a here (rest_after [] all) long in
     let second = back.back (whole all) b there (rest_after [] all ∙ same) (long ∙ ap (λ o. 0 + length o) same) in
-    sym first.tells ∙ ap (map says) ((one_to Is one moving).same (whole all) first.it second.it _ _ first.is second.is).0
+    sym first.tells ∙ ap (map says)
+    ((one_to Is one moving).same (whole all) first.it second.it _ _ first.is second.is).0
     ∙ second.tells
 
 pub prefixes_once : (most : ℕ) → most < 256 → (paths : Bool) (a b : List WrittenPrefix)
@@ -189,17 +215,3 @@ prefixes_once most few false = rows_once (delimited_plain most few) (one_prefix 
 pub attributes_once : (a b : List WrittenAttribute) → AllByRecursion AttributeFits a → AllByRecursion AttributeFits b
     → flat_map attribute_octets a ≡ flat_map attribute_octets b → a ≡ b
 attributes_once = rows_once delimited_attribute one_attribute moving_attribute
-
--- ---- what is read
-
--- what a prefix says, without its place
-abbrev pub nlri_says : Nlri → WrittenPrefix
-nlri_says n = record { path_id = n.path_id; bits = n.bits; octets = rest n.octets }
-
--- and an UPDATE
-abbrev pub update_says : Update → WrittenUpdate
-update_says u = record {
-  withdrawn = map nlri_says u.withdrawn;
-  attributes = map attribute_says u.attributes;
-  announced = map nlri_says u.announced;
-}

@@ -49,8 +49,8 @@ Each {B = B} Is (a ∷ row) written =
     (b : B) × (more : List B) × Is a b × Each Is row more × (written ≡ b ∷ more)
 
 -- octets, and then those of what each of a row is written as
-abbrev pub Appended : {A B : Type 0} → (A → B → Type 0) → (B → List ℕ) → List A → List ℕ → List ℕ → Type 0
-Appended {B = B} Is octets row old new = (written : List B) × Each Is row written
+abbrev pub AppendedRow : {A B : Type 0} → (A → B → Type 0) → (B → List ℕ) → List A → List ℕ → List ℕ → Type 0
+AppendedRow {B = B} Is octets row old new = (written : List B) × Each Is row written
     × (new ≡ old ++ flat_map octets written)
 
 -- the value of a parameter: its capabilities, each with a code and a length of one octet; or its octets as they were

@@ -26,7 +26,7 @@ pub record IsFramed (s : SessionConfig) (octets : List ℕ) : Type 0 where
   pub most : length octets ≤ longest_message s
 
 -- A marker and a length that a message of the session may have: `more` octets follow.
-pub record IsFront (s : SessionConfig) (octets : List ℕ) (more : ℕ) : Type 0 where
+pub record IsFrameHeader (s : SessionConfig) (octets : List ℕ) (more : ℕ) : Type 0 where
   pub marked : IsMarked octets
   pub long : length octets ≡ 18
   pub says : 18 + more ≡ message_length octets
@@ -49,5 +49,5 @@ IsMisframed s octets = (¬ IsMarked octets) ⊎ HasOtherLength s octets
 
 -- octets at the end of a stream that are a message cut short: at least one, not misframed, and without a framed message
 -- at their front
-abbrev pub IsCut : SessionConfig → List ℕ → Type 0
-IsCut s octets = (0 < length octets) × ¬ IsMisframed s octets × ¬ BeginsFramed s octets
+abbrev pub IsFrameCut : SessionConfig → List ℕ → Type 0
+IsFrameCut s octets = (0 < length octets) × ¬ IsMisframed s octets × ¬ BeginsFramed s octets

@@ -108,11 +108,11 @@ pub record IsLast (t : AttributeType) (at : ℕ) (attributes : List WrittenAttri
   pub front : List WrittenAttribute
   pub octets : List ℕ
   pub is : attributes ≡ front ++ typed_attribute t octets ∷ []
-  pub place : at ≡ length (attributes_octets front)
+  pub offset : at ≡ length (attributes_octets front)
 
-abbrev pub IsOpen : Option MpList → ℕ → List WrittenAttribute → Type 0
-IsOpen None at attributes = Unit {0}
-IsOpen (Some l) at attributes = IsLast (list_type l) at attributes
+abbrev pub IsListOpen : Option MpList → ℕ → List WrittenAttribute → Type 0
+IsListOpen None at attributes = Unit {0}
+IsListOpen (Some l) at attributes = IsLast (list_type l) at attributes
 
 -- The three parts are those of an UPDATE of the session, which has nothing after the part that is written.
 pub record IsHeld {B : Type 0} (Reaches : WrittenUpdate → Type 0) (s : SessionConfig) (parts : PartOctets B)
@@ -122,4 +122,4 @@ pub record IsHeld {B : Type 0} (Reaches : WrittenUpdate → Type 0) (s : Session
   pub announced_is : parts.announced ≡ prefixes_octets u.announced
   pub fits : UpdateFits s u
   pub reaches : Reaches u
-  pub opened : IsOpen open_list open_at u.attributes
+  pub opened : IsListOpen open_list open_at u.attributes

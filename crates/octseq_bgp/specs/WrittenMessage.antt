@@ -15,7 +15,7 @@ abbrev pub keepalive_octets : List ℕ
 keepalive_octets = message_octets 4 []
 
 -- A message while it is written: the builder of its octets, what it says, and its maximum length.
-pub record Writing (B M : Type 0) : Type 0 where
+pub record WritingMessage (B M : Type 0) : Type 0 where
   pub octets : B
   pub message : M
   pub most : ℕ

@@ -133,8 +133,9 @@ abbrev pub HasRoom : Option ℕ → WrittenOpen → Type 0
 HasRoom limit o = (length (parameters_octets o.long o.parameters) ≤ most_parameters o.long)
     × IsWithin (limit_of 4096 limit) (length (open_octets o))
 
--- A call pushes a parameter, or does nothing. It is refused as malformed exactly if the parameter can't be written there,
--- otherwise as short exactly if the OPEN would be too long, and for lack of memory only if the builder requests memory.
+-- A call pushes a parameter, or does nothing. It is refused as malformed exactly if the parameter can't be written
+-- there, otherwise as short exactly if the OPEN would be too long, and for lack of memory only if the builder
+-- requests memory.
 pub record PushesParameter (limit : Option ℕ) (asks : Bool) (Can : Type 0) (result : Result (Unit {0}) WriteError)
     (p : WrittenParameter) (old new : WrittenOpen) : Type 0 where
   pub ok : OnOk result (new ≡ with_parameter old p)

@@ -1,4 +1,4 @@
--- The value of a path attribute to be written, without places, and its octets in a session: RFC 4271, 4.3, RFC 6793
+-- The value of a path attribute to be written, without offsets, and its octets in a session: RFC 4271, 4.3, RFC 6793
 -- (four-octet AS numbers), and the RFC of each type.
 use Rattle.std.specs.Prelude.{◌≡◌, true, ℕ, ◌<◌, ◌≤◌, ◌^◌, Option, Some, None, List, [], ◌++◌, length, map}
 use Rattle.std.specs.List.{AllByRecursion}

@@ -86,7 +86,8 @@ pub struct PathAttributes<R: AsOctets> {
     parser: Parser<R>,
     left: usize,
     session: SessionConfig,
-    ghost ahead: { Holds IsAttribute (window parser) left } by { held_once part_code IsAttribute one_attribute (window parser) left },
+    ghost ahead: { Holds IsAttribute (window parser) left } by { held_once part_code IsAttribute
+        one_attribute (window parser) left },
 }
 
 impl<R: AsOctets + Copy> Copy for PathAttributes<R> {}
@@ -116,7 +117,8 @@ impl<R: AsOctets + Copy> PathAttributes<R> {
         session: SessionConfig,
         turns: &mut Turns,
     ) -> Result<PathAttributes<R>, Malformed>
-        ensures attributes { IfOk result (λ attributes. Fills IsAttribute (window parser) (attributes_left attributes)) }
+        ensures attributes { IfOk result
+            (λ attributes. Fills IsAttribute (window parser) (attributes_left attributes)) }
         ensures session { IfOk result (λ attributes. attributes_session attributes ≡ session) }
         ensures malformed { IsErr result → (row : List Attribute) → ¬ Fills IsAttribute (window parser) row }
         ensures some { turns.old ≤ turns.new }

@@ -52,7 +52,8 @@ type CapabilityFormat = (U8, Counted<U8, Nested, 0>);
 pub struct Capabilities<R: AsOctets> {
     parser: Parser<R>,
     left: usize,
-    ghost ahead: { Holds (IsTlv 1) (window parser) left } by { held_once prefix_code (IsTlv 1) (one_tlv 1) (window parser) left },
+    ghost ahead: { Holds (IsTlv 1) (window parser) left } by { held_once prefix_code (IsTlv 1)
+        (one_tlv 1) (window parser) left },
 }
 
 impl<R: AsOctets + Copy> Copy for Capabilities<R> {}

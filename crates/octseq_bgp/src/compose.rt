@@ -13,7 +13,7 @@ use octseq::{AppendError, OctetsBuilder, ShortBuf, Truncate, WriteError};
 use std::alloc::AllocError;
 pub(crate) use value::Valued;
 
-/// The place of the length in a header.
+/// The offset of the length in a header.
 const LENGTH_AT: usize = 16;
 
 /// Writes a slice over as many octets, from `at` on.

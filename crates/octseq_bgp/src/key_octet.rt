@@ -19,9 +19,9 @@ pub struct KeyOctet;
 impl<R: AsOctets + Copy> Format<R> for KeyOctet {
     type Value = u8;
 
-    type Delimited = Yes;
+    type SelfDelimiting = Yes;
 
-    type Moving = Yes;
+    type NonEmpty = Yes;
 
     ghost Found = { ℕ };
 

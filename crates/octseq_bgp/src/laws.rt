@@ -6,8 +6,8 @@ ghost use Rattle.octseq.specs.Code.{HasFront};
 ghost use Rattle.octseq.specs.Window.{Window, rest};
 ghost use Rattle.octseq_format.specs.Canonical.{AreOctets};
 ghost use Rattle.octseq_bgp.specs.Capability.{CapabilityValue, IsCapabilityValue};
-ghost use Rattle.octseq_bgp.specs.Fault.{Fault, AreFaultsOf, worst_of};
-ghost use Rattle.octseq_bgp.specs.Filling.{AreFilled, AreRuns, FitWith, Given, given_long, with_announced};
+ghost use Rattle.octseq_bgp.specs.Fault.{AttributeFault, AreFaultsOf, worst_of};
+ghost use Rattle.octseq_bgp.specs.Filling.{AreRunsFilled, AreRunsThatFit, FitWith, Given, given_long, with_announced};
 ghost use Rattle.octseq_bgp.specs.Filling.{with_in_last, with_withdrawn};
 ghost use Rattle.octseq_bgp.specs.Handling.{IsHandling};
 ghost use Rattle.octseq_bgp.specs.Message as said;
@@ -73,7 +73,7 @@ pub fn messages_stop_at_their_end()
 
 /// An UPDATE must be handled by the worst of its faults.
 pub fn worst_of_faults()
-    ensures { (external : Bool) (update : Update) (row : List Fault) → AreFaultsOf external update row
+    ensures { (external : Bool) (update : Update) (row : List AttributeFault) → AreFaultsOf external update row
         → IsHandling external update (worst_of row) }
 {}
 
@@ -160,31 +160,33 @@ pub fn prefixes_add_their_octets()
         ≡ length (update_octets u) + sum_by given_long row }
 {}
 
-/// Messages that are filled one after another, each begun as the same UPDATE, are no more than those of any other way to
-/// divide the prefixes, in their order, into messages of at most `most` octets.
+/// Messages that are filled one after another, each begun as the same UPDATE, are no more than those of any other way
+/// to divide the prefixes, in their order, into messages of at most `most` octets.
 pub fn filled_messages_are_fewest()
     ensures withdrawn { (most : ℕ) (u : WrittenUpdate) (row : List Given) (counts : List ℕ) (runs : List (List Given))
-        → AreFilled (FitWith most (with_withdrawn u)) row counts → AreRuns (FitWith most (with_withdrawn u)) row runs
+        → AreRunsFilled (FitWith most (with_withdrawn u)) row counts
+        → AreRunsThatFit (FitWith most (with_withdrawn u)) row runs
         → length counts ≤ length runs }
     ensures announced { (most : ℕ) (u : WrittenUpdate) (row : List Given) (counts : List ℕ) (runs : List (List Given))
-        → AreFilled (FitWith most (with_announced u)) row counts → AreRuns (FitWith most (with_announced u)) row runs
+        → AreRunsFilled (FitWith most (with_announced u)) row counts
+        → AreRunsThatFit (FitWith most (with_announced u)) row runs
         → length counts ≤ length runs }
     ensures in_last { (most : ℕ) (t : AttributeType) (u : WrittenUpdate) (row : List Given) (counts : List ℕ)
-        (runs : List (List Given)) → AreFilled (FitWith most (with_in_last t u)) row counts
-        → AreRuns (FitWith most (with_in_last t u)) row runs → length counts ≤ length runs }
+        (runs : List (List Given)) → AreRunsFilled (FitWith most (with_in_last t u)) row counts
+        → AreRunsThatFit (FitWith most (with_in_last t u)) row runs → length counts ≤ length runs }
 {}
 
 /// None of them is without prefixes, if each prefix alone fits such a message.
 pub fn filled_messages_have_prefixes()
     ensures withdrawn { (most : ℕ) (u : WrittenUpdate) (row : List Given) (counts : List ℕ)
         → AllByRecursion (λ p. FitWith most (with_withdrawn u) (p ∷ [])) row
-        → AreFilled (FitWith most (with_withdrawn u)) row counts → AllByRecursion (λ count. 1 ≤ count) counts }
+        → AreRunsFilled (FitWith most (with_withdrawn u)) row counts → AllByRecursion (λ count. 1 ≤ count) counts }
     ensures announced { (most : ℕ) (u : WrittenUpdate) (row : List Given) (counts : List ℕ)
         → AllByRecursion (λ p. FitWith most (with_announced u) (p ∷ [])) row
-        → AreFilled (FitWith most (with_announced u)) row counts → AllByRecursion (λ count. 1 ≤ count) counts }
+        → AreRunsFilled (FitWith most (with_announced u)) row counts → AllByRecursion (λ count. 1 ≤ count) counts }
     ensures in_last { (most : ℕ) (t : AttributeType) (u : WrittenUpdate) (row : List Given) (counts : List ℕ)
         → AllByRecursion (λ p. FitWith most (with_in_last t u) (p ∷ [])) row
-        → AreFilled (FitWith most (with_in_last t u)) row counts → AllByRecursion (λ count. 1 ≤ count) counts }
+        → AreRunsFilled (FitWith most (with_in_last t u)) row counts → AllByRecursion (λ count. 1 ≤ count) counts }
 {}
 
 /// A message is written anew in at most one way.
@@ -199,8 +201,8 @@ pub fn rewritten_messages_are_no_longer()
         → IsRewritten session octets out → length out ≤ length octets }
 {}
 
-/// A minimal message, in which what has no meaning is 0 and each length is as short as it can be, is written anew as the
-/// octets that it was.
+/// A minimal message, in which what has no meaning is 0 and each length is as short as it can be, is written anew as
+/// the octets that it was.
 pub fn minimal_messages_stay()
     ensures { (session : Session) (octets out : List ℕ) → AreOctets octets
         → IsMinimal session octets → IsRewritten session octets out → out ≡ octets }

@@ -9,7 +9,7 @@ use octseq::{AsOctets, Malformed, Parser, Turns};
 use octseq_format::{Format, Yes};
 
 /// Reads values up to the end of a parser, and counts a turn for each.
-fn pass_all<R: AsOctets + Copy, F: Format<R, Delimited = Yes, Moving = Yes>>(
+fn skip_all<R: AsOctets + Copy, F: Format<R, SelfDelimiting = Yes, NonEmpty = Yes>>(
     parser: &mut Parser<R>,
     turns: &mut Turns,
 ) -> Result<usize, Malformed>
@@ -38,7 +38,7 @@ fn pass_all<R: AsOctets + Copy, F: Format<R, Delimited = Yes, Moving = Yes>>(
 ///
 /// `Malformed` if they don't fill it exactly.
 #[inline(always)]
-pub(crate) fn count_all<R: AsOctets + Copy, F: Format<R, Delimited = Yes, Moving = Yes>>(
+pub(crate) fn count_all<R: AsOctets + Copy, F: Format<R, SelfDelimiting = Yes, NonEmpty = Yes>>(
     parser: Parser<R>,
     turns: &mut Turns,
 ) -> Result<usize, Malformed>
@@ -48,7 +48,7 @@ pub(crate) fn count_all<R: AsOctets + Copy, F: Format<R, Delimited = Yes, Moving
     ensures turns { turns.new ≤ turns.old + left (window parser) }
 {
     let mut ahead = parser;
-    match pass_all::<R, F>(&mut ahead, turns) {
+    match skip_all::<R, F>(&mut ahead, turns) {
         Ok(count) => Ok(count),
         Err(Malformed) => Err(Malformed),
     }
@@ -56,7 +56,7 @@ pub(crate) fn count_all<R: AsOctets + Copy, F: Format<R, Delimited = Yes, Moving
 
 /// Reads the first of the values that are known to be there. Returns it, and a parser past it.
 #[inline(always)]
-pub(crate) fn take_first<R: AsOctets + Copy, F: Format<R, Delimited = Yes>>(
+pub(crate) fn take_first<R: AsOctets + Copy, F: Format<R, SelfDelimiting = Yes>>(
     parser: Parser<R>,
     left: usize,
 ) -> Option<(F::Value, Parser<R>)>
@@ -75,17 +75,17 @@ pub(crate) fn take_first<R: AsOctets + Copy, F: Format<R, Delimited = Yes>>(
 
 /// Returns the position of the first value of a format that isn't there, or `None` if values fill what a parser has
 /// left.
-pub(crate) fn first_fault<R: AsOctets + Copy, F: Format<R, Delimited = Yes, Moving = Yes>>(
+pub(crate) fn first_fault<R: AsOctets + Copy, F: Format<R, SelfDelimiting = Yes, NonEmpty = Yes>>(
     parser: Parser<R>,
 ) -> Option<usize>
-    ensures stops { IfSome result (λ place. ListStops F.is_at (window parser) place) }
+    ensures stops { IfSome result (λ offset. ListStops F.is_at (window parser) offset) }
     ensures filled { IsNone result → AreFilled F.is_at (window parser) }
 {
     let mut ahead = parser;
     'items: while ahead.remaining() > 0 {
-        let place = ahead.pos();
+        let offset = ahead.pos();
         let Ok(_item) = F::parse(&mut ahead) else {
-            return Some(place);
+            return Some(offset);
         };
     }
     None

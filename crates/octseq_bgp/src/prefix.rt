@@ -1,7 +1,8 @@
 //! Prefixes: RFC 4271, 4.3, and RFC 7911, 3, for their path ids.
-ghost use Rattle.std.specs.Prelude.{◌≡◌, ◌∷◌, [], ◌+◌, ◌-◌, ◌<◌, ◌≤◌, ℕ, List, length, slice_index, IsErr, IfOk, IsNone, IsSome, IfSome, ⊤};
+ghost use Rattle.std.specs.Prelude.{◌≡◌, ◌∷◌, [], ◌+◌, ◌-◌, ◌<◌, ◌≤◌, ℕ, List, length, slice_index, IsErr, IfOk};
+ghost use Rattle.std.specs.Prelude.{IsNone, IsSome, IfSome, ⊤};
 ghost use Rattle.octseq.specs.Parser.{window};
-ghost use Rattle.octseq.specs.Window.{Window as Place, left, rest};
+ghost use Rattle.octseq.specs.Window.{Window as ParserWindow, left, rest};
 ghost use Rattle.octseq_format.specs.Row.{Holds};
 ghost use Rattle.octseq_bgp.specs.Fills.{Counts, TakesFirst};
 ghost use Rattle.octseq_bgp.specs.Parts.{IsPathPrefix, IsPrefix, octets_of_bits};

@@ -89,19 +89,19 @@ pub(crate) fn read_changes(
     message: &mut [u8],
 ) -> Result<Shown, DisplayError> {
     let mut shown = Shown::new();
-    for place in 0..message.len() {
+    for offset in 0..message.len() {
         for octet in CHANGES {
-            let before = exchange(message, place, octet);
+            let before = exchange(message, offset, octet);
             shown.read(text, session, message)?;
-            exchange(message, place, before);
+            exchange(message, offset, before);
         }
     }
     Ok(shown)
 }
 
-/// Sets the octet at a place, and answers what it was.
-fn exchange(octets: &mut [u8], place: usize, octet: u8) -> u8 {
-    match octets.get_mut(place) {
+/// Sets the octet at an offset, and answers what it was.
+fn exchange(octets: &mut [u8], offset: usize, octet: u8) -> u8 {
+    match octets.get_mut(offset) {
         Some(found) => std::mem::replace(found, octet),
         None => octet,
     }

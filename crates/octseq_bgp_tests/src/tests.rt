@@ -21,7 +21,7 @@ mod faults;
 mod limits;
 mod messages;
 mod octets;
-mod places;
+mod offsets;
 mod refused;
 mod rewrite;
 mod rewrite_open;

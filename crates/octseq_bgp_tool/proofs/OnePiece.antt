@@ -11,7 +11,7 @@ use Rattle.octseq_bgp_tool.specs.declared.engine.messages.Output.{Output}
 use Rattle.octseq_bgp_tool.specs.declared.engine.messages.Output.TheVariants.{Text, Anew}
 use Rattle.octseq_cli.specs.Frames.{stop_line}
 
--- by the law of places: octets that aren't a message have one note
+-- by the law of offsets: octets that aren't a message have one note
 module _ (one_stop : (s : SessionConfig) (octets : List ℕ) (x y : ℕ) → IsStop s octets x → IsStop s octets y → x ≡ y)
   where
     pub one_note : (what : List ℕ) (s : SessionConfig) (number : ℕ) (octets x y : List ℕ) (b : Bool)

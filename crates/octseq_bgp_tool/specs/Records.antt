@@ -7,7 +7,7 @@ use Rattle.octseq_bgp_tool.specs.declared.engine.records.Records.TheVariants.{Sh
 use Rattle.octseq_mrt.specs.Bgp4Mp.{Event}
 use Rattle.octseq_mrt.specs.Record.{AreRecord, IsValue, Value}
 use Rattle.octseq_mrt.specs.RecordText.{IsRecordText}
-use Rattle.octseq_mrt.specs.Records.{IsCut}
+use Rattle.octseq_mrt.specs.Records.{IsRecordCut}
 use Rattle.octseq_mrt.specs.declared.header.CommonHeader.{CommonHeader}
 use Rattle.octseq_cli.specs.Frames.{IsPlainEnd, IsPlainRest}
 use Rattle.octseq_cli.specs.declared.frames.Ending.{Ending}
@@ -18,7 +18,7 @@ IsTakenEvent (Event.state_change states) written = written ≡ []
 IsTakenEvent (Event.message s octets) written = (is_message : Bool) × IsRead s (rest octets) is_message
     × (written ≡ (if is_message then rest octets else []))
 
--- the note about a record on standard error, by its number: if it holds octets that aren't a message, the place where
+-- the note about a record on standard error, by its number: if it holds octets that aren't a message, the offset where
 -- reading stopped
 abbrev pub IsEventNote : ℕ → Event → List ℕ → Type 0
 IsEventNote number (Event.state_change states) note = note ≡ []
@@ -51,8 +51,8 @@ cut_text Taken = []
 
 -- the rest of a file, by how it ends
 abbrev pub IsRecordsRest : Ending → List ℕ → Type 0
-IsRecordsRest = IsPlainRest IsCut
+IsRecordsRest = IsPlainRest IsRecordCut
 
 -- what is made of the rest
 abbrev pub IsRecordsEnd : Records → ℕ → List ℕ → Bool → List ℕ → List ℕ → Type 0
-IsRecordsEnd c number = IsPlainEnd IsCut (cut_text c)
+IsRecordsEnd c number = IsPlainEnd IsRecordCut (cut_text c)

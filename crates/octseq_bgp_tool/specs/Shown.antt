@@ -26,11 +26,11 @@ abbrev pub IsShown : SessionConfig → List ℕ → Bool → List ℕ → Type 0
 IsShown s octets true shown = HasText s octets shown
 IsShown s octets false shown = IsMalformed s octets × (shown ≡ codes "malformed\n")
 
--- the note about octets on standard error, by what they are and their number: if they aren't a message, the place where
--- reading stopped
+-- the note about octets on standard error, by what they are and their number: if they aren't a message, the offset
+-- where reading stopped
 abbrev pub IsNote : List ℕ → SessionConfig → ℕ → List ℕ → Bool → List ℕ → Type 0
 IsNote what s number octets true note = note ≡ []
-IsNote what s number octets false note = (place : ℕ) × IsStop s octets place × (note ≡ stop_line what number place)
+IsNote what s number octets false note = (offset : ℕ) × IsStop s octets offset × (note ≡ stop_line what number offset)
 
 -- what is made of an input as one message
 abbrev pub IsMessagePiece : SessionConfig → ℕ → List ℕ → Bool → List ℕ → List ℕ → Type 0

@@ -1,7 +1,7 @@
 -- What is made of a stream of messages, one after another.
 use Rattle.std.specs.Prelude.{◌≡◌, ◌⊎◌, ℕ, List, [], ◌++◌, codes, Bool, true, false}
 use Rattle.octseq_bgp.specs.Rewritten.{IsRewritten}
-use Rattle.octseq_bgp.specs.Stream.{IsCut, IsMisframed}
+use Rattle.octseq_bgp.specs.Stream.{IsFrameCut, IsMisframed}
 use Rattle.octseq_bgp.specs.declared.session.SessionConfig.{SessionConfig}
 use Rattle.octseq_bgp_tool.specs.Shown.{IsMalformed, IsShown, IsNote}
 use Rattle.octseq_bgp_tool.specs.declared.engine.messages.Output.{Output}
@@ -46,9 +46,9 @@ IsMisframedEnd o s number rest is_fine ending note = IsMisframed s rest × (is_f
 -- the rest of a stream, by how it ends
 abbrev pub IsMessagesRest : SessionConfig → Ending → List ℕ → Type 0
 IsMessagesRest s Misframed rest = IsMisframed s rest
-IsMessagesRest s ending rest = IsPlainRest (IsCut s) ending rest
+IsMessagesRest s ending rest = IsPlainRest (IsFrameCut s) ending rest
 
 -- what is made of the rest: it is empty or a part of a message, or isn't framed as one
 abbrev pub IsMessagesEnd : Output → SessionConfig → ℕ → List ℕ → Bool → List ℕ → List ℕ → Type 0
 IsMessagesEnd o s number rest is_fine ending note =
-    IsPlainEnd (IsCut s) (cut_text o) rest is_fine ending note ⊎ IsMisframedEnd o s number rest is_fine ending note
+    IsPlainEnd (IsFrameCut s) (cut_text o) rest is_fine ending note ⊎ IsMisframedEnd o s number rest is_fine ending note

@@ -49,7 +49,7 @@ message, stream and rewrite may be followed by these words, in this order, each 
   add-path   prefixes of all families have path ids
   extended   messages may have 65,535 octets
 
-Of what is malformed, standard error has a line with the number of the message or record and the place in the message
+Of what is malformed, standard error has a line with the number of the message or record and the offset in the message
 where reading stopped. If such a line can't be written, none follows, the output goes on, and the status is 4.
 
 status:

@@ -3,14 +3,14 @@ use Rattle.std.proofs.Common.{◌≡◌, ℕ, ◌+◌, ◌*◌, ◌≤◌, Optio
 use Rattle.std.proofs.Common.{arith}
 use Rattle.std.proofs.lemmas.List.Sums.{sum_by-cons}
 use Rattle.std.specs.List.{AllZip, sum_by}
-use Rattle.octseq.specs.Limit.{IsPast}
+use Rattle.octseq.specs.Limit.{ExceedsLimit}
 use Rattle.octseq_dns_compress.specs.State.{State, Entry, with_entry}
 use Rattle.octseq_dns_compress.proofs.Fields.{entry_grows, headed_length}
 use Rattle.octseq_dns_compress.proofs.Steps.{grown_length}
 use Rattle.octseq_dns_message.specs.declared.header.Header.{Header}
 use Rattle.octseq_dns_message.specs.declared.header.HeaderCounts.{HeaderCounts}
 use Rattle.octseq_dns.specs.Contents.{Message, composed, octets_of, counts_of, header_octets}
-use Rattle.octseq_dns.specs.Writes.{Takes, Writes, all_more}
+use Rattle.octseq_dns.specs.Writes.{SectionTakes, ComposesMessage, all_more}
 use Rattle.octseq_dns.proofs.HeaderRead.{header_length}
 use Rattle.octseq_dns.proofs.Pushed.{composed_more, twelve_first}
 use Rattle.octseq.proofs.Limits.{past_more}
@@ -22,7 +22,7 @@ pub record Ahead {A I : Type 0} (Of : I → A → Type 0) (labels : A → ℕ) (
     (turns from first : ℕ) : Type 0 where
   pub now : Message
   pub rest : List A
-  pub writes : Writes most now state header counts
+  pub writes : ComposesMessage most now state header counts
   pub are : AllZip Of left rest
   pub same : all_more more m written ≡ all_more more now rest
   pub turned : turns + 17 * sum_by labels rest ≤ from + 17 * sum_by labels written
@@ -30,7 +30,7 @@ pub record Ahead {A I : Type 0} (Of : I → A → Type 0) (labels : A → ℕ) (
 
 module _ {A : Type 0} {entry : A → Entry} {FitsOne : A → Type 0} {Reaches : HeaderCounts → Type 0}
     {count : HeaderCounts → ℕ} {counted : HeaderCounts → ℕ → HeaderCounts} {more : Message → A → Message} (most : ℕ)
-    (takes : Takes A entry FitsOne Reaches count counted more) where
+    (takes : SectionTakes A entry FitsOne Reaches count counted more) where
   -- a message with one more entry has its octets and those of the entry
   pushed_length : (m : Message) (one : A) → Reaches (counts_of m)
       → length (octets_of most (more m one)) ≡ length (with_entry most (composed most m) (entry one)).octets
@@ -59,7 +59,7 @@ module _ {A : Type 0} {entry : A → Entry} {FitsOne : A → Type 0} {Reaches : 
 module _ {A I : Type 0} {Of : I → A → Type 0} {labels : A → ℕ} {more : Message → A → Message} (most : ℕ) where
   -- at first, all are left
   pub ahead_first : (m : Message) (written : List A) (left : List I) (state : State) (header : Header)
-      (counts : HeaderCounts) (from : ℕ) → Writes most m state header counts → AllZip Of left written
+      (counts : HeaderCounts) (from : ℕ) → ComposesMessage most m state header counts → AllZip Of left written
       → Ahead Of labels more most m written left state header counts from from (length state.octets)
   ahead_first m written left state header counts from is are = record {
     now = m;
@@ -74,17 +74,18 @@ module _ {A I : Type 0} {Of : I → A → Type 0} {labels : A → ℕ} {more : M
   -- at last, none is left
   pub ahead_none : (m : Message) (written : List A) (state : State) (header : Header) (counts : HeaderCounts)
       (turns from first : ℕ) → Ahead {I = I} Of labels more most m written [] state header counts turns from first
-      → Writes most (all_more more m written) state header counts × (turns ≤ from + 17 * sum_by labels written)
+      → ComposesMessage most (all_more more m written) state header counts × (turns ≤ from + 17 * sum_by labels written)
       × (from + sum_by labels written + first ≤ turns + length state.octets)
   ahead_none m written state header counts turns from first ahead =
       by_rest ahead.rest ahead.are ahead.same ahead.turned ahead.took where
         by_rest : (rest : List A) → AllZip Of [] rest → all_more more m written ≡ all_more more ahead.now rest
             → turns + 17 * sum_by labels rest ≤ from + 17 * sum_by labels written
             → from + sum_by labels written + first ≤ turns + sum_by labels rest + length state.octets
-            → Writes most (all_more more m written) state header counts × (turns ≤ from + 17 * sum_by labels written)
+            → ComposesMessage most (all_more more m written) state header counts
+            × (turns ≤ from + 17 * sum_by labels written)
             × (from + sum_by labels written + first ≤ turns + length state.octets)
         by_rest [] are same turned took = (
-          subst (λ m. Writes most m state header counts) (sym same) ahead.writes,
+          subst (λ m. ComposesMessage most m state header counts) (sym same) ahead.writes,
           omega (arith, turned),
           omega (arith, took),
         )
@@ -96,7 +97,8 @@ module _ {A I : Type 0} {Of : I → A → Type 0} {labels : A → ℕ} {more : M
       (only : (other : A) → Of i other → other ≡ one) where
     -- one of them is pushed
     pub ahead_next : (next : State) (another : Header) (now : HeaderCounts) (took : ℕ)
-        → ((m : Message) → Writes most m state header counts → Writes most (more m one) next another now)
+        → ((m : Message) → ComposesMessage most m state header counts
+        → ComposesMessage most (more m one) next another now)
         → took ≤ turns + 17 * labels one → turns + labels one + length state.octets ≤ took + length next.octets
         → Ahead Of labels more most m written left next another now took from first
     ahead_next next another now took pushed few many =
@@ -136,14 +138,14 @@ module _ {A I : Type 0} {Of : I → A → Type 0} {labels : A → ℕ} {more : M
     -- the whole exceeds a limit if the message with this entry does
     pub ahead_past : {entry : A → Entry} {FitsOne : A → Type 0} {Reaches : HeaderCounts → Type 0}
         {count : HeaderCounts → ℕ} {counted : HeaderCounts → ℕ → HeaderCounts} (limit : Option ℕ)
-        → Takes A entry FitsOne Reaches count counted more → Reaches counts
-        → IsPast limit (length (with_entry most state (entry one)).octets)
-        → IsPast limit (length (octets_of most (all_more more m written)))
+        → SectionTakes A entry FitsOne Reaches count counted more → Reaches counts
+        → ExceedsLimit limit (length (with_entry most state (entry one)).octets)
+        → ExceedsLimit limit (length (octets_of most (all_more more m written)))
     ahead_past {entry = entry} {Reaches = Reaches} {count = count} {counted = counted} limit takes reaches past =
         by_rest ahead.rest ahead.are ahead.same where
           by_rest : (rest : List A) → AllZip Of (i ∷ left) rest
               → all_more more m written ≡ all_more more ahead.now rest
-              → IsPast limit (length (octets_of most (all_more more m written)))
+              → ExceedsLimit limit (length (octets_of most (all_more more m written)))
           by_rest [] are same = absurd are
           by_rest (other ∷ rest) are same =
               let now = ahead.now in

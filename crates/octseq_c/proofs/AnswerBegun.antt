@@ -2,7 +2,7 @@
 use Rattle.std.proofs.Common.{◌≡◌, ◌≤◌, ℕ, List, [], ◌∷◌, ◌++◌, length, refl, sym, ap, ◌∙◌, arith, append_assoc}
 use Rattle.std.proofs.Common.{append-nil, ◌<◌, true, false, ◌⊎◌, Option, Some, None, Result, Ok, Err, subst, inl, inr}
 use Rattle.std.specs.Prelude.{IsErr, OnOk, min}
-use Rattle.octseq.specs.Limit.{IsPast}
+use Rattle.octseq.specs.Limit.{ExceedsLimit}
 use Rattle.octseq.specs.Refusal.{IsMemory, IsShort, append_error}
 use Rattle.octseq.specs.declared.AppendError.{AppendError}
 use Rattle.octseq_c.proofs.Anew.{all_longer}
@@ -12,7 +12,14 @@ use Rattle.octseq_dns.proofs.Stages.{asked, of_sections}
 use Rattle.octseq_dns.specs.Contents.{Record, Message, octets_of, Question, composed, counts_of, header_octets}
 use Rattle.octseq_dns.specs.Sections.{takes_answers, takes_authorities, takes_additionals}
 use Rattle.octseq_dns.specs.State.{State}
-use Rattle.octseq_dns.specs.Writes.{all_more, more_answers, more_authorities, more_additionals, Writes, least_limit}
+use Rattle.octseq_dns.specs.Writes.{
+  all_more,
+  more_answers,
+  more_authorities,
+  more_additionals,
+  ComposesMessage,
+  least_limit,
+}
 use Rattle.octseq_dns_compress.proofs.Fields.{headed_length}
 use Rattle.octseq_dns_compress.specs.Composed.{message_limit}
 use Rattle.octseq_dns_message.specs.declared.header.Header.{Header}
@@ -83,10 +90,10 @@ short_alone (Err AppendError.Memory) err memory = absurd (elim (memory tt) [ inl
 
 -- if pushes have no limit, the limit of a message is exceeded
 pub past_unlimited : (push_limit : Option ℕ) (limit n : ℕ) → push_limit ≡ None → limit ≤ 65535
-    → IsPast (least_limit push_limit (message_limit (Some limit))) n → limit < n
+    → ExceedsLimit (least_limit push_limit (message_limit (Some limit))) n → limit < n
 past_unlimited push_limit limit n none most past =
     let here : min limit 65535 < n =
-    subst (λ push. IsPast (least_limit push (message_limit (Some limit))) n) none past in
+    subst (λ push. ExceedsLimit (least_limit push (message_limit (Some limit))) n) none past in
     omega (arith, here, most)
 
 -- with another header there are as many octets
@@ -109,7 +116,7 @@ module _ (most : ℕ) (header : Header) (questions : List Question) (m : Message
 
   -- what was begun is the answer's header and questions
   pub begun_written : (state : State) (now : Header) (counts : HeaderCounts) → header ≡ m.header
-      → Writes most (of_sections header questions [] [] []) state now counts
-      → Writes most (without_records m) state now counts
+      → ComposesMessage most (of_sections header questions [] [] []) state now counts
+      → ComposesMessage most (without_records m) state now counts
   begun_written state now counts same is =
-      subst (λ m. Writes most m state now counts) (λ i. of_sections (same i) (sym are i) [] [] []) is
+      subst (λ m. ComposesMessage most m state now counts) (λ i. of_sections (same i) (sym are i) [] [] []) is

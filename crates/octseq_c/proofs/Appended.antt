@@ -1,5 +1,6 @@
 -- Appends to an array: octets are at the end, and aren't refused if there is room.
-use Rattle.std.proofs.Common.{◌≡◌, ℕ, ◌+◌, ◌≤◌, false, Bool, Option, Some, List, [], ◌∷◌, ◌++◌, length, Result, Ok, Err, IsOk}
+use Rattle.std.proofs.Common.{◌≡◌, ℕ, ◌+◌, ◌≤◌, false, Bool, Option, Some, List, [], ◌∷◌, ◌++◌, length, Result, Ok}
+use Rattle.std.proofs.Common.{Err, IsOk}
 use Rattle.std.proofs.Common.{OnOk, refl, arith, ap, ◌∙◌, subst, append_assoc}
 use Rattle.std.proofs.lemmas.List.{length-append}
 use Rattle.octseq.specs.Appends.{Appends}

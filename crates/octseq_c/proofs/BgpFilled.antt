@@ -1,4 +1,4 @@
--- A buffer of rows after a copy of more to the place where those that were written end.
+-- A buffer of rows after a copy of more to the offset where those that were written end.
 use Rattle.std.proofs.Common.{◌≡◌, ℕ, ◌+◌, ◌<◌, ◌≤◌, List, [], ◌∷◌, ◌++◌, length, take, drop, set, arith, ap, sym, refl}
 use Rattle.std.proofs.Common.{◌∙◌, append_assoc, length-append}
 use Rattle.std.proofs.lemmas.List.{drop-set-lt, length-drop, length-take-le, take_more_set}
@@ -12,7 +12,7 @@ placed_long old new done from at few a within n =
     let front = length-append (take from old) done in
     omega (arith, ap length n, whole, front, a, within, length-take-le from old few, length-drop at old)
 
--- a buffer has its length after a copy to a place
+-- a buffer has its length after a copy to an offset
 pub copy_long : {A : Type 0} (mid new more : List A) (at after : ℕ) → after ≡ at + length more → after ≤ length mid
     → new ≡ take at mid ++ (more ++ drop after mid) → length new ≡ length mid
 copy_long mid new more at after e within n =
@@ -30,7 +30,7 @@ copy_long mid new more at after e within n =
     )
 
 module _ {A : Type 0} (old mid new : List A) where
-  -- more items after those that were written from a place on
+  -- more items after those that were written from an offset on
   pub more_placed : (done more : List A) (from at after : ℕ) → from ≤ length old → at ≡ from + length done
       → after ≡ at + length more → mid ≡ (take from old ++ done) ++ drop at old
       → new ≡ take at mid ++ (more ++ drop after mid) → new ≡ (take from old ++ (done ++ more)) ++ drop after old
@@ -40,7 +40,7 @@ module _ {A : Type 0} (old mid new : List A) where
       placed_after old mid new (take from old ++ done) more at after long b m n
       ∙ ap (λ x. x ++ drop after old) (append_assoc (take from old) done more)
 
-  -- three lists, one after another from the first place on
+  -- three lists, one after another from the first offset on
   pub three_placed : (last a b d : List A) (n1 n2 n3 : ℕ) → n1 ≡ length a → n2 ≡ n1 + length b → n3 ≡ n2 + length d
       → mid ≡ a ++ drop n1 old → new ≡ take n1 mid ++ (b ++ drop n2 mid) → last ≡ take n2 new ++ (d ++ drop n3 new)
       → last ≡ (a ++ (b ++ d)) ++ drop (length (a ++ (b ++ d))) old
@@ -54,7 +54,8 @@ module _ {A : Type 0} (old mid new : List A) where
       p3 ∙ ap (λ x. x ++ drop n3 old) all ∙ ap (λ k. (a ++ (b ++ d)) ++ drop k old) long
 
 -- the first item, written after those that follow it
-pub first_last : {A : Type 0} (old rest : List A) (one : A) → 0 < length old → set (take 1 old ++ rest) 0 one ≡ one ∷ rest
+pub first_last : {A : Type 0} (old rest : List A) (one : A) → 0 < length old
+    → set (take 1 old ++ rest) 0 one ≡ one ∷ rest
 first_last [] rest one some = absurd (omega (arith, some))
 first_last (x ∷ old) rest one some = refl
 

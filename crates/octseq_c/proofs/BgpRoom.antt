@@ -38,7 +38,7 @@ attribute_left w v e (u, flags, (t, kind, value)) =
     let inside = length_left (is_extended e.0) t e.1.1 v value in
     omega (arith, one, two, inside)
 
--- one of some attributes has its place among all
+-- one of some attributes has its room among that of all
 pub room_cons : (e : Attribute) (more : List Attribute)
     → attributes_room (e ∷ more) ≡ 1 + left (inside_of e) + attributes_room more
 room_cons e more = sum_by-cons (λ e. 1 + left (inside_of e)) e more

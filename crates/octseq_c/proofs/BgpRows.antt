@@ -69,7 +69,8 @@ module _ (s : SessionConfig) {row more : List Attribute} (e : Attribute) (v : Va
       let same = one_value s (type_of e) (inside_of e) here.0 v here.2 says in
       (here.1, here.3, here.4 ∙ ap (λ v. rows_of_attribute e v ++ here.1) same)
 
-  -- If some rows, and any rows of the attributes that are left, are rows of all, then so they are with those of one more.
+  -- If some rows, and any rows of the attributes that are left, are rows of all, then so they are with those of one
+  -- more.
   pub more_rows : (all : List Attribute) (done : List BgpRow)
       → ((rest : List BgpRow) → AreAttributeRows s row rest → AreAttributeRows s all (done ++ rest))
       → (rest : List BgpRow) → AreAttributeRows s more rest

@@ -16,7 +16,7 @@ use Rattle.octseq_dns_message.proofs.Headers.{one_header}
 use Rattle.octseq_dns_message.proofs.Messages.{said_once}
 use Rattle.octseq_dns_message.specs.declared.header.Header.{Header}
 use Rattle.octseq_dns_message.specs.declared.header.HeaderCounts.{HeaderCounts}
-use Rattle.octseq_c.specs.Made.{IsAnswer, IsAnswerHeader, IsAnswerOf, IsRecordAt, places_kept}
+use Rattle.octseq_c.specs.Made.{IsAnswer, IsAnswerHeader, IsAnswerOf, IsRecordAt, offsets_kept}
 use Rattle.octseq_c.specs.declared.rows.Row.{Row}
 
 -- ---- a record
@@ -25,9 +25,9 @@ use Rattle.octseq_c.specs.declared.rows.Row.{Row}
 pub one_record : (source : List ℕ) (row : Row) (a b : Record) → IsRecordAt source row a → IsRecordAt source row b
     → a ≡ b
 one_record source row a b is other =
-    let place = at row.name_at (whole source) in
+    let offset = at row.name_at (whole source) in
     let inside = at row.data_at (whole source) in
-    let labels = (one_name place is.name.end other.name.end is.labels other.labels is.name.name other.name.name).0 in
+    let labels = (one_name offset is.name.end other.name.end is.labels other.labels is.name.name other.name.name).0 in
     let said = one_said row.rtype row.class inside (nested row.data_len inside) is.rdata other.rdata is.data_is.says
     other.data_is.says in
     is.is
@@ -106,7 +106,7 @@ module _ (asked : Header) (flags : ℕ) (questions : List entry.Question) (sourc
   -- an answer to octets is an answer to the message that they are
   pub answer_of : (query : List ℕ) (answers authorities additionals : List entry.Record) (made : List ℕ)
       → IsMessage query asked questions answers authorities additionals → IsAnswer query flags source rows made
-      → (m : Message) × IsAnswerOf asked flags questions source rows m × (made ≡ octets_of places_kept m)
+      → (m : Message) × IsAnswerOf asked flags questions source rows m × (made ≡ octets_of offsets_kept m)
   answer_of query answers authorities additionals made is answered =
       let same = said_once query answered.asked asked answered.questions questions answered.answers
       answered.authorities answered.additionals answers authorities additionals answered.message is in (
@@ -124,5 +124,5 @@ one_answer query flags source rows made other a b =
     let m = answer_of a.asked flags a.questions source rows query a.answers a.authorities a.additionals other a.message
     b in
     a.made_is
-    ∙ ap (octets_of places_kept) (one_contents a.asked flags a.questions source rows a.contents m.0 a.is m.1)
+    ∙ ap (octets_of offsets_kept) (one_contents a.asked flags a.questions source rows a.contents m.0 a.is m.1)
     ∙ sym m.2

@@ -17,7 +17,7 @@ use Rattle.octseq_format.specs.Laws.{IsOne}
 use Rattle.octseq_format.specs.Pair.{◌one_then◌}
 use Rattle.octseq_format.specs.Rest.{one_rest}
 use Rattle.octseq_format.specs.Row.{Moved, moving_moved, one_moved, one_to}
-use Rattle.octseq_c.specs.Fields.{AreFields, AreFieldsIn, AreFieldsOf, AreKnownFields, AreLayoutRows}
+use Rattle.octseq_c.specs.Fields.{AreFieldRows, AreFieldsIn, AreFieldsOf, AreKnownFields, AreLayoutRows}
 use Rattle.octseq_c.specs.Fields.{AreParameters, AreStrings, AreTailRows, AreTypedFields, IsAddressField}
 use Rattle.octseq_c.specs.Fields.{IsCharacterString}
 use Rattle.octseq_c.specs.Fields.{IsField, IsNameField, IsNumberField, IsParameter, IsStringField}
@@ -69,12 +69,13 @@ one_field field.OwnerHash = one_string
 
 -- ---- fields
 
-pub one_fields : (fields : List Field) → IsOne (AreFields fields)
+pub one_fields : (fields : List Field) → IsOne (AreFieldRows fields)
 one_fields [] = record { same = λ w rows others u v a b. (a.0 ∙ sym b.0, a.1 ∙ sym b.1) }
 one_fields (f ∷ fields) = record {
   same = λ w rows others u v (row, more, x, is, are, shown) (other, rest, y, it, also, told).
       let first = (one_field f).same w row other x y is it in
-      let then = (one_fields fields).same y more rest u v (subst (λ x. AreFields fields x more u) first.1 are) also in
+      let then = (one_fields fields).same y more rest u v
+      (subst (λ x. AreFieldRows fields x more u) first.1 are) also in
       (shown ∙ ap (λ row. row ∷ more) first.0 ∙ ap (λ more. other ∷ more) then.0 ∙ sym told, then.1);
 }
 
@@ -160,7 +161,7 @@ one_fields_in message inside rtype class rows others (inl a) (inr (none, b)) = a
 one_fields_in message inside rtype class rows others (inr (none, a)) (inl b) = absurd (none others b)
 one_fields_in message inside rtype class rows others (inr (none, a)) (inr (also, b)) = a ∙ sym b
 
-pub one_fields_of : (octets : List ℕ) (place n rtype class : ℕ) (rows others : List FieldRow)
-    → AreFieldsOf octets place n rtype class rows → AreFieldsOf octets place n rtype class others → rows ≡ others
-one_fields_of octets place n rtype class rows others a b =
+pub one_fields_of : (octets : List ℕ) (offset n rtype class : ℕ) (rows others : List FieldRow)
+    → AreFieldsOf octets offset n rtype class rows → AreFieldsOf octets offset n rtype class others → rows ≡ others
+one_fields_of octets offset n rtype class rows others a b =
     one_fields_in _ _ rtype class rows others a.fields b.fields

@@ -11,10 +11,11 @@ use Rattle.octseq_dns.proofs.Stages.{one_contents}
 use Rattle.octseq_dns_message.specs.Entry.{Question, Record}
 use Rattle.octseq_dns_message.specs.declared.header.Header.{Header}
 use Rattle.octseq_dns_message.proofs.Messages.{said_once}
-use Rattle.octseq_c.specs.Made.{IsImmovable, IsRewritten, places_kept}
+use Rattle.octseq_c.specs.Made.{IsImmovable, IsRewritten, offsets_kept}
 
 -- what is composed from one message is composed from the other, if both are one
-pub moved_contents : {h k : Header} {q r : List Question} {a x b y d z : List Record} (m : contents.Message) → k ≡ h → r ≡ q
+pub moved_contents : {h k : Header} {q r : List Question} {a x b y d z : List Record} (m : contents.Message) → k ≡ h
+    → r ≡ q
     → x ≡ a → y ≡ b → z ≡ d → IsMessageOf k r x y z m → IsMessageOf h q a b d m
 moved_contents m h q a b d is = subst (λ i. i) (λ i. IsMessageOf (h i) (q i) (a i) (b i) (d i) m) is
 
@@ -28,7 +29,7 @@ one_rewriting octets made other a b =
     let same = said_once octets _ _ _ _ _ _ _ _ _ _ b.message a.message in
     let contents = one_contents _ _ _ _ _ a.contents b.contents a.same
     (moved_contents b.contents same.0 same.1 same.2 same.3 same.4 b.same) in
-    a.made_is ∙ ap (octets_of places_kept) contents ∙ sym b.made_is
+    a.made_is ∙ ap (octets_of offsets_kept) contents ∙ sym b.made_is
 
 -- data can't both be movable and not movable
 pub not_both : (octets made : List ℕ) → IsRewritten octets made → ¬ IsImmovable octets
@@ -47,7 +48,7 @@ stable (r ∷ records) nn =
 pub rewriting_of : {octets : List ℕ} {header : Header} {questions : List Question}
     {answers authorities additionals : List Record} → IsMessage octets header questions answers authorities additionals
     → ¬ ¬ CanMove (answers ++ (authorities ++ additionals)) → (m : contents.Message)
-    → IsMessageOf header questions answers authorities additionals m → IsRewritten octets (octets_of places_kept m)
+    → IsMessageOf header questions answers authorities additionals m → IsRewritten octets (octets_of offsets_kept m)
 rewriting_of message can m same = record {
   header = _;
   questions = _;

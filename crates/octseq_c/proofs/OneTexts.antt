@@ -1,5 +1,5 @@
--- One name is at a place, and one is spelled by a text. Data at a place has one text. Octets are one message, which has
--- one text and one list of rows.
+-- One name is at an offset, and one is spelled by a text. Data at an offset has one text. Octets are one message,
+-- which has one text and one list of rows.
 use Rattle.std.proofs.Common.{◌≡◌, ℕ, List, ◌++◌, ap, sym, ◌∙◌, refl, subst}
 use Rattle.octseq.specs.Integer.{octets_be}
 use Rattle.octseq_dns_data.proofs.Rdata.{one_said}
@@ -19,17 +19,17 @@ use Rattle.octseq_c.specs.Rows.{AreRowsOf, rows_of}
 use Rattle.octseq_c.specs.Texts.{IsNameAt, IsNameText, IsNameWire, IsSpelledWire, Spells, IsDataText, IsTextOf}
 use Rattle.octseq_c.specs.declared.rows.Row.{Row}
 
-pub one_at : {octets : List ℕ} {place : ℕ} {labels others : List (List ℕ)} → IsNameAt octets place labels
-    → IsNameAt octets place others → labels ≡ others
+pub one_at : {octets : List ℕ} {offset : ℕ} {labels others : List (List ℕ)} → IsNameAt octets offset labels
+    → IsNameAt octets offset others → labels ≡ others
 one_at a b = (one_name _ _ _ _ _ a.name b.name).0
 
-pub one_name_text : (octets : List ℕ) (place : ℕ) (text other : List ℕ) → IsNameText octets place text
-    → IsNameText octets place other → text ≡ other
-one_name_text octets place text other (labels, a, is) (others, b, it) = is ∙ ap name_text (one_at a b) ∙ sym it
+pub one_name_text : (octets : List ℕ) (offset : ℕ) (text other : List ℕ) → IsNameText octets offset text
+    → IsNameText octets offset other → text ≡ other
+one_name_text octets offset text other (labels, a, is) (others, b, it) = is ∙ ap name_text (one_at a b) ∙ sym it
 
-pub one_name_wire : (octets : List ℕ) (place : ℕ) (made other : List ℕ) → IsNameWire octets place made
-    → IsNameWire octets place other → made ≡ other
-one_name_wire octets place made other (labels, a, is) (others, b, it) = is ∙ ap wire (one_at a b) ∙ sym it
+pub one_name_wire : (octets : List ℕ) (offset : ℕ) (made other : List ℕ) → IsNameWire octets offset made
+    → IsNameWire octets offset other → made ≡ other
+one_name_wire octets offset made other (labels, a, is) (others, b, it) = is ∙ ap wire (one_at a b) ∙ sym it
 
 pub one_spelled : {text : List ℕ} {labels others : List (List ℕ)} → Spells text labels → Spells text others
     → labels ≡ others
@@ -44,13 +44,14 @@ one_query id flags text qtype qclass made other a b =
     a.made_is ∙ ap (λ labels. query_header id flags ++ (wire labels ++ (octets_be 2 qtype ++ octets_be 2 qclass)))
     (one_spelled a.spelled b.spelled) ∙ sym b.made_is
 
-pub one_data_text : (octets : List ℕ) (place n rtype class : ℕ) (text other : List ℕ)
-    → IsDataText octets place n rtype class text → IsDataText octets place n rtype class other → text ≡ other
-one_data_text octets place n rtype class text other (rdata, a, is) (others, b, it) =
+pub one_data_text : (octets : List ℕ) (offset n rtype class : ℕ) (text other : List ℕ)
+    → IsDataText octets offset n rtype class text → IsDataText octets offset n rtype class other → text ≡ other
+one_data_text octets offset n rtype class text other (rdata, a, is) (others, b, it) =
     is ∙ ap rdata_text (one_said _ _ _ _ _ _ a.says b.says) ∙ sym it
 
 -- the text of one message is the text of the other, if both are one
-pub moved_text : {h k : Header} {q r : List Question} {a x b y d z : List Record} {text : List ℕ} → k ≡ h → r ≡ q → x ≡ a
+pub moved_text : {h k : Header} {q r : List Question} {a x b y d z : List Record} {text : List ℕ} → k ≡ h → r ≡ q
+    → x ≡ a
     → y ≡ b → z ≡ d → IsMessageText k r x y z text → IsMessageText h q a b d text
 moved_text {text = text} h q a b d is = subst (λ i. i) (λ i. IsMessageText (h i) (q i) (a i) (b i) (d i) text) is
 

@@ -12,21 +12,21 @@ use Rattle.octseq_utf8.proofs.LossyTexts.{replacement_is_character, text_well_fo
 use Rattle.octseq_utf8.proofs.Spelling.{spells_nothing}
 use Rattle.octseq_utf8.proofs.Splitting.{splits}
 use Rattle.octseq_utf8.proofs.Texts.{well_formed-append}
-use Rattle.octseq_c.specs.OwnText.{IsText}
+use Rattle.octseq_c.specs.OwnText.{IsOwnText}
 
-pub text_from : (x : List ℕ) → IsWellFormed x → IsText x
+pub text_from : (x : List ℕ) → IsWellFormed x → IsOwnText x
 text_from x well = text_same 0xFFFD x _ well (splits x)
 
-pub well_formed_from : (x : List ℕ) → IsText x → IsWellFormed x
+pub well_formed_from : (x : List ℕ) → IsOwnText x → IsWellFormed x
 well_formed_from x same = subst IsWellFormed same (text_well_formed 0xFFFD replacement_is_character (splits x))
 
 -- an empty text is text, and so is a longer one
-pub text_empty : IsText []
+pub text_empty : IsOwnText []
 text_empty = text_from [] ([], spells_nothing)
 
-pub text_more : {z : List ℕ} (x y : List ℕ) → IsText x → IsWellFormed y → z ≡ x ++ y → IsText z
+pub text_more : {z : List ℕ} (x y : List ℕ) → IsOwnText x → IsWellFormed y → z ≡ x ++ y → IsOwnText z
 text_more x y same well e =
-    subst IsText (sym e) (text_from (x ++ y) (well_formed-append x y (well_formed_from x same) well))
+    subst IsOwnText (sym e) (text_from (x ++ y) (well_formed-append x y (well_formed_from x same) well))
 
 -- a front of a buffer that is as long as the buffer is all of it
 pub whole_front : (n : ℕ) (x text : List ℕ) → n ≤ length x → take n x ≡ text → length text ≡ length x → x ≡ text

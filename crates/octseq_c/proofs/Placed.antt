@@ -1,29 +1,30 @@
--- A buffer after one more copy to the place where its content ended.
+-- A buffer after one more copy to the offset where its content ended.
 use Rattle.std.proofs.Common.{◌≡◌, ℕ, ◌+◌, List, ◌++◌, length, take, drop, arith, ap, sym, ◌∙◌, append_assoc}
 use Rattle.std.proofs.Math.Seq.{take-append_seam}
 use Rattle.std.proofs.lemmas.List.{length-append}
 use Rattle.std.proofs.lemmas.Slice.{drop-append-drop}
 
 -- The front of a buffer was written, and the rest is unchanged. This still holds after a copy to the end of the front.
-pub placed_more : {A : Type 0} (old mid new front more : List A) (place : ℕ) → length front ≡ place → mid ≡ front ++ drop place old
-    → new ≡ (take place mid ++ more) ++ drop (place + length more) mid
-    → new ≡ (front ++ more) ++ drop (place + length more) old
-placed_more old mid new front more place l m e =
-    let before : take place mid ≡ front = ap (λ k. take k mid) (sym l) ∙ ap (take (length front)) m
-    ∙ take-append_seam front (drop place old) in
-    let kept : drop (place + length more) mid ≡ drop (place + length more) old =
-    ap (drop (place + length more)) m ∙ drop-append-drop place old front (place + length more) (omega arith) l in
-    e ∙ ap (λ y. (y ++ more) ++ drop (place + length more) mid) before ∙ ap (λ y. (front ++ more) ++ y) kept
+pub placed_more : {A : Type 0} (old mid new front more : List A) (offset : ℕ) → length front ≡ offset → mid ≡ front
+    ++ drop offset old
+    → new ≡ (take offset mid ++ more) ++ drop (offset + length more) mid
+    → new ≡ (front ++ more) ++ drop (offset + length more) old
+placed_more old mid new front more offset l m e =
+    let before : take offset mid ≡ front = ap (λ k. take k mid) (sym l) ∙ ap (take (length front)) m
+    ∙ take-append_seam front (drop offset old) in
+    let kept : drop (offset + length more) mid ≡ drop (offset + length more) old =
+    ap (drop (offset + length more)) m ∙ drop-append-drop offset old front (offset + length more) (omega arith) l in
+    e ∙ ap (λ y. (y ++ more) ++ drop (offset + length more) mid) before ∙ ap (λ y. (front ++ more) ++ y) kept
 
--- the same, if the place after it is given
-pub placed_after : {A : Type 0} (old mid new front more : List A) (place after : ℕ) → length front ≡ place
-    → after ≡ place + length more → mid ≡ front ++ drop place old → new ≡ take place mid ++ (more ++ drop after mid)
+-- the same, if the offset after it is given
+pub placed_after : {A : Type 0} (old mid new front more : List A) (offset after : ℕ) → length front ≡ offset
+    → after ≡ offset + length more → mid ≡ front ++ drop offset old → new ≡ take offset mid ++ (more ++ drop after mid)
     → new ≡ (front ++ more) ++ drop after old
-placed_after old mid new front more place after l a m e =
-    placed_more old mid new front more place l m (e ∙ sym (append_assoc (take place mid) more (drop after mid))
-    ∙ ap (λ k. (take place mid ++ more) ++ drop k mid) a) ∙ ap (λ k. (front ++ more) ++ drop k old) (sym a)
+placed_after old mid new front more offset after l a m e =
+    placed_more old mid new front more offset l m (e ∙ sym (append_assoc (take offset mid) more (drop after mid))
+    ∙ ap (λ k. (take offset mid ++ more) ++ drop k mid) a) ∙ ap (λ k. (front ++ more) ++ drop k old) (sym a)
 
--- Four lists were written one after another, each to the place where the one before it ended.
+-- Four lists were written one after another, each to the offset where the one before it ended.
 pub four_placed : {A : Type 0} (old r1 r2 r3 r4 q a b d : List A) (n1 n2 n3 n4 : ℕ) → n1 ≡ length q
     → n2 ≡ n1 + length a → n3 ≡ n2 + length b → n4 ≡ n3 + length d → r1 ≡ q ++ drop n1 old
     → r2 ≡ take n1 r1 ++ (a ++ drop n2 r1) → r3 ≡ take n2 r2 ++ (b ++ drop n3 r2)

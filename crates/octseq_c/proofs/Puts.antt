@@ -1,13 +1,13 @@
 -- What calls report about the items that they write.
 use Rattle.std.specs.Prelude.{◌↔◌, ◌⊎◌, Result, Ok, Err, IsErr, OnErr}
 use Rattle.std.proofs.Common.{◌≡◌, ◌≢◌, ℕ, ◌<◌, ◌≤◌, zero, suc, List, length, inl, inr, refl, subst, arith}
-use Rattle.octseq_c.specs.Puts.{Copies, Fills, Puts}
+use Rattle.octseq_c.specs.Puts.{Copies, FillsPrefix, Puts}
 
 module _ {A : Type 0} {Is : List A → Type 0} {old new : List A} {count : ℕ}
     (one : (items others : List A) → Is items → Is others → items ≡ others) where
   -- items were written
   pub puts_ok : (items : List A) → Is items → length items ≤ length old → count ≡ length items
-      → Fills items old new → Puts Is 0 old new count
+      → FillsPrefix items old new → Puts Is 0 old new count
   puts_ok items is within reported fills = record {
     ok = λ e. (items, is, within, reported, fills);
     no_room = λ e. absurd (omega arith);
@@ -63,7 +63,7 @@ when_err (Err e) p = p refl
 -- a call that copies items to the front of a buffer, or none
 pub puts_copied : {A : Type 0} {Is : List A → Type 0} {status count : ℕ} {old new : List A}
     → ((items others : List A) → Is items → Is others → items ≡ others) → (items : List A) → Is items
-    → count ≡ length items → (status ≡ 0 → (length items ≤ length old) × Fills items old new)
+    → count ≡ length items → (status ≡ 0 → (length items ≤ length old) × FillsPrefix items old new)
     → (status ≢ 0 → (status ≡ 1) × (length old < length items) × (new ≡ old)) → Puts Is status old new count
 puts_copied one items is reported ok not = record {
   ok = λ e. (items, is, (ok e).0, reported, (ok e).1);
@@ -74,7 +74,7 @@ puts_copied one items is reported ok not = record {
 
 -- a call that copies the same items by another name
 pub copies : {A : Type 0} {items others : List A} {status count : ℕ} {old new : List A} → items ≡ others
-    → count ≡ length items → (status ≡ 0 → (length items ≤ length old) × Fills items old new)
+    → count ≡ length items → (status ≡ 0 → (length items ≤ length old) × FillsPrefix items old new)
     → (status ≢ 0 → (status ≡ 1) × (length old < length items) × (new ≡ old)) → Copies others status old new count
 copies {status = status} {count = count} {old = old} {new = new} same is ok not =
     subst (λ items. Copies items status old new count) same (record { reported = is; ok = ok; no_room = not })

@@ -6,20 +6,20 @@ use Rattle.octseq_text.proofs.Piecewise.{beginning_few}
 use Rattle.octseq_text.proofs.Settling.{one_settling, settles_end, reads_settles, reads_then, settles_reads}
 use Rattle.octseq_text.proofs.Settling.{text-append, reads_none}
 use Rattle.octseq_text.specs.Pieces.{Settles, open_end, no_end}
-use Rattle.octseq_text.specs.Progress.{IsOpenEnd, IsRead}
+use Rattle.octseq_text.specs.Progress.{IsOpenEnd, HasReadParts}
 use Rattle.octseq_utf8.specs.Parts.{IsBeginning, Part, text}
 use Rattle.octseq_c.proofs.Placed.{placed_more}
 use Rattle.octseq_c.proofs.Wholes.{one_lossy_text, whole_text}
 use Rattle.octseq_c.specs.LossyText.{IsLossyText, IsSettledText, IsState, end_text, held}
-use Rattle.octseq_c.specs.Puts.{Fills}
+use Rattle.octseq_c.specs.Puts.{FillsPrefix}
 use Rattle.octseq_c.specs.Settled.{IsMeasured, IsPastSize}
 use Rattle.octseq_c.specs.declared.pieces.LossyState.{LossyState}
 
 -- a text at the front of a buffer, followed by another
-pub fills_both : (old mid new front more : List ℕ) (place : ℕ) → place ≡ length front → mid ≡ front ++ drop place old
-    → new ≡ (take place mid ++ more) ++ drop (place + length more) mid → Fills (front ++ more) old new
-fills_both old mid new front more place e m n =
-    placed_more old mid new front more place (sym e) m n
+pub fills_both : (old mid new front more : List ℕ) (offset : ℕ) → offset ≡ length front → mid ≡ front ++ drop offset old
+    → new ≡ (take offset mid ++ more) ++ drop (offset + length more) mid → FillsPrefix (front ++ more) old new
+fills_both old mid new front more offset e m n =
+    placed_more old mid new front more offset (sym e) m n
     ∙ ap (λ k. (front ++ more) ++ drop k old) (ap (λ k. k + length more) e ∙ sym (length-append front more))
 
 -- A text within the limit isn't too long.
@@ -54,7 +54,8 @@ lossy_past_end m written e past =
 pub lossy_fits : {x end : List ℕ} {n : ℕ} → IsMeasured x 0 n end → (written : List ℕ) → written ≡ end_text end
     → n + length written < 2 ^ 64 → ¬ ((made : List ℕ) × IsLossyText x made × (2 ^ 64 - 1 < length made))
 lossy_fits m written e few =
-    fits (one_lossy_text _) (text m.settled ++ written) (lossy_made m written e) (omega (arith, few, lossy_len m written))
+    fits (one_lossy_text _) (text m.settled ++ written) (lossy_made m written e)
+    (omega (arith, few, lossy_len m written))
 
 -- the text of what is settled
 
@@ -74,7 +75,7 @@ state_left {q = q} state s few e = (
   λ others end t. e ∙ (one_settling s t).1,
 )
 
-module _ {x rest first : List ℕ} (r : IsRead x rest [] first) where
+module _ {x rest first : List ℕ} (r : HasReadParts x rest [] first) where
   -- both are settled in all the octets
   pub both_settle : {settled : List Part} {end : List ℕ} → Settles rest settled end → Settles x (r.parts ++ settled) end
   both_settle {settled} {end} s =

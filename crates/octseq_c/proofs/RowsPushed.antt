@@ -1,16 +1,17 @@
 -- Rows whose records are pushed to a section of a message, one after another.
-use Rattle.std.proofs.Common.{◌≡◌, ℕ, ◌+◌, ◌<◌, ◌≤◌, ◌≢◌, Bool, true, false, cond, eq-eqb, List, [], ◌∷◌, length, drop, get_or, Some}
+use Rattle.std.proofs.Common.{◌≡◌, ℕ, ◌+◌, ◌<◌, ◌≤◌, ◌≢◌, Bool, true, false, cond, eq-eqb, List, [], ◌∷◌, length}
+use Rattle.std.proofs.Common.{drop, get_or, Some}
 use Rattle.std.proofs.Common.{ap, ◌∙◌, subst, arith}
 use Rattle.std.proofs.lemmas.Bool.{ne_eqb}
 use Rattle.std.proofs.lemmas.List.{drop_all, drop_more}
 use Rattle.std.specs.Prelude.{nat_eq}
 use Rattle.octseq_dns.specs.Contents.{Message, Record, octets_of, record_entry}
 use Rattle.octseq_dns.specs.State.{State, with_entry}
-use Rattle.octseq_dns.specs.Writes.{TakesRecords, Writes, all_more}
+use Rattle.octseq_dns.specs.Writes.{TakesRecords, ComposesMessage, all_more}
 use Rattle.octseq_c.proofs.Anew.{Ahead, ahead_next, ahead_none, ahead_past, all_longer}
 use Rattle.octseq_dns_message.specs.declared.header.Header.{Header}
 use Rattle.octseq_dns_message.specs.declared.header.HeaderCounts.{HeaderCounts}
-use Rattle.octseq_c.specs.Made.{IsRecordAt, in_section, places_kept}
+use Rattle.octseq_c.specs.Made.{IsRecordAt, in_section, offsets_kept}
 use Rattle.octseq_c.specs.declared.rows.Row.{Row}
 use Rattle.octseq_c.proofs.OneAnswer.{one_record}
 
@@ -29,7 +30,8 @@ module _ (section : ℕ) (rows : List Row) (i : ℕ) (within : i < length rows) 
       → in_section section (drop i rows)
       ≡ cond b (row_at rows i ∷ in_section section (drop (i + 1) rows)) (in_section section (drop (i + 1) rows))
   next_is b is = ap (in_section section) rows_step
-      ∙ ap (λ b. cond b (row_at rows i ∷ in_section section (drop (i + 1) rows)) (in_section section (drop (i + 1) rows)))
+      ∙ ap (λ b. cond b (row_at rows i ∷ in_section section (drop (i + 1) rows))
+      (in_section section (drop (i + 1) rows)))
       is
 
   pub row_taken : (row_at rows i).section ≡ section
@@ -47,34 +49,36 @@ module _ (section : ℕ) (rows : List Row) (i : ℕ) (within : i < length rows) 
 abbrev pub Left : List ℕ → (Message → Record → Message) → Message → List Record → List Row → State → Header
     → HeaderCounts → ℕ → Type 0
 Left source more m written rows state header counts first =
-    Ahead (IsRecordAt source) (λ _. 0) more places_kept m written rows state header counts 0 0 first
+    Ahead (IsRecordAt source) (λ _. 0) more offsets_kept m written rows state header counts 0 0 first
 
 -- at last none is left
 pub left_none : {source : List ℕ} {more : Message → Record → Message} {m : Message} {written : List Record}
     {state : State} {header : Header} {counts : HeaderCounts} {first : ℕ} (section : ℕ) (rows : List Row) (i : ℕ)
     → length rows ≤ i → Left source more m written (in_section section (drop i rows)) state header counts first
-    → Writes places_kept (all_more more m written) state header counts
-left_none section rows i all left = (ahead_none places_kept _ _ _ _ _ 0 0 _ (rw (drop_all i rows all) at left)).0
+    → ComposesMessage offsets_kept (all_more more m written) state header counts
+left_none section rows i all left = (ahead_none offsets_kept _ _ _ _ _ 0 0 _ (rw (drop_all i rows all) at left)).0
 
 module _ {Reaches : HeaderCounts → Type 0} {count : HeaderCounts → ℕ} {counted : HeaderCounts → ℕ → HeaderCounts}
-    {more : Message → Record → Message} (takes : TakesRecords Reaches count counted more) {source : List ℕ} {m : Message}
+    {more : Message → Record → Message} (takes : TakesRecords Reaches count counted more) {source : List ℕ}
+    {m : Message}
     {written : List Record} {row : Row} {rows : List Row} {state : State} {header : Header} {counts : HeaderCounts}
     {first : ℕ} (left : Left source more m written (row ∷ rows) state header counts first) (one : Record)
     (is : IsRecordAt source row one) (reaches : Reaches counts) where
   -- one row is pushed
   pub left_next : {next : State} {another : Header} {now : HeaderCounts}
-      → ((m : Message) → Writes places_kept m state header counts → Writes places_kept (more m one) next another now)
+      → ((m : Message) → ComposesMessage offsets_kept m state header counts
+      → ComposesMessage offsets_kept (more m one) next another now)
       → Left source more m written rows next another now first
   left_next {next} {another} {now} pushed =
-      let longer = all_longer places_kept takes left.now (one ∷ []) (subst Reaches left.writes.counts_are reaches) in
+      let longer = all_longer offsets_kept takes left.now (one ∷ []) (subst Reaches left.writes.counts_are reaches) in
       let before = ap (λ s. length s.octets) left.writes.state_is in
       let after = ap (λ s. length s.octets) (pushed left.now left.writes).state_is in
-      ahead_next places_kept m written row rows state header counts 0 0 first left one
+      ahead_next offsets_kept m written row rows state header counts 0 0 first left one
       (λ other of. one_record source row other one of is) next another now 0 pushed (omega arith)
       (omega (arith, longer, before, after))
 
   -- or the whole message exceeds the limit, as the message with it does
-  pub left_past : (limit : ℕ) → limit < length (with_entry places_kept state (record_entry one)).octets
-      → limit < length (octets_of places_kept (all_more more m written))
-  left_past limit past = ahead_past places_kept m written row rows state header counts 0 0 first left one
+  pub left_past : (limit : ℕ) → limit < length (with_entry offsets_kept state (record_entry one)).octets
+      → limit < length (octets_of offsets_kept (all_more more m written))
+  left_past limit past = ahead_past offsets_kept m written row rows state header counts 0 0 first left one
       (λ other of. one_record source row other one of is) (Some limit) takes reaches past

@@ -1,31 +1,36 @@
 -- The text of what is settled in octets, as it is measured and written, chunk by chunk.
-use Rattle.std.proofs.Common.{Bool, false, ◌≡◌, ℕ, ◌+◌, ◌-◌, ◌<◌, ◌≤◌, ◌^◌, List, [], ◌∷◌, ◌++◌, length, take, drop, refl, arith}
+use Rattle.std.proofs.Common.{Bool, false, ◌≡◌, ℕ, ◌+◌, ◌-◌, ◌<◌, ◌≤◌, ◌^◌, List, [], ◌∷◌, ◌++◌, length, take, drop}
+use Rattle.std.proofs.Common.{refl, arith}
 use Rattle.std.proofs.Common.{ap, sym, ◌∙◌, append_assoc, length-append, length-take}
 use Rattle.std.proofs.lemmas.List.{append-nil, take-append-drop}
 use Rattle.octseq_utf8.specs.Chunk.{Chunk, IsFirstChunk}
 use Rattle.octseq_utf8.specs.Encoding.{encoding_of}
 use Rattle.octseq_utf8.specs.Parts.{Part, text}
 use Rattle.octseq_text.specs.Pieces.{Settles}
-use Rattle.octseq_text.specs.Progress.{IsRead, IsOpenEnd, Reads}
+use Rattle.octseq_text.specs.Progress.{HasReadParts, IsOpenEnd, ReadsParts}
 use Rattle.octseq_text.proofs.Piecewise.{not_so, read_invalid, read_none}
-use Rattle.octseq_text.proofs.Settling.{one_settling, reads_none, reads_settles, reads_then, settling, text-append, text_read}
+use Rattle.octseq_text.proofs.Settling.{one_settling, reads_none, reads_settles, reads_then, settling, text-append}
+use Rattle.octseq_text.proofs.Settling.{text_read}
 use Rattle.octseq_c.specs.LossyText.{end_text}
-use Rattle.octseq_c.specs.Settled.{HasRoom, IsMeasured, IsPastSize}
+use Rattle.octseq_c.specs.Settled.{HasRoomForText, IsMeasured, IsPastSize}
 use Rattle.octseq_c.proofs.Placed.{placed_more}
 
--- The text of the first octets, after other text, ends at this place.
-pub record ReadsTo (octets rest : List ℕ) (before place : ℕ) : Type 0 where
+-- The text of the first octets, after other text, ends at this offset.
+pub record ReadsTo (octets rest : List ℕ) (before offset : ℕ) : Type 0 where
   pub parts : List Part
-  pub reads : Reads octets rest parts
-  pub len : place ≡ before + length (text parts)
+  pub reads : ReadsParts octets rest parts
+  pub len : offset ≡ before + length (text parts)
 
 pub to_start : (x : List ℕ) (before : ℕ) → ReadsTo x x before before
 to_start x before = record { parts = []; reads = reads_none x; len = omega arith }
 
-text_more : {y z more : List ℕ} (parts : List Part) (r : IsRead y z [] more) → text (parts ++ r.parts) ≡ text parts ++ more
+text_more : {y z more : List ℕ} (parts : List Part) (r : HasReadParts y z [] more)
+    → text (parts ++ r.parts) ≡ text parts
+    ++ more
 text_more parts r = text-append parts r.parts ∙ ap (λ y. text parts ++ y) (sym r.grown)
 
-pub to_more : {x y z more : List ℕ} {before a b : ℕ} → ReadsTo x y before a → IsRead y z [] more → b ≡ a + length more
+pub to_more : {x y z more : List ℕ} {before a b : ℕ} → ReadsTo x y before a → HasReadParts y z [] more
+    → b ≡ a + length more
     → ReadsTo x z before b
 to_more {x} {y} {z} {more} s r e = record {
   parts = s.parts ++ r.parts;
@@ -33,15 +38,15 @@ to_more {x} {y} {z} {more} s r e = record {
   len = let len = s.len in omega (arith, ap length (text_more s.parts r), length-append (text s.parts) more);
 }
 
-marks : (bad after : List ℕ) → (1 ≤ length bad → IsRead (bad ++ after) after [] (encoding_of 0xFFFD))
-    → IsRead (bad ++ after) after [] (end_text bad)
+marks : (bad after : List ℕ) → (1 ≤ length bad → HasReadParts (bad ++ after) after [] (encoding_of 0xFFFD))
+    → HasReadParts (bad ++ after) after [] (end_text bad)
 marks [] after r = read_none after []
 marks (octet ∷ bad) after r = r (omega arith)
 
 -- after a chunk that isn't incomplete, U+FFFD is read, or nothing if there is no bad part
 pub read_mark : (x : List ℕ) (chunk : Chunk) (after : List ℕ) → IsFirstChunk x chunk after
     → (cut : Bool) → cut ≡ chunk.incomplete → cut ≡ false
-    → IsRead (chunk.invalid ++ after) after [] (end_text chunk.invalid)
+    → HasReadParts (chunk.invalid ++ after) after [] (end_text chunk.invalid)
 read_mark x chunk after c cut e uncut =
     marks chunk.invalid after (λ some. read_invalid x chunk after c (not_so chunk.incomplete cut e uncut) some [])
 
@@ -59,8 +64,8 @@ past_size {x} {before = before} {a} s h =
     record { settled = t.0; end = t.1; settles = t.2; past = omega arith }
 
 -- and there is room for it, and for what is read next, if there is room for that
-pub room_more : {x y z more : List ℕ} {before a room : ℕ} → HasRoom x before room → ReadsTo x y before a
-    → IsRead y z [] more → a + length more ≤ room
+pub room_more : {x y z more : List ℕ} {before a room : ℕ} → HasRoomForText x before room → ReadsTo x y before a
+    → HasReadParts y z [] more → a + length more ≤ room
 room_more h s r =
     let most = to_within (to_more s r refl) h.settled h.end h.settles in let within = h.within in omega arith
 
@@ -75,9 +80,9 @@ measured {x} {end} s o few = record {
 }
 
 -- The text of the first octets was written to a buffer, after what was at its front.
-pub record WritesTo (octets rest : List ℕ) (before : ℕ) (old new : List ℕ) (place : ℕ) : Type 0 where
-  pub to : ReadsTo octets rest before place
-  pub room : new ≡ (take before old ++ text to.parts) ++ drop place old
+pub record WritesTo (octets rest : List ℕ) (before : ℕ) (old new : List ℕ) (offset : ℕ) : Type 0 where
+  pub to : ReadsTo octets rest before offset
+  pub room : new ≡ (take before old ++ text to.parts) ++ drop offset old
 
 pub writes_start : (x : List ℕ) (before : ℕ) (old : List ℕ) → WritesTo x x before old old before
 unfolding to_start
@@ -87,7 +92,8 @@ writes_start x before old = record {
 }
 
 pub writes_more : {x y z more : List ℕ} {before a b : ℕ} {old mid new : List ℕ} (seen : List ℕ) → seen ≡ more
-    → HasRoom x before (length old) → WritesTo x y before old mid a → IsRead y z [] more → b ≡ a + length seen
+    → HasRoomForText x before (length old) → WritesTo x y before old mid a → HasReadParts y z [] more
+    → b ≡ a + length seen
     → new ≡ (take a mid ++ seen) ++ drop (a + length seen) mid → WritesTo x z before old new b
 unfolding to_more
 writes_more {more = more} {before} {a} {b} {old} {mid} {new} seen same h s r e n =

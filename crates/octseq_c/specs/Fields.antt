@@ -72,10 +72,10 @@ IsField field.Salt = IsStringField
 IsField field.OwnerHash = IsStringField
 
 -- one after another
-abbrev pub AreFields : List Field → Relation (List FieldRow)
-AreFields [] w rows v = (rows ≡ []) × (v ≡ w)
-AreFields (f ∷ fields) w rows v = (row : FieldRow) × (more : List FieldRow) × (u : Window)
-    × IsField f w row u × AreFields fields u more v × (rows ≡ row ∷ more)
+abbrev pub AreFieldRows : List Field → Relation (List FieldRow)
+AreFieldRows [] w rows v = (rows ≡ []) × (v ≡ w)
+AreFieldRows (f ∷ fields) w rows v = (row : FieldRow) × (more : List FieldRow) × (u : Window)
+    × IsField f w row u × AreFieldRows fields u more v × (rows ≡ row ∷ more)
 
 -- ---- what comes after them
 
@@ -110,7 +110,7 @@ pub record AreLayoutRows (layout : TextLayout) (w : Window) (rows : List FieldRo
   pub front : List FieldRow
   pub back : List FieldRow
   pub end : Window
-  pub fields : AreFields layout.fields w front end
+  pub fields : AreFieldRows layout.fields w front end
   pub after : AreTailRows layout.tail end back
   pub rows_are : rows ≡ front ++ back
 
@@ -136,7 +136,7 @@ AreFieldsIn message inside rtype class rows = AreKnownFields message inside rtyp
     ⊎ ((others : List FieldRow) → ¬ AreKnownFields message inside rtype class others)
     × (rows ≡ range_row 4 inside ∷ [])
 
--- Data of a type and a class, of n octets, is at a place of the octets, and these are its fields.
-pub record AreFieldsOf (octets : List ℕ) (place n rtype class : ℕ) (rows : List FieldRow) : Type 0 where
-  pub within : place + n ≤ length octets
-  pub fields : AreFieldsIn (at place (whole octets)) (nested n (at place (whole octets))) rtype class rows
+-- Data of a type and a class, of n octets, is at an offset of the octets, and these are its fields.
+pub record AreFieldsOf (octets : List ℕ) (offset n rtype class : ℕ) (rows : List FieldRow) : Type 0 where
+  pub within : offset + n ≤ length octets
+  pub fields : AreFieldsIn (at offset (whole octets)) (nested n (at offset (whole octets))) rtype class rows

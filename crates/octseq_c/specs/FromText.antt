@@ -3,10 +3,10 @@ use Rattle.std.specs.Prelude.{◌≡◌, ℕ, ◌<◌, ◌≤◌, None, List, �
 use Rattle.octseq.specs.Integer.{octets_be}
 use Rattle.octseq_dns.specs.Contents.{Message, octets_of}
 use Rattle.octseq_dns.specs.Wire.{wire}
-use Rattle.octseq_dns_compose.specs.MessageText.{IsMessageText}
+use Rattle.octseq_dns_compose.specs.MessageText.{IsTextOfMessage}
 use Rattle.octseq_dns_compose.specs.RecordText.{Head, IsAnyRecord, IsRecordText}
 use Rattle.octseq_dns_scan.specs.Word.{AreWords}
-use Rattle.octseq_c.specs.Made.{places_kept}
+use Rattle.octseq_c.specs.Made.{offsets_kept}
 
 -- the octets of a record up to its data: its owner, its type, class and TTL, and the length of the data
 abbrev pub record_front : Head → ℕ → List ℕ
@@ -34,5 +34,5 @@ pub record IsLongRecord (text : List ℕ) : Type 0 where
 -- A text is that of a message, and these are its octets.
 pub record IsTextWire (text made : List ℕ) : Type 0 where
   pub message : Message
-  pub is : IsMessageText text message
-  pub made_is : made ≡ octets_of places_kept message
+  pub is : IsTextOfMessage text message
+  pub made_is : made ≡ octets_of offsets_kept message

@@ -17,9 +17,9 @@ use Rattle.octseq_dns_message.specs.declared.header.Header.{Header}
 use Rattle.octseq_c.specs.declared.rows.Row.{Row}
 use Rattle.octseq_c.specs.Texts.{IsNameAt, IsDataAt, IsTypedAt, Spells}
 
--- how many places of a message are kept for pointers to refer to
-abbrev pub places_kept : ℕ
-places_kept = 512
+-- how many offsets of a message are kept for pointers to refer to
+abbrev pub offsets_kept : ℕ
+offsets_kept = 512
 
 -- ---- a message composed anew
 
@@ -34,7 +34,7 @@ pub record IsRewritten (octets made : List ℕ) : Type 0 where
   pub moved : CanMove (answers ++ (authorities ++ additionals))
   pub contents : contents.Message
   pub same : IsMessageOf header questions answers authorities additionals contents
-  pub made_is : made ≡ octets_of places_kept contents
+  pub made_is : made ≡ octets_of offsets_kept contents
 
 -- The octets are a message whose data can't be moved.
 pub record IsImmovable (octets : List ℕ) : Type 0 where
@@ -61,7 +61,7 @@ pub record IsQuery (id flags : ℕ) (text : List ℕ) (qtype qclass : ℕ) (made
 
 -- ---- an answer
 
--- There is a name at a row's place of the octets, its data is within them, and its section is one of records.
+-- There is a name at a row's offset of the octets, its data is within them, and its section is one of records.
 pub record IsRow (source : List ℕ) (row : Row) : Type 0 where
   pub labels : List (List ℕ)
   pub name : IsNameAt source row.name_at labels
@@ -134,4 +134,4 @@ pub record IsAnswer (query : List ℕ) (flags : ℕ) (source : List ℕ) (rows :
   pub message : IsMessage query asked questions answers authorities additionals
   pub contents : contents.Message
   pub is : IsAnswerOf asked flags questions source rows contents
-  pub made_is : made ≡ octets_of places_kept contents
+  pub made_is : made ≡ octets_of offsets_kept contents

@@ -4,5 +4,5 @@ use Rattle.octseq_utf8.specs.Parts.{text}
 use Rattle.octseq_utf8.specs.Reading.{parts_of}
 
 -- octets that are their own lossy text, so they are well-formed
-abbrev pub IsText : List ℕ → Type 0
-IsText octets = text (parts_of octets) ≡ octets
+abbrev pub IsOwnText : List ℕ → Type 0
+IsOwnText octets = text (parts_of octets) ≡ octets

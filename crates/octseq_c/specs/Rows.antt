@@ -15,7 +15,7 @@ IsSomeMessage octets = (header : Header) × (questions : List Question) × (answ
     × IsMessage octets header questions answers authorities additionals
 
 -- The octets are a message, and this is its header.
-pub record HasHeader (octets : List ℕ) (row : DnsHeader) : Type 0 where
+pub record HasMessageHeader (octets : List ℕ) (row : DnsHeader) : Type 0 where
   pub header : Header
   pub questions : List Question
   pub answers : List Record

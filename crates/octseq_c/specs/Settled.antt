@@ -6,12 +6,12 @@ use Rattle.octseq.specs.Pieces.{Settles}
 use Rattle.octseq_text.specs.Progress.{Completes}
 use Rattle.octseq_text.specs.declared.completion.Completed.{Completed}
 
--- After `before` octets of text, the text of what is settled ends at `place`, and this is the open end.
-pub record IsMeasured (octets : List ℕ) (before place : ℕ) (open_end : List ℕ) : Type 0 where
+-- After `before` octets of text, the text of what is settled ends at `offset`, and this is the open end.
+pub record IsMeasured (octets : List ℕ) (before offset : ℕ) (open_end : List ℕ) : Type 0 where
   pub settled : List Part
   pub settles : Settles octets settled open_end
-  pub text_len : place ≡ before + length (text settled)
-  pub fits : place < 2 ^ 64
+  pub text_len : offset ≡ before + length (text settled)
+  pub fits : offset < 2 ^ 64
 
 -- After `before` octets of text, the text of what is settled is longer than a `usize` can say.
 pub record IsPastSize (octets : List ℕ) (before : ℕ) : Type 0 where
@@ -21,7 +21,7 @@ pub record IsPastSize (octets : List ℕ) (before : ℕ) : Type 0 where
   pub past : 2 ^ 64 - 1 < before + length (text settled)
 
 -- After `before` octets of text, there is room for the text of what is settled.
-pub record HasRoom (octets : List ℕ) (before room : ℕ) : Type 0 where
+pub record HasRoomForText (octets : List ℕ) (before room : ℕ) : Type 0 where
   pub settled : List Part
   pub end : List ℕ
   pub settles : Settles octets settled end

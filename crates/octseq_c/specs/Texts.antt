@@ -23,19 +23,19 @@ pub record IsTextOf (octets text : List ℕ) : Type 0 where
   pub message : IsMessage octets header questions answers authorities additionals
   pub text_is : IsMessageText header questions answers authorities additionals text
 
--- A name is at a place of the octets, and has these labels.
-pub record IsNameAt (octets : List ℕ) (place : ℕ) (labels : List (List ℕ)) : Type 0 where
-  pub within : place ≤ length octets
+-- A name is at an offset of the octets, and has these labels.
+pub record IsNameAt (octets : List ℕ) (offset : ℕ) (labels : List (List ℕ)) : Type 0 where
+  pub within : offset ≤ length octets
   pub end : Window
-  pub name : IsName (at place (whole octets)) labels end
+  pub name : IsName (at offset (whole octets)) labels end
 
 -- its text
 abbrev pub IsNameText : List ℕ → ℕ → List ℕ → Type 0
-IsNameText octets place text = (labels : List (List ℕ)) × IsNameAt octets place labels × (text ≡ name_text labels)
+IsNameText octets offset text = (labels : List (List ℕ)) × IsNameAt octets offset labels × (text ≡ name_text labels)
 
 -- its wire form
 abbrev pub IsNameWire : List ℕ → ℕ → List ℕ → Type 0
-IsNameWire octets place made = (labels : List (List ℕ)) × IsNameAt octets place labels × (made ≡ wire labels)
+IsNameWire octets offset made = (labels : List (List ℕ)) × IsNameAt octets offset labels × (made ≡ wire labels)
 
 -- A text spells a name, which has these labels.
 pub record Spells (text : List ℕ) (labels : List (List ℕ)) : Type 0 where
@@ -48,17 +48,17 @@ pub record Spells (text : List ℕ) (labels : List (List ℕ)) : Type 0 where
 abbrev pub IsSpelledWire : List ℕ → List ℕ → Type 0
 IsSpelledWire text made = (labels : List (List ℕ)) × Spells text labels × (made ≡ wire labels)
 
--- Data of a type and a class, of n octets, is at a place of the octets, and says this.
-pub record IsDataAt (octets : List ℕ) (place n rtype class : ℕ) (rdata : ParsedRdata) : Type 0 where
-  pub within : place + n ≤ length octets
-  pub says : SaysData rtype class (at place (whole octets)) (nested n (at place (whole octets))) rdata
+-- Data of a type and a class, of n octets, is at an offset of the octets, and says this.
+pub record IsDataAt (octets : List ℕ) (offset n rtype class : ℕ) (rdata : ParsedRdata) : Type 0 where
+  pub within : offset + n ≤ length octets
+  pub says : SaysData rtype class (at offset (whole octets)) (nested n (at offset (whole octets))) rdata
 
 -- it has the form of its type
-pub record IsTypedAt (octets : List ℕ) (place n rtype class : ℕ) (rdata : ParsedRdata) : Type 0 where
-  pub within : place + n ≤ length octets
-  pub typed : IsTypedData rtype class (at place (whole octets)) (nested n (at place (whole octets))) rdata
+pub record IsTypedAt (octets : List ℕ) (offset n rtype class : ℕ) (rdata : ParsedRdata) : Type 0 where
+  pub within : offset + n ≤ length octets
+  pub typed : IsTypedData rtype class (at offset (whole octets)) (nested n (at offset (whole octets))) rdata
 
 -- the text of data
 abbrev pub IsDataText : List ℕ → ℕ → ℕ → ℕ → ℕ → List ℕ → Type 0
-IsDataText octets place n rtype class text =
-    (rdata : ParsedRdata) × IsDataAt octets place n rtype class rdata × (text ≡ rdata_text rdata)
+IsDataText octets offset n rtype class text =
+    (rdata : ParsedRdata) × IsDataAt octets offset n rtype class rdata × (text ≡ rdata_text rdata)

@@ -5,7 +5,7 @@ use Rattle.octseq_dns.specs.Contents.{octets_of}
 use Rattle.octseq_dns.specs.Entry.{Question, Record}
 use Rattle.octseq_dns.specs.Message.{IsMessage}
 use Rattle.octseq_dns_message.specs.declared.header.Header.{Header}
-use Rattle.octseq_c.specs.Made.{IsAnswerOf, places_kept}
+use Rattle.octseq_c.specs.Made.{IsAnswerOf, offsets_kept}
 use Rattle.octseq_c.specs.declared.rows.Row.{Row}
 
 -- flags without TC, which has the weight 512
@@ -24,12 +24,12 @@ module _ (asked : Header) (flags : ℕ) (questions : List Question) (source : Li
   -- it has no more octets than a limit
   abbrev pub FitsUpTo : ℕ → ℕ → Type 0
   FitsUpTo limit count =
-      (m : contents.Message) × IsAnswerUpTo count m × (length (octets_of places_kept m) ≤ limit)
+      (m : contents.Message) × IsAnswerUpTo count m × (length (octets_of offsets_kept m) ≤ limit)
 
   -- it has more
   abbrev pub IsPastUpTo : ℕ → ℕ → Type 0
   IsPastUpTo limit count =
-      (m : contents.Message) → IsAnswerUpTo count m → limit < length (octets_of places_kept m)
+      (m : contents.Message) → IsAnswerUpTo count m → limit < length (octets_of offsets_kept m)
 
   -- The records of all rows exceed a limit, and so do those of one row more than `count`, but not those of fewer.
   pub record IsCutAt (limit count : ℕ) : Type 0 where
@@ -55,7 +55,7 @@ pub record IsAnswerWithin (query : List ℕ) (flags : ℕ) (source : List ℕ) (
   pub keeps : KeepsUpTo asked flags questions source rows limit count
   pub contents : contents.Message
   pub is : IsAnswerUpTo asked flags questions source rows count contents
-  pub made_is : made ≡ octets_of places_kept contents
+  pub made_is : made ≡ octets_of offsets_kept contents
 
 -- The octets are a message, and its questions alone exceed a limit, or there are more than 65,535 rows.
 pub record IsTooLongWithin (query : List ℕ) (flags : ℕ) (source : List ℕ) (rows : List Row) (limit : ℕ) : Type 0 where

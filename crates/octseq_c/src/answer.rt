@@ -7,11 +7,11 @@ ghost use Rattle.octseq_dns.specs.Contents.{octets_of, record_entry};
 ghost use Rattle.octseq_dns.specs.Parsed.{header_of, questions_of};
 ghost use Rattle.octseq_dns.specs.ReadBack.{bare};
 ghost use Rattle.octseq_dns.specs.State.{with_entry};
-ghost use Rattle.octseq_dns.specs.Writes.{Writes, all_more};
+ghost use Rattle.octseq_dns.specs.Writes.{ComposesMessage, all_more};
 ghost use Rattle.octseq_dns_message.specs.declared.header.Header.{Header as Fields};
 ghost use Rattle.octseq_c.specs.Made.{CanMoveRow, HasRecordsOf, IsAnswer, IsAnswerHeader, IsAnswerOf, IsRecordAt};
 ghost use Rattle.octseq_c.specs.Made.{IsRow};
-ghost use Rattle.octseq_c.specs.Made.{in_section, places_kept, without_records};
+ghost use Rattle.octseq_c.specs.Made.{in_section, offsets_kept, without_records};
 ghost use Rattle.octseq_c.specs.Puts.{Copies, Puts};
 ghost use Rattle.octseq_c.specs.Rows.{IsSomeMessage};
 ghost use Rattle.octseq_c.specs.Status.{status_ok, status_no_room, status_malformed, status_immovable};
@@ -33,8 +33,8 @@ use octseq_dns::message::MESSAGE_MAX;
 use octseq_dns::moved::data_may_have_names;
 use octseq_dns::{Class, Flags, Header, Malformed, Message, Rtype, Ttl};
 
-/// Writes the answer to a message to the front of `out`. Its records are the rows, each in its section, in order; the
-/// names and the data of the rows are in `source`.
+/// Writes the answer to a message to the front of `out`. Its records are the rows, each in its section, in
+/// order; the names and the data of the rows are in `source`.
 #[unsafe(no_mangle)]
 pub extern "C" fn octseq_dns_answer(
     query: &[u8],
@@ -82,7 +82,7 @@ pub fn are_rows(source: &[u8], rows: &[Row]) -> bool
     true
 }
 
-/// Whether there is a name at a row's place, its data is within the octets, and its section is one of records.
+/// Whether there is a name at a row's offset, its data is within the octets, and its section is one of records.
 fn is_row(source: &[u8], row: &Row) -> bool
     ensures { IsTrue result ↔ IsRow source.now row.now }
 {
@@ -128,11 +128,11 @@ pub fn answer_to(
     requires { AllByRecursion (IsRow source.now) rows.now }
     ensures made { IfOk result (λ status. (m : contents.Message)
         × IsAnswerOf (header_of message.now) flags (questions_of message.now) source.now rows.now m
-        × (length (octets_of places_kept m) ≤ 65535)
-        × Copies (octets_of places_kept m) status out.old out.new written.new) }
+        × (length (octets_of offsets_kept m) ≤ 65535)
+        × Copies (octets_of offsets_kept m) status out.old out.new written.new) }
     ensures short { IsErr result → (m : contents.Message)
         → IsAnswerOf (header_of message.now) flags (questions_of message.now) source.now rows.now m
-        → (length rows.now ≤ 65535) → 65535 < length (octets_of places_kept m) }
+        → (length rows.now ≤ 65535) → 65535 < length (octets_of offsets_kept m) }
     ensures kept { OnErr result (out.new ≡ out.old) }
 {
     match answer_within::<FEW>(message, flags, source, rows, out, written) {
@@ -156,11 +156,11 @@ fn answer_within<const N: usize>(
     requires least { 12 ≤ N }
     ensures made { IfOk result (λ status. (m : contents.Message)
         × IsAnswerOf (header_of message.now) flags (questions_of message.now) source.now rows.now m
-        × (length (octets_of places_kept m) ≤ N)
-        × Copies (octets_of places_kept m) status out.old out.new written.new) }
+        × (length (octets_of offsets_kept m) ≤ N)
+        × Copies (octets_of offsets_kept m) status out.old out.new written.new) }
     ensures short { IsErr result → (m : contents.Message)
         → IsAnswerOf (header_of message.now) flags (questions_of message.now) source.now rows.now m
-        → (length rows.now ≤ 65535) → N < length (octets_of places_kept m) }
+        → (length rows.now ≤ 65535) → N < length (octets_of offsets_kept m) }
     ensures kept { OnErr result (out.new ≡ out.old) }
 {
     let mut room = Array::<N>::new();
@@ -189,10 +189,10 @@ fn answer<'a, const N: usize>(
     requires least { 12 ≤ N }
     ensures made { IfOk result (λ made. (m : contents.Message)
         × IsAnswerOf (header_of message.now) flags (questions_of message.now) source.now rows.now m
-        × (made.now.content ≡ octets_of places_kept m)) }
+        × (made.now.content ≡ octets_of offsets_kept m)) }
     ensures short { IsErr result → (m : contents.Message)
         → IsAnswerOf (header_of message.now) flags (questions_of message.now) source.now rows.now m
-        → (length rows.now ≤ 65535) → N < length (octets_of places_kept m) }
+        → (length rows.now ≤ 65535) → N < length (octets_of offsets_kept m) }
 {
     let begun = begin_answer(message, flags, room, table)?;
     let whole = push_sections(begun, source, rows)?;
@@ -211,10 +211,10 @@ fn begin_answer<'a, const N: usize>(
     ensures header { OnOk result ((header : Fields) × IsAnswerHeader (header_of message.now) flags header) }
     ensures written { IfOk result (λ b. (m : contents.Message)
         → IsAnswerHeader (header_of message.now) flags m.header → m.questions ≡ map bare (questions_of message.now)
-        → Writes places_kept (without_records m) b.state b.header b.counts) }
+        → ComposesMessage offsets_kept (without_records m) b.state b.header b.counts) }
     ensures unlimited { IfOk result (λ b. b.push_limit ≡ None) }
     ensures short { IsErr result → (m : contents.Message)
-        → m.questions ≡ map bare (questions_of message.now) → N < length (octets_of places_kept m) }
+        → m.questions ≡ map bare (questions_of message.now) → N < length (octets_of offsets_kept m) }
 {
     let header = answer_header(&message.header(), flags);
     let begun = MessageBuilder::from_builder(room, table)?;
@@ -251,11 +251,11 @@ fn push_sections<'a, const N: usize>(
     requires unlimited { answers.push_limit ≡ None }
     ensures records { OnOk result ((m : contents.Message) × HasRecordsOf source.now rows.now m) }
     ensures written { IfOk result (λ b. (m : contents.Message) → HasRecordsOf source.now rows.now m
-        → Writes places_kept (without_records m) answers.entry.state answers.entry.header answers.entry.counts
-        → Writes places_kept m b.state b.header b.counts) }
+        → ComposesMessage offsets_kept (without_records m) answers.entry.state answers.entry.header answers.entry.counts
+        → ComposesMessage offsets_kept m b.state b.header b.counts) }
     ensures short { IsErr result → (m : contents.Message) → HasRecordsOf source.now rows.now m
-        → Writes places_kept (without_records m) answers.entry.state answers.entry.header answers.entry.counts
-        → (length rows.now ≤ 65535) → N < length (octets_of places_kept m) }
+        → ComposesMessage offsets_kept (without_records m) answers.entry.state answers.entry.header answers.entry.counts
+        → (length rows.now ≤ 65535) → N < length (octets_of offsets_kept m) }
 {
     let answered = push_rows(answers, source, rows, 1)?;
     let authorized = push_rows(answered.authority(), source, rows, 2)?;
@@ -275,15 +275,15 @@ fn push_rows<'a, const N: usize, S: RecordSection>(
     ensures records { OnOk result ((written : List contents.Record)
         × AllZip (IsRecordAt source.now) (in_section section rows.now) written) }
     ensures written { IfOk result (λ b. (m : contents.Message) (written : List contents.Record)
-        → Writes places_kept m builder.entry.state builder.entry.header builder.entry.counts
+        → ComposesMessage offsets_kept m builder.entry.state builder.entry.header builder.entry.counts
         → AllZip (IsRecordAt source.now) (in_section section rows.now) written
-        → Writes places_kept (all_more S.more m written) b.state b.header b.counts) }
+        → ComposesMessage offsets_kept (all_more S.more m written) b.state b.header b.counts) }
     ensures unlimited { IfOk result (λ b. b.push_limit ≡ None) }
     ensures short { IsErr result → (m : contents.Message) (written : List contents.Record)
-        → Writes places_kept m builder.entry.state builder.entry.header builder.entry.counts
+        → ComposesMessage offsets_kept m builder.entry.state builder.entry.header builder.entry.counts
         → AllZip (IsRecordAt source.now) (in_section section rows.now) written
         → (S.count builder.entry.counts + length rows.now ≤ 65535)
-        → N < length (octets_of places_kept (all_more S.more m written)) }
+        → N < length (octets_of offsets_kept (all_more S.more m written)) }
 {
     let mut message = builder;
     for row in rows {
@@ -306,9 +306,9 @@ fn push_row<const N: usize, S: RecordSection>(
     requires unlimited { message.old.push_limit ≡ None }
     ensures pushed { (one : contents.Record) × IsRecordAt source.now row.now one
         × OnOk result ((m : contents.Message)
-        → Writes places_kept m message.old.state message.old.header message.old.counts
-        → Writes places_kept (S.more m one) message.new.state message.new.header message.new.counts)
-        × (IsErr result → (N < length (with_entry places_kept message.old.state (record_entry one)).octets)
+        → ComposesMessage offsets_kept m message.old.state message.old.header message.old.counts
+        → ComposesMessage offsets_kept (S.more m one) message.new.state message.new.header message.new.counts)
+        × (IsErr result → (N < length (with_entry offsets_kept message.old.state (record_entry one)).octets)
         ⊎ (65535 ≤ S.count message.old.counts)) }
     ensures counts { OnOk result (S.count message.new.counts ≡ S.count message.old.counts + 1) }
     ensures reaches { S.reaches message.old.counts }

@@ -65,7 +65,7 @@ pub extern "C" fn octseq_dns_data_text(
     }
 }
 
-/// Reads the data at a place of the octets.
+/// Reads the data at an offset of the octets.
 pub fn data_of(
     octets: &[u8],
     data_at: usize,
@@ -84,15 +84,15 @@ pub fn data_of(
     }
 }
 
-/// Returns a parser of the octets at a place, and one of the `len` octets there alone.
-pub fn place_of(octets: &[u8], place: usize, len: usize) -> Option<(Parser<&[u8]>, Parser<&[u8]>)>
-    ensures some { IfSome result (λ found. (place + len ≤ length octets.now)
-        × (window found.0 ≡ at place (whole octets.now))
-        × (window found.1 ≡ nested len (at place (whole octets.now)))) }
-    ensures none { IfNone result (length octets.now < place + len) }
+/// Returns a parser of the octets at an offset, and one of the `len` octets there alone.
+pub fn place_of(octets: &[u8], offset: usize, len: usize) -> Option<(Parser<&[u8]>, Parser<&[u8]>)>
+    ensures some { IfSome result (λ found. (offset + len ≤ length octets.now)
+        × (window found.0 ≡ at offset (whole octets.now))
+        × (window found.1 ≡ nested len (at offset (whole octets.now)))) }
+    ensures none { IfNone result (length octets.now < offset + len) }
 {
     let mut message = Parser::from_ref(octets);
-    message.seek(place).ok()?;
+    message.seek(offset).ok()?;
     let mut ahead = message;
     let inside = ahead.parse_parser(len).ok()?;
     Some((message, inside))

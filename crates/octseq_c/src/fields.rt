@@ -6,11 +6,11 @@ ghost use Rattle.octseq.specs.Parser.{window};
 ghost use Rattle.octseq.specs.Window.{Window, left};
 ghost use Rattle.octseq_dns_data.specs.Layout.{layout_value};
 ghost use Rattle.octseq_format.specs.Walk.{items_left};
-ghost use Rattle.octseq_c.specs.Fields.{AreFields, AreFieldsIn, AreFieldsOf, AreKnownFields, AreLayoutRows};
+ghost use Rattle.octseq_c.specs.Fields.{AreFieldRows, AreFieldsIn, AreFieldsOf, AreKnownFields, AreLayoutRows};
 ghost use Rattle.octseq_c.specs.Fields.{AreParameters};
 ghost use Rattle.octseq_c.specs.Fields.{AreStrings, AreTailRows, AreTypedFields, IsAddressField, IsField, IsNameField};
 ghost use Rattle.octseq_c.specs.Fields.{IsNumberField, IsStringField, name_row, number_row, parameter_row, range_row};
-ghost use Rattle.octseq_c.specs.Puts.{Copies, Fills, Puts};
+ghost use Rattle.octseq_c.specs.Puts.{Copies, FillsPrefix, Puts};
 ghost use Rattle.octseq_c.specs.Status.{status_ok, status_no_room, status_malformed};
 
 use crate::data::place_of;
@@ -63,8 +63,8 @@ pub struct FieldRow {
     /// Where its octets begin, from the first octet of the message, or 0 for a number. Those of a character string and
     /// of a parameter's value begin after their length.
     pub at: usize,
-    /// How many octets there are, or 0 for a number. Those of a name are the octets at its place, with the pointer that
-    /// may end them.
+    /// How many octets there are, or 0 for a number. Those of a name are the octets at its offset, with the pointer
+    /// that may end them.
     pub len: usize,
     /// The number, or the key of a parameter, otherwise 0.
     pub number: u32,
@@ -186,10 +186,10 @@ fn take_fields<R: AsOctets + Copy>(
 ) -> Result<(), Malformed>
     requires room { length fields.now ≤ length front.old }
     ensures ok { IfOk result (λ _. (rows : List FieldRow)
-        × AreFields fields.now (window parser.old) rows (window parser.new) × (length rows ≡ length fields.now)
+        × AreFieldRows fields.now (window parser.old) rows (window parser.new) × (length rows ≡ length fields.now)
         × (front.new ≡ rows ++ drop (length fields.now) front.old)) }
     ensures malformed { IsErr result → (rows : List FieldRow) (end : Window)
-        → ¬ AreFields fields.now (window parser.old) rows end }
+        → ¬ AreFieldRows fields.now (window parser.old) rows end }
     ensures onward { left (window parser.new) ≤ left (window parser.old) }
 {
     let mut at = 0;
@@ -387,7 +387,7 @@ fn put_first(front: &[FieldRow], more: usize, out: &mut [FieldRow], count: &mut 
     requires few { length front.now + more < 2 ^ 64 }
     ensures count { count.new ≡ length front.now + more }
     ensures fits { IsTrue result → (length front.now + more ≤ length out.old)
-        × Fills front.now out.old out.new }
+        × FillsPrefix front.now out.old out.new }
     ensures short { IsFalse result → (length out.old < length front.now + more) × (out.new ≡ out.old) }
 {
     *count = front.len() + more;

@@ -6,10 +6,10 @@ ghost use Rattle.octseq_dns_compose.specs.MessageText.{IsAnyText};
 ghost use Rattle.octseq_dns_compose.specs.Read.{head_of};
 ghost use Rattle.octseq_dns_compose.specs.RecordText.{BeginsWithList, IsAnyRecord};
 ghost use Rattle.octseq_dns_compose.specs.TextLines.{IsLineFault};
-ghost use Rattle.octseq_dns_compose.specs.TooLong.{HasListLine, IsTooLong};
-ghost use Rattle.octseq_dns_text.specs.Scans.{IsFault};
+ghost use Rattle.octseq_dns_compose.specs.TooLong.{HasListLine, IsMessageTooLong};
+ghost use Rattle.octseq_dns_text.specs.Scans.{IsWordFault};
 ghost use Rattle.octseq_c.specs.FromText.{IsLongRecord, IsRecordWire, IsTextWire, record_front};
-ghost use Rattle.octseq_c.specs.Made.{places_kept};
+ghost use Rattle.octseq_c.specs.Made.{offsets_kept};
 ghost use Rattle.octseq_c.specs.Puts.{Copies, Puts};
 ghost use Rattle.octseq_c.specs.Status.{status_ok, status_no_room, status_malformed, status_too_long, status_memory};
 
@@ -41,7 +41,7 @@ pub extern "C" fn octseq_dns_record_from_text(
     offset: &mut usize,
 ) -> u32
     ensures puts { Puts (IsRecordWire text.now) result out.old out.new written.new }
-    ensures malformed { result ≡ status_malformed → IsFault (IsAnyRecord None) text.now 0 offset.new }
+    ensures malformed { result ≡ status_malformed → IsWordFault (IsAnyRecord None) text.now 0 offset.new }
     ensures too_long { result ≡ status_too_long → IsLongRecord text.now }
     ensures memory { result ≡ status_memory → BeginsWithList None text.now }
     ensures only { (result ≡ status_ok) ⊎ (result ≡ status_no_room) ⊎ (result ≡ status_malformed)
@@ -116,9 +116,9 @@ pub extern "C" fn octseq_dns_message_from_text(
 ) -> u32
     ensures puts { Puts (IsTextWire text.now) result out.old out.new written.new }
     ensures malformed { result ≡ status_malformed → IsLineFault IsAnyText text.now 1 line.new offset.new }
-    ensures too_long { result ≡ status_too_long → IsTooLong places_kept (Some 65535) text.now }
+    ensures too_long { result ≡ status_too_long → IsMessageTooLong offsets_kept (Some 65535) text.now }
     ensures not_long { result ≢ status_too_long → result ≢ status_memory
-        → ¬ IsTooLong places_kept (Some 65535) text.now }
+        → ¬ IsMessageTooLong offsets_kept (Some 65535) text.now }
     ensures memory { result ≡ status_memory → HasListLine text.now }
     ensures fits { written.new ≤ 65535 }
     ensures only { (result ≡ status_ok) ⊎ (result ≡ status_no_room) ⊎ (result ≡ status_malformed)

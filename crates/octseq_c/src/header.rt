@@ -3,7 +3,7 @@ ghost use Rattle.std.specs.Prelude.{◌≡◌, ◌≢◌, ◌↔◌, ◌⊎◌, 
 ghost use Rattle.octseq_dns.specs.Flag.{flag};
 ghost use Rattle.octseq_dns.specs.Header.{flag_bits};
 ghost use Rattle.octseq_dns.specs.Parsed.{header_of, questions_of, answers_of, authorities_of, additionals_of};
-ghost use Rattle.octseq_c.specs.Rows.{HasHeader, IsSomeMessage};
+ghost use Rattle.octseq_c.specs.Rows.{HasMessageHeader, IsSomeMessage};
 ghost use Rattle.octseq_c.specs.Status.{status_ok, status_malformed};
 
 use crate::message::message_of;
@@ -31,7 +31,7 @@ pub struct DnsHeader {
 /// Reads the header of the message that the octets are.
 #[unsafe(no_mangle)]
 pub extern "C" fn octseq_dns_message_header(octets: &[u8], header: &mut DnsHeader) -> u32
-    ensures ok { result ≡ status_ok → HasHeader octets.now header.new }
+    ensures ok { result ≡ status_ok → HasMessageHeader octets.now header.new }
     ensures malformed { (result ≡ status_malformed) ↔ ¬ IsSomeMessage octets.now }
     ensures only { (result ≡ status_ok) ⊎ (result ≡ status_malformed) }
     ensures kept { result ≢ status_ok → header.new ≡ header.old }

@@ -7,17 +7,17 @@ ghost use Rattle.octseq_c.specs.Rows.{IsSomeMessage};
 ghost use Rattle.octseq_c.specs.Status.{status_ok, status_malformed};
 
 use crate::status::{MALFORMED, OK};
-use octseq_dns::message::place_of_fault;
+use octseq_dns::message::fault_offset;
 use octseq_dns::{Malformed, Message};
 
 /// Reports whether the octets are a message, and where reading stops: for a message at its end.
 #[unsafe(no_mangle)]
-pub extern "C" fn octseq_dns_message_fault(octets: &[u8], place: &mut usize) -> u32
-    ensures place { IsStop octets.now place.new }
+pub extern "C" fn octseq_dns_message_fault(octets: &[u8], offset: &mut usize) -> u32
+    ensures offset { IsStop octets.now offset.new }
     ensures malformed { (result ≡ status_malformed) ↔ ¬ IsSomeMessage octets.now }
     ensures only { (result ≡ status_ok) ⊎ (result ≡ status_malformed) }
 {
-    *place = place_of_fault(octets);
+    *offset = fault_offset(octets);
     match message_of(octets) {
         Ok(_) => OK,
         Err(Malformed) => MALFORMED,

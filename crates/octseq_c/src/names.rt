@@ -20,23 +20,23 @@ use octseq_dns::{DomainName, Malformed, Name, ParsedName};
 use octseq_format::Format;
 use std::cmp::Ordering;
 
-/// Writes the text of the name at a place of the octets to the front of `out`.
+/// Writes the text of the name at an offset of the octets to the front of `out`.
 #[unsafe(no_mangle)]
 pub extern "C" fn octseq_dns_name_text(
     octets: &[u8],
-    place: usize,
+    offset: usize,
     out: &mut [u8],
     written: &mut usize,
 ) -> u32
-    ensures puts { Puts (IsNameText octets.now place) result out.old out.new written.new }
+    ensures puts { Puts (IsNameText octets.now offset) result out.old out.new written.new }
     ensures malformed { (result ≡ status_malformed)
-        ↔ ((labels : List (List ℕ)) → ¬ IsNameAt octets.now place labels) }
+        ↔ ((labels : List (List ℕ)) → ¬ IsNameAt octets.now offset labels) }
     ensures only { (result ≡ status_ok) ⊎ (result ≡ status_no_room) ⊎ (result ≡ status_malformed)
         ⊎ (result ≡ status_unshown) }
-    ensures utf8 { result ≡ status_ok → (text : List ℕ) → IsNameText octets.now place text → IsWellFormed text }
+    ensures utf8 { result ≡ status_ok → (text : List ℕ) → IsNameText octets.now offset text → IsWellFormed text }
     ensures kept { result ≢ status_ok → result ≢ status_unshown → out.new ≡ out.old }
 {
-    match name_at(octets, place) {
+    match name_at(octets, offset) {
         Ok(name) => show(&name, out, written),
         Err(Malformed) => {
             *written = 0;
@@ -45,21 +45,21 @@ pub extern "C" fn octseq_dns_name_text(
     }
 }
 
-/// Writes the wire form of the name at a place of the octets to the front of `out`.
+/// Writes the wire form of the name at an offset of the octets to the front of `out`.
 #[unsafe(no_mangle)]
 pub extern "C" fn octseq_dns_name_wire(
     octets: &[u8],
-    place: usize,
+    offset: usize,
     out: &mut [u8],
     written: &mut usize,
 ) -> u32
-    ensures puts { Puts (IsNameWire octets.now place) result out.old out.new written.new }
+    ensures puts { Puts (IsNameWire octets.now offset) result out.old out.new written.new }
     ensures malformed { (result ≡ status_malformed)
-        ↔ ((labels : List (List ℕ)) → ¬ IsNameAt octets.now place labels) }
+        ↔ ((labels : List (List ℕ)) → ¬ IsNameAt octets.now offset labels) }
     ensures only { (result ≡ status_ok) ⊎ (result ≡ status_no_room) ⊎ (result ≡ status_malformed) }
     ensures kept { result ≢ status_ok → out.new ≡ out.old }
 {
-    match name_at(octets, place) {
+    match name_at(octets, offset) {
         Ok(name) => put(wire_of(&name).as_slice(), out, written),
         Err(Malformed) => {
             *written = 0;
@@ -85,23 +85,23 @@ pub extern "C" fn octseq_dns_name_from_text(text: &[u8], out: &mut [u8], written
     }
 }
 
-/// Compares the name at one place with that at another: -1, 0 or 1.
+/// Compares the name at one offset with that at another: -1, 0 or 1.
 #[unsafe(no_mangle)]
 pub extern "C" fn octseq_dns_name_compare(
     one: &[u8],
     one_place: usize,
     other: &[u8],
-    other_place: usize,
+    other_offset: usize,
     order: &mut i32,
 ) -> u32
     ensures ok { result ≡ status_ok → (labels others : List (List ℕ)) → IsNameAt one.now one_place labels
-        → IsNameAt other.now other_place others → IsOrder (name_cmp labels others) order.new }
+        → IsNameAt other.now other_offset others → IsOrder (name_cmp labels others) order.new }
     ensures malformed { (result ≡ status_malformed)
         ↔ ((labels others : List (List ℕ)) → IsNameAt one.now one_place labels
-        → ¬ IsNameAt other.now other_place others) }
+        → ¬ IsNameAt other.now other_offset others) }
     ensures only { (result ≡ status_ok) ⊎ ((result ≡ status_malformed) × (order.new ≡ pos 2)) }
 {
-    match (name_at(one, one_place), name_at(other, other_place)) {
+    match (name_at(one, one_place), name_at(other, other_offset)) {
         (Ok(name), Ok(other)) => {
             *order = number_of(name.name_cmp(&other));
             OK
@@ -124,13 +124,13 @@ fn number_of(order: Ordering) -> i32
     }
 }
 
-/// Reads the name at a place of the octets.
-pub fn name_at(octets: &[u8], place: usize) -> Result<ParsedName<&[u8]>, Malformed>
-    ensures name { IfOk result (λ name. IsNameAt octets.now place (labels_of name)) }
-    ensures malformed { OnErr result ((labels : List (List ℕ)) → ¬ IsNameAt octets.now place labels) }
+/// Reads the name at an offset of the octets.
+pub fn name_at(octets: &[u8], offset: usize) -> Result<ParsedName<&[u8]>, Malformed>
+    ensures name { IfOk result (λ name. IsNameAt octets.now offset (labels_of name)) }
+    ensures malformed { OnErr result ((labels : List (List ℕ)) → ¬ IsNameAt octets.now offset labels) }
 {
     let mut parser = Parser::from_ref(octets);
-    match parser.seek(place) {
+    match parser.seek(offset) {
         Ok(()) => ParsedName::parse(&mut parser),
         Err(_) => Err(Malformed),
     }
@@ -141,6 +141,7 @@ fn wire_of(name: &ParsedName<&[u8]>) -> Array<255>
     ensures { result.content ≡ wire (labels_of name.now) }
 {
     a_name_has_labels(name);
+    // A name has at most 255 octets.
     let _len = name.len();
     let mut octets = Array::<255>::new();
     infallible(DomainName::put(&mut octets, name));
@@ -156,6 +157,7 @@ pub fn spelled(text: &[u8]) -> Option<Name<Array<255>>>
     match Name::from_text(text.as_str()) {
         Ok(name) => {
             a_name_has_labels(&name.parsed());
+            // A name has at most 255 octets.
             let _len = name.len();
             Some(name)
         }

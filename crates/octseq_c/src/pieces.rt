@@ -4,7 +4,7 @@ ghost use Rattle.std.specs.Prelude.{IsTrue, IsSome, IfSome, IfNone};
 ghost use Rattle.std.specs.List.{concat};
 ghost use Rattle.octseq.specs.Parts.{IsBeginning, Part, Splits, text};
 ghost use Rattle.octseq.specs.Pieces.{Settles};
-ghost use Rattle.octseq_text.specs.Progress.{IsRead};
+ghost use Rattle.octseq_text.specs.Progress.{HasReadParts};
 ghost use Rattle.octseq_c.specs.LossyText.{IsSettledText, IsState, IsTextOfPieces, end_text, held};
 ghost use Rattle.octseq_c.specs.Puts.{Puts};
 ghost use Rattle.octseq_c.specs.Settled.{IsCompleted};
@@ -160,7 +160,7 @@ fn completed(held: &[u8], piece: &[u8]) -> Option<Completed>
 fn split<'a>(completed: &'a Option<Completed>, piece: &'a [u8]) -> (&'a [u8], &'a [u8])
     requires { (held : List ℕ) × IsCompleted held piece.now completed.now }
     ensures { (held : List ℕ) → IsCompleted held piece.now completed.now
-        → IsRead (held ++ piece.now) result.1.now [] result.0.now }
+        → HasReadParts (held ++ piece.now) result.1.now [] result.0.now }
 {
     match completed {
         None => (b"", piece),

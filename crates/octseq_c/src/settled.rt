@@ -3,7 +3,7 @@ ghost use Rattle.std.specs.Prelude.{◌≡◌, ◌+◌, ◌≤◌, ◌++◌, ℕ
 ghost use Rattle.octseq.specs.Parts.{Part, text};
 ghost use Rattle.octseq.specs.Pieces.{Settles};
 ghost use Rattle.octseq_c.specs.LossyText.{end_text};
-ghost use Rattle.octseq_c.specs.Settled.{HasRoom, IsMeasured, IsPastSize};
+ghost use Rattle.octseq_c.specs.Settled.{HasRoomForText, IsMeasured, IsPastSize};
 
 use octseq::utf8::chunks;
 
@@ -42,7 +42,7 @@ pub fn measure(octets: &[u8], before: usize) -> Option<Extent<'_>>
 
 /// Writes the text of what is settled, from index `before` on. Returns the index after it.
 pub fn fill(out: &mut [u8], before: usize, octets: &[u8]) -> usize
-    requires { HasRoom octets.now before (length out.old) }
+    requires { HasRoomForText octets.now before (length out.old) }
     ensures { (settled : List Part) (end : List ℕ) → Settles octets.now settled end
         → (result ≡ before + length (text settled))
         × (out.new ≡ (take before out.old ++ text settled) ++ drop result out.old) }

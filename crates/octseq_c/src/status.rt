@@ -18,7 +18,7 @@ pub const IMMOVABLE: u32 = 4;
 /// A message would exceed 65,535 octets, or a text is longer than a `usize` can say.
 pub const TOO_LONG: u32 = 5;
 
-/// There is no name at a row's place, its data isn't within the octets, or its section doesn't exist.
+/// There is no name at a row's offset, its data isn't within the octets, or its section doesn't exist.
 pub const BAD_ROW: u32 = 6;
 
 /// The state of a reading in pieces isn't valid.

@@ -1,7 +1,7 @@
 //! A table of the labels that compression pointers can lead to.
 ghost use Rattle.std.specs.Prelude.{false};
 ghost use Rattle.octseq_dns_compress.specs.Few.{array_few};
-ghost use Rattle.octseq_c.specs.Made.{places_kept};
+ghost use Rattle.octseq_c.specs.Made.{offsets_kept};
 
 use octseq_dns_compress::{Compressor, StaticCompressor, Target};
 use std::alloc::AllocError;
@@ -19,7 +19,7 @@ pub struct LentTable<'a> {
 impl<'a> Compressor for LentTable<'a> {
     ghost held = { λ lent. lent.table.now.items };
 
-    ghost most = { places_kept };
+    ghost most = { offsets_kept };
 
     ghost few = { array_few 512 };
 
@@ -38,7 +38,7 @@ impl<'a> Compressor for LentTable<'a> {
         Ok(())
     }
 
-    fn keep_before(&mut self, place: usize) {
-        self.table.keep_before(place);
+    fn keep_before(&mut self, offset: usize) {
+        self.table.keep_before(offset);
     }
 }

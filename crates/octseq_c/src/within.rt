@@ -4,7 +4,7 @@ ghost use Rattle.std.specs.List.{AllByRecursion};
 ghost use Rattle.octseq_dns.specs.Contents as contents;
 ghost use Rattle.octseq_dns.specs.Contents.{octets_of};
 ghost use Rattle.octseq_dns.specs.Parsed.{header_of, questions_of};
-ghost use Rattle.octseq_c.specs.Made.{CanMoveRow, IsRow, places_kept};
+ghost use Rattle.octseq_c.specs.Made.{CanMoveRow, IsRow, offsets_kept};
 ghost use Rattle.octseq_c.specs.Puts.{Copies, Puts};
 ghost use Rattle.octseq_c.specs.Rows.{IsSomeMessage};
 ghost use Rattle.octseq_c.specs.Status.{status_ok, status_no_room, status_malformed, status_immovable};
@@ -75,8 +75,8 @@ fn answer_kept(
     requires fits { FitsUpTo (header_of message.now) flags (questions_of message.now) source.now rows.now limit kept }
     ensures { (m : contents.Message)
         × IsAnswerUpTo (header_of message.now) flags (questions_of message.now) source.now rows.now kept m
-        × (length (octets_of places_kept m) ≤ limit)
-        × Copies (octets_of places_kept m) result out.old out.new written.new }
+        × (length (octets_of offsets_kept m) ≤ limit)
+        × Copies (octets_of offsets_kept m) result out.old out.new written.new }
 {
     let flags = flags_for(kept, rows.len(), flags);
     match answer_to(message, flags, source, &rows[..kept], out, written) {

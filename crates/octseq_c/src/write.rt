@@ -3,7 +3,7 @@
 ghost use Rattle.std.specs.Prelude.{◌≡◌, ◌≢◌, ◌↔◌, ◌⊎◌, ◌++◌, ◌+◌, ◌<◌, ◌≤◌, ℕ, List, length, IfOk, IfSome, IsOk};
 ghost use Rattle.std.specs.Prelude.{OnErr, Some};
 ghost use Rattle.octseq.specs.Integer.{octets_be};
-ghost use Rattle.octseq.specs.Limit.{IsPast, IsWithin};
+ghost use Rattle.octseq.specs.Limit.{ExceedsLimit, IsWithin};
 ghost use Rattle.octseq.specs.Refusal.{IsShort, IsMalformed};
 ghost use Rattle.octseq_dns.specs.Contents.{octets_of};
 ghost use Rattle.octseq_dns.specs.Contents as contents;
@@ -13,7 +13,7 @@ ghost use Rattle.octseq_dns.specs.Parsed.{records_of};
 ghost use Rattle.octseq_dns.specs.Rewritten.{IsContentsOf, rewrite_error};
 ghost use Rattle.octseq_dns.specs.Wire.{wire};
 ghost use Rattle.octseq_dns_compress.specs.Composed.{message_limit};
-ghost use Rattle.octseq_c.specs.Made.{IsImmovable, IsQuery, IsRewritten, places_kept, query_header};
+ghost use Rattle.octseq_c.specs.Made.{IsImmovable, IsQuery, IsRewritten, offsets_kept, query_header};
 ghost use Rattle.octseq_c.specs.Puts.{Copies, Puts};
 ghost use Rattle.octseq_c.specs.Rows.{IsSomeMessage};
 ghost use Rattle.octseq_c.specs.Status.{status_ok, status_no_room, status_malformed, status_immovable};
@@ -69,11 +69,11 @@ fn rewrite_to(
     written: &mut usize,
 ) -> Result<u32, RewriteError>
     ensures made { IfOk result (λ status. (m : contents.Message) × IsContentsOf message.now m
-        × (length (octets_of places_kept m) ≤ 65535)
-        × Copies (octets_of places_kept m) status out.old out.new written.new) }
+        × (length (octets_of offsets_kept m) ≤ 65535)
+        × Copies (octets_of offsets_kept m) status out.old out.new written.new) }
     ensures immovable { IsMalformed rewrite_error result ↔ ¬ CanMove (records_of message.now) }
     ensures short { IsShort rewrite_error result → (m : contents.Message) → IsContentsOf message.now m
-        → 65535 < length (octets_of places_kept m) }
+        → 65535 < length (octets_of offsets_kept m) }
     ensures only { IsOk result ⊎ IsMalformed rewrite_error result ⊎ IsShort rewrite_error result }
     ensures kept { OnErr result (out.new ≡ out.old) }
 {
@@ -94,11 +94,11 @@ fn rewrite_within<const N: usize>(
 ) -> Result<u32, RewriteError>
     requires { N ≤ 65535 }
     ensures made { IfOk result (λ status. (m : contents.Message) × IsContentsOf message.now m
-        × IsWithin (message_limit (Some N)) (length (octets_of places_kept m))
-        × Copies (octets_of places_kept m) status out.old out.new written.new) }
+        × IsWithin (message_limit (Some N)) (length (octets_of offsets_kept m))
+        × Copies (octets_of offsets_kept m) status out.old out.new written.new) }
     ensures immovable { IsMalformed rewrite_error result ↔ ¬ CanMove (records_of message.now) }
     ensures short { IsShort rewrite_error result → (m : contents.Message) → IsContentsOf message.now m
-        → IsPast (message_limit (Some N)) (length (octets_of places_kept m)) }
+        → ExceedsLimit (message_limit (Some N)) (length (octets_of offsets_kept m)) }
     ensures only { IsOk result ⊎ IsMalformed rewrite_error result ⊎ IsShort rewrite_error result }
     ensures kept { OnErr result (out.new ≡ out.old) }
 {
@@ -158,6 +158,7 @@ pub fn wire_of(name: &Name<Array<255>>) -> &[u8]
     ensures wire { result.now ≡ wire (owned_labels name.now) }
     ensures short { length result.now ≤ 255 }
 {
+    // A name has at most 255 octets.
     let _len = name.len();
     name.as_slice()
 }

@@ -1,7 +1,7 @@
 //! A writer to a slice that a caller lends.
 ghost use Rattle.std.specs.Prelude.{◌≡◌, ◌↔◌, ◌≤◌, ◌++◌, ℕ, length, take, IsTrue, IsOk};
 ghost use Rattle.std.specs.Borrow.{GName};
-ghost use Rattle.octseq_c.specs.OwnText.{IsText};
+ghost use Rattle.octseq_c.specs.OwnText.{IsOwnText};
 
 use std::fmt;
 use std::marker::{Brand, PhantomData};
@@ -28,7 +28,7 @@ pub struct Writing<'a, K: Front> {
     ghost room: { length octets.now ≡ K.room },
     ghost within: { len ≤ K.room },
     ghost same: { octets.ghost_name ≡ K.lender },
-    ghost text: { IsText (take len octets.now) },
+    ghost text: { IsOwnText (take len octets.now) },
 }
 
 /// A slice that a value was shown in.

@@ -4,9 +4,9 @@ use Rattle.std.proofs.Common.{refl, sym, ap, subst, append_assoc, append-nil}
 use Rattle.std.proofs.KnownBytes.{Appends-nil, Appends-trans, Consumes-all, Consumes-nil, Consumes-trans}
 use Rattle.std.specs.Io.KnownBytes.{Appends, Consumes, IsAtEnd}
 use Rattle.std.specs.Prelude.{IfOk, IsTrue, OnErr, OnOk}
-use Rattle.octseq.specs.Parts.{IsFront}
+use Rattle.octseq.specs.Parts.{StartsWith}
 use Rattle.octseq_cli.specs.Frames.{IsNoted, ended_as, ends_as}
-use Rattle.octseq_cli.specs.Run.{Answers, BreaksOff, IsPart, Unnoted}
+use Rattle.octseq_cli.specs.Run.{Answers, BreaksOff, IsPartWritten, Unnoted}
 use Rattle.octseq_cli.specs.declared.status.ProgramFault.{ProgramFault}
 use Rattle.octseq_cli.specs.declared.status.ProgramFault.TheVariants.{Note}
 use Rattle.octseq_cli.specs.declared.status.Status.{Status}
@@ -46,7 +46,8 @@ module _ {a b c : Makes} {read output errors more others lines : List ℕ} {is_e
           one.4 ∙ ap (λ l. errors ++ l) two.4 ∙ sym (append_assoc errors lines two.1),
         );
     made = λ rest x e status is.
-        simp append_assoc (first.made (more ++ rest) (others ++ x) (lines ++ e) status (second.made rest x e status is));
+        simp append_assoc (first.made (more ++ rest) (others ++ x) (lines ++ e) status
+        (second.made rest x e status is));
   }
 
 -- octets are read for which nothing is due yet
@@ -92,15 +93,16 @@ noted_more false false all note before mid after (part, (rest, front), wrote) (e
 )
 
 -- a part of the first of two parts is a front of both
-pub part_front : (b : Bool) (part first second all : List ℕ) → IsPart b part first → all ≡ first ++ second
-    → IsFront part all
+pub part_front : (b : Bool) (part first second all : List ℕ) → IsPartWritten b part first → all ≡ first ++ second
+    → StartsWith part all
 part_front true part first second all is e = (second, cc)
 part_front false part first second all (rest, is) e = (rest ++ second, cc (append_assoc part rest second))
 
 -- nothing was written of a note
 pub not_noted : (b : Bool) (note : List ℕ) {before after : Option (List ℕ)} → after ≡ before
     → IsNoted b false note before after
-not_noted true note {before} e = ([], (note, refl), subst (λ after. Appends before after []) (sym e) (Appends-nil before))
+not_noted true note {before} e =
+    ([], (note, refl), subst (λ after. Appends before after []) (sym e) (Appends-nil before))
 not_noted false note {before} e = (refl, subst (λ after. Appends before after []) (sym e) (Appends-nil before))
 
 -- What was read and what is due for it were read and written, or only fronts of the output or the notes.
@@ -131,17 +133,19 @@ module _ {out mid : Makes} {given left before now noted reported : Option (List 
     (so_far : IsTaken out mid given left before now noted reported true is_noted false) where
   -- one more step
   pub taken_more : {next : Makes} {rest after line : Option (List ℕ)} {got written note : List ℕ} {is_end : Bool}
-      (c d : Bool) → Consumes left rest got → Follows mid next got written note is_end → IsNoted true c written now after
+      (c d : Bool) → Consumes left rest got → Follows mid next got written note is_end
+      → IsNoted true c written now after
       → IsNoted is_noted d note reported line → IsTaken out next given rest before after noted line c d is_end
-  taken_more {rest = rest} {after = after} {line = line} {got = got} {written = written} {note = note} c d consumed follows shown told = record {
-    read = so_far.read ++ got;
-    output = so_far.output ++ written;
-    errors = so_far.errors ++ note;
-    consumed = Consumes-trans given left rest so_far.read got so_far.consumed consumed;
-    follows = both_steps so_far.follows follows;
-    shown = noted_more true c so_far.output written before now after so_far.shown shown;
-    told = noted_more is_noted d so_far.errors note noted reported line so_far.told told;
-  }
+  taken_more {rest = rest} {after = after} {line = line} {got = got} {written = written}
+      {note = note} c d consumed follows shown told = record {
+        read = so_far.read ++ got;
+        output = so_far.output ++ written;
+        errors = so_far.errors ++ note;
+        consumed = Consumes-trans given left rest so_far.read got so_far.consumed consumed;
+        follows = both_steps so_far.follows follows;
+        shown = noted_more true c so_far.output written before now after so_far.shown shown;
+        told = noted_more is_noted d so_far.errors note noted reported line so_far.told told;
+      }
 
 module _ {out next : Makes} {given left before now noted reported : Option (List ℕ)} {is_written is_noted is_end : Bool}
     (taken : IsTaken out next given left before now noted reported is_written is_noted is_end) where
@@ -189,7 +193,8 @@ module _ {out : Makes} {ends : Status} {given left before now noted reported : O
       simp append-nil at (taken.follows.made [] [] [] ends done)
 
 -- a run that wrote its whole output, by whether it wrote all notes
-pub run_ended : {out : Makes} {given left before now noted reported : Option (List ℕ)} {result : Result Status ProgramFault}
+pub run_ended : {out : Makes} {given left before now noted reported : Option (List ℕ)}
+    {result : Result Status ProgramFault}
     (all is_noted : Bool) → result ≡ ended_as all is_noted
     → IsTaken out (Done (ends_as all)) given left before now noted reported true is_noted true → IsAtEnd left
     → IsRun out given left before now noted reported result

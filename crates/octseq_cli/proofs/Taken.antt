@@ -50,7 +50,8 @@ module _ (Fits : List ℕ → Type 0) (code : List ℕ → List ℕ) (IsPiece Is
       × (notes : List ℕ) × HavePieces IsPiece number frames all text notes
       × MakesEnd IsEnd (number + length frames) rest (before && all) text notes output errors status
 
-  is_rest : {input x e : List ℕ} {s : Status} → IsStreamOut Fits code IsPiece IsEnd input x e s → IsRest 1 true input x e s
+  is_rest : {input x e : List ℕ} {s : Status} → IsStreamOut Fits code IsPiece IsEnd input x e s
+      → IsRest 1 true input x e s
   unfolding IsRest
   is_rest {x = x} {e = e} {s = s} p =
       let end : MakesEnd IsEnd (1 + length p.frames) p.rest p.all p.text p.notes x e s =
@@ -62,7 +63,17 @@ module _ (Fits : List ℕ → Type 0) (code : List ℕ → List ℕ) (IsPiece Is
   unfolding IsRest
   first_step = record {
     due = λ more all notes status nothing is. (all, notes, is_rest is, refl, refl);
-    made = λ more x e s (frames, rest, fit, whole, all, text, notes, pieces, (is_fine, ending, note, ends, written, noted, status_is)). record {
+    made = λ more x e s (
+      frames,
+      rest,
+      fit,
+      whole,
+      all,
+      text,
+      notes,
+      pieces,
+      (is_fine, ending, note, ends, written, noted, status_is),
+    ). record {
       frames = frames;
       rest = rest;
       fit = fit;
@@ -131,7 +142,17 @@ module _ {Fits : List ℕ → Type 0} {code : List ℕ → List ℕ} {IsPiece Is
     unfolding IsRest
     frame_step fits piece = record {
       due = λ more x e s nothing. frame_due fits piece more x e s;
-      made = λ more y f s (frames, rest, fit, whole, all, text, notes, pieces, (fine, ending, line, ends, o, n, status_is)).
+      made = λ more y f s (
+        frames,
+        rest,
+        fit,
+        whole,
+        all,
+        text,
+        notes,
+        pieces,
+        (fine, ending, line, ends, o, n, status_is),
+      ).
           let on : number + 1 + length frames ≡ number + length (octets ∷ frames) = omega arith in
           let all_are = rw (and_assoc before is_fine all) at status_is in (
             octets ∷ frames,
@@ -142,7 +163,15 @@ module _ {Fits : List ℕ → Type 0} {code : List ℕ → List ℕ} {IsPiece Is
             written ++ text,
             note ++ notes,
             (is_fine, written, note, all, text, notes, piece, pieces, refl, refl, refl),
-            (fine, ending, line, rw on at ends, cc (append_assoc written text ending), cc (append_assoc note notes line), all_are),
+            (
+              fine,
+              ending,
+              line,
+              rw on at ends,
+              cc (append_assoc written text ending),
+              cc (append_assoc note notes line),
+              all_are,
+            ),
           );
     }
 
@@ -164,7 +193,8 @@ module _ {Fits : List ℕ → Type 0} {code : List ℕ → List ℕ} {IsPiece Is
 
     -- the rest after the last frame
     pub end_step : IsEnd number octets is_fine written note
-        → Follows (IsRest Fits code IsPiece IsEnd number before) (Done (ends_as (before && is_fine))) octets written note
+        → Follows (IsRest Fits code IsPiece IsEnd number before)
+        (Done (ends_as (before && is_fine))) octets written note
         true
     unfolding IsRest
     end_step is =

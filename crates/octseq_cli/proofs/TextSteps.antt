@@ -6,7 +6,7 @@ use Rattle.std.specs.Prelude.{◌&&◌}
 use Rattle.octseq_cli.proofs.Steps.{Done, Follows, IsTaken, Makes, last_step}
 use Rattle.octseq_cli.proofs.Taken.{IsOne, MakesPieces}
 use Rattle.octseq_cli.specs.Frames.{HavePieces, ends_as}
-use Rattle.octseq_cli.specs.Texts.{AreFeeds, AreTexts, EndsText, IsEnded, IsNextText, IsText, IsTextsOut}
+use Rattle.octseq_cli.specs.Texts.{AreFeeds, AreTexts, EndsText, EndsWithLineFeed, IsNextText, IsText, IsTextsOut}
 use Rattle.octseq_cli.specs.Texts.{NoneDouble, last_of}
 use Rattle.octseq_cli.specs.declared.status.Status.{Status}
 
@@ -22,13 +22,13 @@ last_more before [] octet = refl
 last_more before (first ∷ text) octet = last_more first text octet
 
 -- a text goes on with an octet
-pub text_more : (text : List ℕ) (octet : ℕ) → IsText text → (IsEnded text → ¬ (octet ≡ 10))
+pub text_more : (text : List ℕ) (octet : ℕ) → IsText text → (EndsWithLineFeed text → ¬ (octet ≡ 10))
     → IsText (text ++ octet ∷ [])
 text_more [] octet is next = absurd (omega (arith, is.0))
 text_more (first ∷ text) octet is next = (omega arith, none_double_more 10 (first ∷ text) octet is.1 next)
 
 -- a text begins with an octet
-pub text_of_one : (octet : ℕ) → ¬ (octet ≡ 10) → IsText (octet ∷ []) × ¬ IsEnded (octet ∷ [])
+pub text_of_one : (octet : ℕ) → ¬ (octet ≡ 10) → IsText (octet ∷ []) × ¬ EndsWithLineFeed (octet ∷ [])
 text_of_one octet other = ((omega arith, (λ _. other, tt)), other)
 
 -- ---- empty lines
@@ -180,7 +180,8 @@ module _ {IsPiece : MakesPieces} (one : IsOne IsPiece) (number : ℕ) (before : 
 
   module _ (is_fine : Bool) (feeds text written note : List ℕ) (are : AreFeeds feeds) (is : IsText text)
       (piece : IsPiece number text is_fine written note) where
-    text_due : IsEnded text → (more : List ℕ) (texts : List (List ℕ)) → AreTexts texts (feeds ++ (text ++ 10 ∷ more))
+    text_due : EndsWithLineFeed text → (more : List ℕ) (texts : List (List ℕ))
+        → AreTexts texts (feeds ++ (text ++ 10 ∷ more))
         → (all : Bool) (x e : List ℕ) (s : Status) → HavePieces IsPiece number texts all x e
         → s ≡ ends_as (before && all)
         → (y : List ℕ) × (f : List ℕ) × IsTextsRest IsPiece (number + 1) (before && is_fine) more y f s
@@ -200,7 +201,7 @@ module _ {IsPiece : MakesPieces} (one : IsOne IsPiece) (number : ℕ) (before : 
         )
 
     -- a text that an empty line ends
-    pub text_step : IsEnded text → Follows (IsTextsRest IsPiece number before)
+    pub text_step : EndsWithLineFeed text → Follows (IsTextsRest IsPiece number before)
         (IsTextsRest IsPiece (number + 1) (before && is_fine)) (feeds ++ (text ++ 10 ∷ [])) written note false
     text_step ended =
         let read : (more : List ℕ) → (feeds ++ (text ++ 10 ∷ [])) ++ more ≡ feeds ++ (text ++ 10 ∷ more) =

@@ -6,7 +6,7 @@ use Rattle.std.proofs.lemmas.List.{take-append-drop, length-drop}
 use Rattle.std.proofs.Math.Seq.{take-length}
 use Rattle.std.specs.Io.KnownBytes.{Appends}
 use Rattle.std.specs.Prelude.{slice_range}
-use Rattle.octseq.specs.Parts.{IsFront}
+use Rattle.octseq.specs.Parts.{StartsWith}
 
 -- A front of the output was written, and this is left of it.
 pub record IsWritten (before now : Option (List ℕ)) (output rest : List ℕ) : Type 0 where
@@ -34,7 +34,7 @@ written_more before mid after output rest n so_far appended =
 
 -- a front of the octets was written
 abbrev pub WroteFront : Option (List ℕ) → Option (List ℕ) → List ℕ → Type 0
-WroteFront before after all = (front : List ℕ) × IsFront front all × Appends before after front
+WroteFront before after all = (front : List ℕ) × StartsWith front all × Appends before after front
 
 -- a front of the first part is one of the whole
 pub front_of : (before after : Option (List ℕ)) (all rest : List ℕ) → WroteFront before after all

@@ -4,7 +4,7 @@ use Rattle.std.specs.Fmt.{decimal}
 use Rattle.std.specs.Prelude.{◌≡◌, codes, ℕ, ◌+◌, List, [], ◌∷◌, ◌++◌, Bool, true, false, ◌&&◌, length}
 use Rattle.std.specs.Prelude.{Option, Result, Ok, Err}
 use Rattle.std.specs.Io.KnownBytes.{Appends}
-use Rattle.octseq_cli.specs.Run.{IsPart}
+use Rattle.octseq_cli.specs.Run.{IsPartWritten}
 use Rattle.octseq_cli.specs.declared.frames.Ending.{Ending}
 use Rattle.octseq_cli.specs.declared.frames.Ending.TheVariants.{Whole, Cut, Misframed}
 use Rattle.octseq_cli.specs.declared.status.ProgramFault.{ProgramFault}
@@ -37,7 +37,7 @@ ended_as all false = Err Note
 -- A note after others, of which all were written in full or not. It is written then, in full or a front of it;
 -- otherwise nothing is.
 abbrev pub IsNoted : Bool → Bool → List ℕ → Option (List ℕ) → Option (List ℕ) → Type 0
-IsNoted true all note before after = (part : List ℕ) × IsPart all part note × Appends before after part
+IsNoted true all note before after = (part : List ℕ) × IsPartWritten all part note × Appends before after part
 IsNoted false all note before after = (all ≡ false) × Appends before after []
 
 -- What is made of an input as one item.
@@ -82,5 +82,5 @@ IsPlainRest IsCut Misframed rest = ⊥
 
 -- the line that reports where reading of a numbered item stopped
 abbrev pub stop_line : List ℕ → ℕ → ℕ → List ℕ
-stop_line what number place =
-    what ++ codes " " ++ decimal number ++ codes ": malformed at octet " ++ decimal place ++ codes "\n"
+stop_line what number offset =
+    what ++ codes " " ++ decimal number ++ codes ": malformed at octet " ++ decimal offset ++ codes "\n"

@@ -3,7 +3,7 @@ use Rattle.std.specs.Fmt.{debug_str}
 use Rattle.std.specs.Io.KnownBytes.{Appends}
 use Rattle.std.specs.declared.io.Error.{Error}
 use Rattle.std.specs.Prelude.{◌≡◌, ⊤, ℕ, List, [], ◌++◌, codes, Bool, true, false, Option, Some, None, IfSome}
-use Rattle.octseq_cli.specs.Run.{IsPart}
+use Rattle.octseq_cli.specs.Run.{IsPartWritten}
 use Rattle.octseq_cli.specs.declared.report.Failure.{Failure}
 use Rattle.octseq_cli.specs.declared.report.Failure.TheVariants.{Memory, Open, Read, Write, Closed, Note}
 use Rattle.octseq_cli.specs.declared.status.ProgramFault.{ProgramFault}
@@ -56,4 +56,4 @@ HasReason _ = ⊥
 -- the line of a failure was written, or a front of it
 abbrev pub IsErrorWritten : Failure → Option (List ℕ) → Bool → Option (List ℕ) → Option (List ℕ) → Type 0
 IsErrorWritten failure path is_whole before after = (line : List ℕ) × (part : List ℕ) × IsLine failure path line
-    × IsPart is_whole part line × Appends before after part
+    × IsPartWritten is_whole part line × Appends before after part

@@ -1,7 +1,7 @@
 -- A run of a program: what a word asks for, what is made of the whole input, and what is written.
 use Rattle.std.specs.Prelude.{◌≡◌, ◌⊎◌, ℕ, List, [], ◌++◌, codes, Bool, true, false, IsTrue, Option, Some, None, IfSome}
 use Rattle.std.specs.Io.KnownBytes.{Appends, Consumes, IsAtEnd}
-use Rattle.octseq.specs.Parts.{IsFront}
+use Rattle.octseq.specs.Parts.{StartsWith}
 use Rattle.octseq_cli.specs.declared.request.Request.{Request}
 use Rattle.octseq_cli.specs.declared.request.Request.TheVariants.{Command, Help, Version, Unknown}
 use Rattle.octseq_cli.specs.declared.engine.TheConstants.{VERSION}
@@ -80,12 +80,12 @@ pub record BreaksOff (out : List ℕ → List ℕ → List ℕ → Status → Ty
   pub written : Appends before after output
   pub noted : Appends noted_before noted_after errors
   pub fronts : (more all notes : List ℕ) (status : Status) → (IsTrue is_end → more ≡ [])
-      → out (read ++ more) all notes status → IsFront output all × IsFront errors notes
+      → out (read ++ more) all notes status → StartsWith output all × StartsWith errors notes
 
 -- A part of octets that were to be written: all of them, or a front.
-abbrev pub IsPart : Bool → List ℕ → List ℕ → Type 0
-IsPart true part all = part ≡ all
-IsPart false part all = IsFront part all
+abbrev pub IsPartWritten : Bool → List ℕ → List ℕ → Type 0
+IsPartWritten true part all = part ≡ all
+IsPartWritten false part all = StartsWith part all
 
 -- A run that wrote its whole output, but only a front of its notes.
 pub record Unnoted (out : List ℕ → List ℕ → List ℕ → Status → Type 0)
@@ -99,7 +99,7 @@ pub record Unnoted (out : List ℕ → List ℕ → List ℕ → Status → Type
   pub answered : out input output errors status
   pub written : Appends before after output
   pub part : List ℕ
-  pub is_front : IsFront part errors
+  pub is_front : StartsWith part errors
   pub noted : Appends noted_before noted_after part
 
 -- A complete run for a word.

@@ -27,13 +27,13 @@ abbrev pub IsText : List ℕ → Type 0
 IsText text = (1 ≤ length text) × AreLines text
 
 -- a line feed ends the last line of a text
-abbrev pub IsEnded : List ℕ → Type 0
-IsEnded text = last_of 10 text ≡ 10
+abbrev pub EndsWithLineFeed : List ℕ → Type 0
+EndsWithLineFeed text = last_of 10 text ≡ 10
 
 -- what follows a text: the end of the input, or an empty line
 abbrev pub EndsText : List ℕ → List ℕ → Type 0
 EndsText text [] = Unit {0}
-EndsText text (octet ∷ rest) = IsEnded text × (octet ≡ 10)
+EndsText text (octet ∷ rest) = EndsWithLineFeed text × (octet ≡ 10)
 
 -- an input consists of texts, with any number of empty lines before and after them, and one at least between them
 abbrev pub AreTexts : List (List ℕ) → List ℕ → Type 0
@@ -44,7 +44,7 @@ AreTexts (text ∷ texts) input = (feeds : List ℕ) × (rest : List ℕ) × Are
 -- What is read of an input up to the end of its next text: the empty lines before it, the text, and the empty line that
 -- ends it; or, where the input is over, the text that it ends with, or none.
 abbrev pub IsNextText : Bool → List ℕ → List ℕ → Type 0
-IsNextText false text read = (feeds : List ℕ) × AreFeeds feeds × IsText text × IsEnded text
+IsNextText false text read = (feeds : List ℕ) × AreFeeds feeds × IsText text × EndsWithLineFeed text
     × (read ≡ feeds ++ (text ++ 10 ∷ []))
 IsNextText true text read = (feeds : List ℕ) × AreFeeds feeds × AreLines text × (read ≡ feeds ++ text)
 

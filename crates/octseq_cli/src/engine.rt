@@ -2,7 +2,7 @@
 ghost use Rattle.std.specs.Prelude.{◌≡◌, ◌++◌, ℕ, List, [], codes, Bool, IsTrue, false};
 ghost use Rattle.std.specs.Prelude.{Option, Err, IfOk, IfErr, OnOk, OnErr};
 ghost use Rattle.std.specs.Io.KnownBytes.{Appends, IsAtEnd};
-ghost use Rattle.octseq.specs.Parts.{IsFront};
+ghost use Rattle.octseq.specs.Parts.{StartsWith};
 ghost use Rattle.octseq_cli.specs.Run.{IsRequest, IsCommand, IsNamed, Said, Writes, unknown_line};
 ghost use Rattle.octseq_cli.specs.Run.{Answers, BreaksOff, Ran, Broke, Unnoted};
 ghost use Rattle.octseq_cli.specs.declared.status.Status.{Status};
@@ -14,7 +14,7 @@ use std::alloc::Global;
 use std::io::{Read, Write};
 
 /// The version of the programs, the kit that proves them, and their licence.
-const VERSION: &str = "octseq 0.1.0, proved with rattle-kit-13f, BSD 3-Clause License\n";
+const VERSION: &str = "octseq 0.1.0, proved with rattle-kit-13b, BSD 3-Clause License\n";
 
 /// The commands of a program. `name_of` is the name of a command, `default_word` the word of a program without
 /// arguments, `said` what it says of itself, and `out` what is written for a command and an input, on standard output
@@ -80,7 +80,7 @@ fn write_unknown<W: Write>(writer: &mut W, word: &str, usage: &str) -> Result<()
     ensures ok { OnOk result (Appends (W.contents writer.old) (W.contents writer.new)
         (unknown_line usage.now word.now)) }
     ensures err { IfErr result (λ fault. fault ≡ ProgramFault.Write) }
-    ensures front { (front : List ℕ) × IsFront front (unknown_line usage.now word.now)
+    ensures front { (front : List ℕ) × StartsWith front (unknown_line usage.now word.now)
         × Appends (W.contents writer.old) (W.contents writer.new) front }
 {
     write_all(writer, b"no command '")?;

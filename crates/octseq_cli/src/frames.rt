@@ -3,7 +3,7 @@
 ghost use Rattle.std.specs.Prelude.{◌≡◌, ◌≢◌, ◌&&◌, ℕ, List, [], Bool, IfOk, IfErr, OnErr, OnOk, Ok, Err};
 ghost use Rattle.std.specs.Io.KnownBytes.{Appends, Consumes, IsAtEnd};
 ghost use Rattle.octseq.specs.Code.{HasFront, IsCode};
-ghost use Rattle.octseq.specs.Parts.{IsFront};
+ghost use Rattle.octseq.specs.Parts.{StartsWith};
 ghost use Rattle.octseq_cli.specs.Run.{Answers, BreaksOff, Unnoted};
 ghost use Rattle.octseq_cli.specs.Frames.{IsNoted, IsStreamOut, IsWholeOut, ended_as, ends_as, stop_line};
 
@@ -52,11 +52,11 @@ pub fn stop_line(
     alloc: Global,
     what: &str,
     number: u64,
-    place: usize,
+    offset: usize,
 ) -> Result<Vec<u8>, AllocError>
-    ensures { IfOk result (λ line. line.items ≡ stop_line what.now number place) }
+    ensures { IfOk result (λ line. line.items ≡ stop_line what.now number offset) }
 {
-    let line = format!(in alloc; "{what} {number}: malformed at octet {place}\n")?;
+    let line = format!(in alloc; "{what} {number}: malformed at octet {offset}\n")?;
     Ok(line.into_bytes())
 }
 
@@ -266,8 +266,8 @@ fn status_of(is_all: bool) -> Status
     }
 }
 
-/// Returns how the program ends after its output was written: by whether everything is valid, and whether all notes were
-/// written.
+/// Returns how the program ends after its output was written: by whether everything is valid, and whether all notes
+/// were written.
 pub(crate) fn ended(is_all: bool, is_noted: bool) -> Result<Status, ProgramFault>
     ensures { result ≡ ended_as is_all is_noted }
 {
@@ -293,7 +293,7 @@ pub fn write_piece<W: Write, E: Write>(
     ensures ok { OnOk result (Appends (W.contents writer.old) (W.contents writer.new) piece.now.output.items) }
     ensures noted { IfOk result (λ all. IsNoted is_noted all piece.now.note.items (E.contents errors.old)
         (E.contents errors.new)) }
-    ensures front { OnErr result ((front : List ℕ) × IsFront front piece.now.output.items
+    ensures front { OnErr result ((front : List ℕ) × StartsWith front piece.now.output.items
         × Appends (W.contents writer.old) (W.contents writer.new) front) }
     ensures unnoted { OnErr result (errors.new ≡ errors.old) }
     ensures err { IfErr result (λ fault. fault ≡ ProgramFault.Write) }
@@ -318,7 +318,7 @@ fn write_note<E: Write>(errors: &mut E, note: &[u8], is_noted: bool) -> bool
 /// Writes all of the octets, if there are any.
 fn write_some<W: Write>(writer: &mut W, octets: &[u8]) -> Result<(), ProgramFault>
     ensures ok { OnOk result (Appends (W.contents writer.old) (W.contents writer.new) octets.now) }
-    ensures front { (front : List ℕ) × IsFront front octets.now
+    ensures front { (front : List ℕ) × StartsWith front octets.now
         × Appends (W.contents writer.old) (W.contents writer.new) front }
     ensures err { IfErr result (λ fault. fault ≡ ProgramFault.Write) }
 {

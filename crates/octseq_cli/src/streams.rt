@@ -3,8 +3,8 @@ ghost use Rattle.std.specs.Prelude.{◌≡◌, ◌≢◌, ◌≤◌, [], length,
 ghost use Rattle.std.specs.Prelude.{OnOk, OnErr, Ok, false};
 ghost use Rattle.std.specs.Io.KnownBytes.{Appends, Consumes, IsAtEnd};
 ghost use Rattle.std.specs.IoError.{error_kind};
-ghost use Rattle.octseq.specs.Parts.{IsFront};
-ghost use Rattle.octseq_cli.specs.Run.{IsPart};
+ghost use Rattle.octseq.specs.Parts.{StartsWith};
+ghost use Rattle.octseq_cli.specs.Run.{IsPartWritten};
 
 use crate::status::ProgramFault;
 use std::alloc::Global;
@@ -88,7 +88,7 @@ fn drop_next<R: Read>(reader: &mut R) -> Result<bool, ProgramFault>
 pub fn write_all<W: Write>(writer: &mut W, output: &[u8]) -> Result<(), ProgramFault>
     ensures ok { OnOk result (Appends (W.contents writer.old) (W.contents writer.new) output.now) }
     ensures err { IfErr result (λ fault. fault ≡ ProgramFault.Write) }
-    ensures front { (front : List ℕ) × IsFront front output.now
+    ensures front { (front : List ℕ) × StartsWith front output.now
         × Appends (W.contents writer.old) (W.contents writer.new) front }
 {
     let mut rest = output;
@@ -105,7 +105,7 @@ pub fn write_all<W: Write>(writer: &mut W, output: &[u8]) -> Result<(), ProgramF
 /// Writes all of the octets and flushes the writer. Returns whether that succeeded; otherwise a front of them was
 /// written.
 pub fn write_whole<W: Write>(writer: &mut W, octets: &[u8]) -> bool
-    ensures { (part : List ℕ) × IsPart result part octets.now
+    ensures { (part : List ℕ) × IsPartWritten result part octets.now
         × Appends (W.contents writer.old) (W.contents writer.new) part }
 {
     match write_all(writer, octets) {

@@ -1,5 +1,6 @@
 -- Octets by their two ends, and those of a number that is shifted to the right.
-use Rattle.std.proofs.Common.{◌≡◌, ℕ, zero, suc, ◌+◌, ◌*◌, ◌-◌, ◌^◌, ◌/◌, ◌%◌, ◌≤◌, List, [], ◌∷◌, ◌++◌, length, get_or, take, drop}
+use Rattle.std.proofs.Common.{◌≡◌, ℕ, zero, suc, ◌+◌, ◌*◌, ◌-◌, ◌^◌, ◌/◌, ◌%◌, ◌≤◌, List, [], ◌∷◌, ◌++◌, length}
+use Rattle.std.proofs.Common.{get_or, take, drop}
 use Rattle.std.proofs.Common.{refl, sym, ap, ◌∙◌, arith, length-take}
 use Rattle.std.proofs.Math.Seq.{take-append-add}
 use Rattle.std.proofs.lemmas.List.{drop_all, drop-drop, take-append-drop}
@@ -12,7 +13,8 @@ bits_of zero = refl
 bits_of (suc i) =
     let next : 8 * suc i ≡ 8 + 8 * i = omega arith in
     let one : suc i ≡ 1 + i = omega arith in
-    ap (λ k. 256 ^ k) one ∙ pow-add 256 1 i ∙ ap (λ p. 256 ^ 1 * p) (bits_of i) ∙ sym (pow-add 2 8 (8 * i)) ∙ ap (λ k. 2 ^ k) (sym next)
+    ap (λ k. 256 ^ k) one ∙ pow-add 256 1 i ∙ ap (λ p. 256 ^ 1 * p) (bits_of i) ∙ sym (pow-add 2 8 (8 * i))
+    ∙ ap (λ k. 2 ^ k) (sym next)
 
 -- an octet by a shift
 by_shift : (i n : ℕ) → byte_at i n ≡ n / 2 ^ (8 * i) % 256

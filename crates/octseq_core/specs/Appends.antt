@@ -1,6 +1,6 @@
 -- What an append does.
 use Rattle.std.specs.Prelude.{◌≡◌, ℕ, Bool, true, ◌+◌, ◌↔◌, Option, List, ◌++◌, length, Result, OnOk, OnErr}
-use Rattle.octseq_core.specs.Limit.{IsPast}
+use Rattle.octseq_core.specs.Limit.{ExceedsLimit}
 use Rattle.octseq_core.specs.Refusal.{IsShort, IsMemory, append_error}
 use Rattle.octseq_core.specs.declared.builder.AppendError.{AppendError}
 
@@ -10,5 +10,5 @@ pub record Appends (limit : Option ℕ) (asks : Bool) (result : Result (Unit {0}
     (octets old new : List ℕ) : Type 0 where
   pub ok : OnOk result (new ≡ old ++ octets)
   pub err : OnErr result (new ≡ old)
-  pub short : IsShort append_error result ↔ IsPast limit (length old + length octets)
+  pub short : IsShort append_error result ↔ ExceedsLimit limit (length old + length octets)
   pub memory : IsMemory append_error result → asks ≡ true

@@ -7,6 +7,6 @@ IsWithin (Some limit) length = length ≤ limit
 IsWithin None length = Unit {0}
 
 -- the length is greater than the limit; without a limit none is
-abbrev pub IsPast : Option ℕ → ℕ → Type 0
-IsPast (Some limit) length = limit < length
-IsPast None length = ⊥
+abbrev pub ExceedsLimit : Option ℕ → ℕ → Type 0
+ExceedsLimit (Some limit) length = limit < length
+ExceedsLimit None length = ⊥

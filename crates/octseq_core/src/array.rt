@@ -29,7 +29,7 @@ use std::ops::{DerefSlice, DerefSliceMut};
 /// # Examples
 ///
 /// ```
-/// // crates/octseq_uses/src/single_calls.rt
+/// // crates/octseq_callers/src/single_calls.rt
 /// pub fn kept<const N: usize>(octets: &[u8]) -> Option<Array<N>>
 ///     ensures variant { IsSome result ↔ (length octets.now ≤ N) }
 ///     ensures some { IfSome result (λ array. array.content ≡ octets.now) }

@@ -107,7 +107,7 @@ pub trait OctetsBuilder: AsOctets {
     /// # Examples
     ///
     /// ```
-    /// // crates/octseq_uses/src/any_builder.rt
+    /// // crates/octseq_callers/src/any_builder.rt
     /// let mut builder = B::empty(alloc)?;
     /// builder.append_slice(first)?;
     /// builder.append_slice(second)?;
@@ -141,7 +141,7 @@ pub trait Truncate: AsOctets {
     /// # Examples
     ///
     /// ```
-    /// // crates/octseq_uses/src/frame.rt
+    /// // crates/octseq_callers/src/frame.rt
     /// let before = builder.len();
     /// let appended = append_pieces(builder, name, value);
     /// if appended.is_err() {

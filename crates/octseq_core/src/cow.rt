@@ -106,7 +106,7 @@ impl OctetsBuilder for CowOctets<'_> {
     /// # Examples
     ///
     /// ```
-    /// // crates/octseq_uses/src/single_calls.rt
+    /// // crates/octseq_callers/src/single_calls.rt
     /// if more.is_empty() {
     ///     return Ok(());
     /// }

@@ -1,15 +1,15 @@
 -- The smaller of two limits.
 use Rattle.std.proofs.Common.{ℕ, Option, Some, None, arith}
-use Rattle.octseq.specs.Limit.{IsPast, IsWithin}
+use Rattle.octseq.specs.Limit.{ExceedsLimit, IsWithin}
 use Rattle.octseq_dns.specs.Writes.{least_limit}
 
 -- what is past one of them is past it
-pub past_first : (push limit : Option ℕ) (n : ℕ) → IsPast push n → IsPast (least_limit push limit) n
+pub past_first : (push limit : Option ℕ) (n : ℕ) → ExceedsLimit push n → ExceedsLimit (least_limit push limit) n
 past_first None limit n past = absurd past
 past_first (Some most) None n past = past
 past_first (Some most) (Some limit) n past = omega (arith, past)
 
-pub past_second : (push limit : Option ℕ) (n : ℕ) → IsPast limit n → IsPast (least_limit push limit) n
+pub past_second : (push limit : Option ℕ) (n : ℕ) → ExceedsLimit limit n → ExceedsLimit (least_limit push limit) n
 past_second None limit n past = past
 past_second (Some most) None n past = absurd past
 past_second (Some most) (Some limit) n past = omega (arith, past)

@@ -4,7 +4,7 @@ use Rattle.std.proofs.Common.{subst, arith, append_assoc, append-nil}
 use Rattle.std.proofs.lemmas.List.{map-append}
 use Rattle.std.proofs.lemmas.List.Sums.{sum_by-append, sum_by_push}
 use Rattle.std.specs.List.{AllByRecursion, AllZip, sum_by}
-use Rattle.octseq.specs.Limit.{IsPast}
+use Rattle.octseq.specs.Limit.{ExceedsLimit}
 use Rattle.octseq.proofs.Limits.{past_more}
 use Rattle.octseq.proofs.Repeats.{each_snoc}
 use Rattle.octseq_dns_compress.specs.State.{State, Entry, with_entry, with_entries}
@@ -82,13 +82,15 @@ module _ {A I : Type 0} {Of : I → A → Type 0} {entry : A → Entry} {labels 
           by_rest [] is are = absurd are
           by_rest (other ∷ rest) is are = (
             rest,
-            is ∙ ap (λ o. on.done ++ o ∷ rest) (single i other one are.0 of) ∙ sym (append_assoc on.done (one ∷ []) rest),
+            is ∙ ap (λ o. on.done ++ o ∷ rest) (single i other one are.0 of)
+                ∙ sym (append_assoc on.done (one ∷ []) rest),
             are.1,
           )
 
     then_is : with_entries most first (map entry (on.done ++ one ∷ [])) ≡ with_entry most now (entry one)
     then_is = ap (with_entries most first) (map-append entry on.done (one ∷ []))
-        ∙ entries_more most first (map entry on.done) (entry one ∷ []) ∙ ap (λ s. with_entry most s (entry one)) (sym on.is)
+        ∙ entries_more most first (map entry on.done) (entry one ∷ [])
+        ∙ ap (λ s. with_entry most s (entry one)) (sym on.is)
 
     -- it is appended
     pub onward_next : {next : State} {took : ℕ} → next ≡ with_entry most now (entry one) → FitsOne one
@@ -120,9 +122,9 @@ module _ {A I : Type 0} {Of : I → A → Type 0} {entry : A → Entry} {labels 
         omega (arith, few, more, sum, pushed)
 
     -- the whole exceeds a limit if the message with this entry does
-    pub onward_past : (limit : Option ℕ) → IsPast limit (length (with_entry most now (entry one)).octets)
+    pub onward_past : (limit : Option ℕ) → ExceedsLimit limit (length (with_entry most now (entry one)).octets)
         → (written : List A) → AllZip Of all written
-        → IsPast limit (length (with_entries most first (map entry written)).octets)
+        → ExceedsLimit limit (length (with_entries most first (map entry written)).octets)
     onward_past limit past written are =
         let cut = next_is written are in
         let then = with_entry most now (entry one) in

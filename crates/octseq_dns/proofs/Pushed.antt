@@ -7,7 +7,7 @@ use Rattle.std.proofs.Math.Logic.{∥∥₁_elim}
 use Rattle.std.proofs.lemmas.Bool.{ltb-true, ltb-false}
 use Rattle.std.proofs.lemmas.List.{drop_all}
 use Rattle.std.specs.Coded.{le_prop}
-use Rattle.octseq.specs.Limit.{IsPast, IsWithin}
+use Rattle.octseq.specs.Limit.{ExceedsLimit, IsWithin}
 use Rattle.octseq_dns_compress.specs.Composed.{message_limit}
 use Rattle.std.specs.FinMap.{empty}
 use Rattle.std.specs.Prelude.{replicate, nat_lt}
@@ -21,12 +21,12 @@ use Rattle.octseq_dns_message.specs.declared.header.HeaderCounts.{HeaderCounts}
 use Rattle.octseq_dns.proofs.HeaderRead.{header_length}
 use Rattle.octseq_dns.specs.Blank.{blank_header, blank_message}
 use Rattle.octseq_dns.specs.Contents.{Message, FitsHeader, composed, octets_of, counts_of, entries_of}
-use Rattle.octseq_dns.specs.Contents.{headed, header_octets}
-use Rattle.octseq_dns.specs.Writes.{IsBuilt, Takes, Writes}
+use Rattle.octseq_dns.specs.Contents.{with_only_header, header_octets}
+use Rattle.octseq_dns.specs.Writes.{IsBuilt, SectionTakes, ComposesMessage}
 
 -- a header in place of another
 pub headed_anew : (h k : Header) (counts others : HeaderCounts)
-    → headed k others ≡ with_header (headed h counts) (header_octets k others)
+    → with_only_header k others ≡ with_header (with_only_header h counts) (header_octets k others)
 headed_anew h k counts others =
     let none : drop 12 (header_octets h counts) ≡ [] =
     drop_all 12 (header_octets h counts) (let long = header_length h counts in omega (arith, long)) in
@@ -36,7 +36,7 @@ headed_anew h k counts others =
 -- the octets of a message begin with its header
 pub twelve_first : (most : ℕ) (m : Message) → 12 ≤ length (octets_of most m)
 twelve_first most m =
-    let first = headed m.header (counts_of m) in
+    let first = with_only_header m.header (counts_of m) in
     let longer = grown_length first.octets (octets_of most m) (entries_grow most first (entries_of m)) in
     let long = header_length m.header (counts_of m) in
     omega (arith, longer, long)
@@ -46,7 +46,7 @@ pub header_set : (most : ℕ) (m : Message) (header : Header)
     → composed most (record m { header = header })
     ≡ with_header (composed most m) (header_octets header (counts_of m))
 header_set most m header =
-    let first = headed m.header (counts_of m) in
+    let first = with_only_header m.header (counts_of m) in
     let put = header_octets header (counts_of m) in
     let long = header_length m.header (counts_of m) in
     ap (λ s. with_entries most s (entries_of m)) (headed_anew m.header header (counts_of m) (counts_of m))
@@ -54,19 +54,20 @@ header_set most m header =
 
 module _ {A : Type 0} {entry : A → Entry} {FitsOne : A → Type 0} {Reaches : HeaderCounts → Type 0}
     {count : HeaderCounts → ℕ} {counted : HeaderCounts → ℕ → HeaderCounts} {more : Message → A → Message}
-    (takes : Takes A entry FitsOne Reaches count counted more) where
+    (takes : SectionTakes A entry FitsOne Reaches count counted more) where
   pub composed_more : (most : ℕ) (m : Message) (one : A) → Reaches (counts_of m) → composed most (more m one)
       ≡ with_header (with_entry most (composed most m) (entry one)) (header_octets m.header (counts_of (more m one)))
   composed_more most m one reaches =
       let counts = counts_of (more m one) in
       let put = header_octets m.header counts in
       let long = header_length m.header counts in
-      let old = headed m.header (counts_of m) in
+      let old = with_only_header m.header (counts_of m) in
       let twelve = header_length m.header (counts_of m) in
-      let anew = ap (λ h. headed h counts) (takes.header m one) ∙ headed_anew m.header m.header (counts_of m) counts in
+      let anew = ap (λ h. with_only_header h counts) (takes.header m one)
+      ∙ headed_anew m.header m.header (counts_of m) counts in
       let late = twelve_first most m in
-      ap (λ es. with_entries most (headed (more m one).header counts) es) (takes.entries m one reaches)
-      ∙ entries_more most (headed (more m one).header counts) (entries_of m) (entry one ∷ [])
+      ap (λ es. with_entries most (with_only_header (more m one).header counts) es) (takes.entries m one reaches)
+      ∙ entries_more most (with_only_header (more m one).header counts) (entries_of m) (entry one ∷ [])
       ∙ ap (λ s. with_entry most (with_entries most s (entries_of m)) (entry one)) anew
       ∙ ap (λ s. with_entry most s (entry one))
       (headed_entries put long most old (entries_of m) (omega (arith, twelve)))
@@ -74,9 +75,9 @@ module _ {A : Type 0} {entry : A → Entry} {FitsOne : A → Type 0} {Reaches : 
 
   -- one more entry
   pub pushed : (most : ℕ) (m : Message) (one : A) (state then new : State) (header : Header) (counts now : HeaderCounts)
-      (put : List ℕ) → Writes most m state header counts → Reaches counts → FitsOne one → count counts < 65535
+      (put : List ℕ) → ComposesMessage most m state header counts → Reaches counts → FitsOne one → count counts < 65535
       → now ≡ counted counts (count counts + 1) → then ≡ with_entry most state (entry one)
-      → put ≡ header_octets header now → new ≡ with_header then put → Writes most (more m one) new header now
+      → put ≡ header_octets header now → new ≡ with_header then put → ComposesMessage most (more m one) new header now
   pushed most m one state then new header counts now put is reaches fits less now_is then_is put_is new_is =
       let there : counts_of (more m one) ≡ now =
       takes.counts m one ∙ ap (λ c. counted c (count c + 1)) (sym is.counts_are) ∙ sym now_is in
@@ -97,8 +98,8 @@ module _ {A : Type 0} {entry : A → Entry} {FitsOne : A → Type 0} {Reaches : 
 
 -- another header
 pub header_written : (most : ℕ) (m : Message) (state new : State) (header other : Header) (counts : HeaderCounts)
-    (put : List ℕ) → Writes most m state header counts → FitsHeader other → put ≡ header_octets other counts
-    → new ≡ with_header state put → Writes most (record m { header = other }) new other counts
+    (put : List ℕ) → ComposesMessage most m state header counts → FitsHeader other → put ≡ header_octets other counts
+    → new ≡ with_header state put → ComposesMessage most (record m { header = other }) new other counts
 header_written most m state new header other counts put is fits put_is new_is =
     let m_fits = is.fits in
     record {
@@ -124,7 +125,7 @@ header_written most m state new header other counts put is fits put_is new_is =
 -- a message at its start
 pub blank_written : (most : ℕ) (state : State) (header : Header)
     → state ≡ record { octets = replicate 12 0; names = empty } → header ≡ blank_header
-    → Writes most blank_message state header (record { qdcount = 0; ancount = 0; nscount = 0; arcount = 0 })
+    → ComposesMessage most blank_message state header (record { qdcount = 0; ancount = 0; nscount = 0; arcount = 0 })
 unfolding octets_be
 blank_written most state header is header_is = record {
   state_is = is;
@@ -177,7 +178,7 @@ pushed_within limit most state then new header counts now Reaches put entry buil
     ∙ headed_length put (ap length put_is ∙ header_length header now) wanted (omega (arith, late, longer)))) within
 
 -- a header fits if the builder accepts it
-pub begun_within : (limit : Option ℕ) (octets : List ℕ) → ¬ IsPast limit 12 → length octets ≡ 12
+pub begun_within : (limit : Option ℕ) (octets : List ℕ) → ¬ ExceedsLimit limit 12 → length octets ≡ 12
     → IsWithin (message_limit limit) (length octets)
 begun_within None octets fits long = omega (arith, long)
 begun_within (Some limit) octets fits long =

@@ -9,7 +9,7 @@ use Rattle.octseq.specs.Window.{Window, left, next, rest, past, at}
 use Rattle.octseq_dns_compress.specs.Fields.{AreFields}
 use Rattle.octseq_dns_compress.specs.Fits.{NameFits}
 use Rattle.octseq_dns_compress.specs.State.{Field}
-use Rattle.octseq_dns_data.specs.Data.{ParsedRdata, HasRdata, HasOctets, HasString, HasSoa}
+use Rattle.octseq_dns_data.specs.Data.{ParsedRdata, HasRdata, HasOctetCount, HasString, HasSoa}
 use Rattle.octseq_dns_message.specs.RecordData.{IsDataOf}
 use Rattle.octseq_dns_data.specs.Data.{naptr_form}
 use Rattle.octseq_dns_data.specs.Data.{rtype_of as parsed_rtype}
@@ -29,8 +29,8 @@ use Rattle.octseq_dns.proofs.FieldParts.{octets_first, octets_apart, number_firs
 
 -- this many octets
 octets_last : (n : ℕ) (octets : List ℕ) (w v : Window) → length octets ≡ n → AreFields w (Field.octets octets ∷ []) v
-    → HasOctets n w octets v
-octets_last n octets w v many are = subst (λ n. HasOctets n w octets v) many (are.0, sym are.1, are.2)
+    → HasOctetCount n w octets v
+octets_last n octets w v many are = subst (λ n. HasOctetCount n w octets v) many (are.0, sym are.1, are.2)
 
 -- the name at a place
 abbrev named : Window → List (List ℕ) → Name

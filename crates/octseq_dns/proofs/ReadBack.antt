@@ -11,7 +11,7 @@ use Rattle.octseq_dns_compress.proofs.Fields.{entries_grow, entries_more, grows_
 use Rattle.octseq_dns_compress.proofs.LabelsThere.{all_of, all_grown, none_named}
 use Rattle.octseq_dns_compress.proofs.Steps.{Grows, grown_length}
 use Rattle.octseq_format.specs.Laws.{Relation}
-use Rattle.octseq_dns.specs.Contents.{Message, Fits, counts_of, header_octets, headed}
+use Rattle.octseq_dns.specs.Contents.{Message, MessageFits, counts_of, header_octets, with_only_header}
 use Rattle.octseq_dns.specs.Contents.{question_entry, record_entry, entries_of, composed, octets_of}
 use Rattle.octseq_dns.specs.ReadBack.{ReadsBack, bare}
 use Rattle.octseq_dns.proofs.EntriesRead.{IsRead, AreRead, question_is_read, record_is_read, rows_named}
@@ -20,7 +20,7 @@ use Rattle.octseq_dns.proofs.HeaderRead.{header_length, header_is_read}
 
 -- a message takes no more octets than without compression
 pub never_longer : (most : ℕ) (m : Message) → length (octets_of most m) ≤ length (octets_of 0 m)
-never_longer most m = entries_never_longer most (headed m.header (counts_of m)) (entries_of m)
+never_longer most m = entries_never_longer most (with_only_header m.header (counts_of m)) (entries_of m)
 
 -- a list that has the image of each element of another is its image
 zip_mapped : {A B : Type 0} (f : A → B) (them : List A) (row : List B) → AllZip (λ a b. f a ≡ b) them row
@@ -48,7 +48,7 @@ section_is_read {Is = Is} {IsAs = IsAs} {to_entry = to_entry} reads most s row f
 -- ---- a message up to each of its sections
 
 abbrev with_questions : ℕ → Message → State
-with_questions most m = with_entries most (headed m.header (counts_of m)) (map question_entry m.questions)
+with_questions most m = with_entries most (with_only_header m.header (counts_of m)) (map question_entry m.questions)
 
 abbrev with_answers : ℕ → Message → State
 with_answers most m = with_entries most (with_questions most m) (map record_entry m.answers)
@@ -62,7 +62,7 @@ with_additionals most m = with_entries most (with_authorities most m) (map recor
 composed_is : (most : ℕ) (m : Message) → composed most m ≡ with_additionals most m
 composed_is most m =
     let later = m.authorities ++ m.additionals in
-    entries_more most (headed m.header (counts_of m)) (map question_entry m.questions)
+    entries_more most (with_only_header m.header (counts_of m)) (map question_entry m.questions)
     (map record_entry (m.answers ++ later))
     ∙ ap (with_entries most (with_questions most m)) (map-append record_entry m.answers later)
     ∙ entries_more most (with_questions most m) (map record_entry m.answers) (map record_entry later)
@@ -74,7 +74,7 @@ all_is : (most : ℕ) (m : Message)
     → all_of (header_octets m.header (counts_of m)) (with_additionals most m).octets [] ≡ octets_of most m
 all_is most m =
     let header = header_octets m.header (counts_of m) in
-    let grows = entries_grow most (headed m.header (counts_of m)) (entries_of m) in
+    let grows = entries_grow most (with_only_header m.header (counts_of m)) (entries_of m) in
     let twelve = header_length m.header (counts_of m) in
     ap (λ (s : State). all_of header s.octets []) (sym (composed_is most m))
     ∙ ap (λ rest. header ++ rest) (append-nil (drop 12 (octets_of most m)) ∙ ap (drop 12) grows.1
@@ -83,14 +83,14 @@ all_is most m =
 
 -- ---- it is read
 
-read_all : (most : ℕ) (m : Message) → Fits m → length (with_additionals most m).octets ≤ 65535
+read_all : (most : ℕ) (m : Message) → MessageFits m → length (with_additionals most m).octets ≤ 65535
     → length (octets_of most m) ≤ 65535
     → ReadsBack (all_of (header_octets m.header (counts_of m)) (with_additionals most m).octets []) m
 read_all most m fits few all_few =
     let counts = counts_of m in
     let header = header_octets m.header counts in
     let twelve = header_length m.header counts in
-    let s0 = headed m.header counts in
+    let s0 = with_only_header m.header counts in
     let s1 = with_questions most m in
     let s2 = with_answers most m in
     let s3 = with_authorities most m in
@@ -149,7 +149,7 @@ read_all most m fits few all_few =
     }
 
 -- A message that was written is read back.
-pub is_read_back : (most : ℕ) (m : Message) → Fits m → length (octets_of most m) ≤ 65535
+pub is_read_back : (most : ℕ) (m : Message) → MessageFits m → length (octets_of most m) ≤ 65535
     → ReadsBack (octets_of most m) m
 is_read_back most m fits few =
     let ends = ap (λ (s : State). length s.octets) (composed_is most m) in

@@ -9,7 +9,7 @@ use Rattle.std.proofs.lemmas.List.Concat.{flat_map-cons}
 use Rattle.std.proofs.lemmas.List.Elements.{All-head, All-nil, All-cons, All-more, All-tail}
 use Rattle.std.specs.List.{All, AllByRecursion}
 use Rattle.octseq.specs.Integer.{be, octets_be}
-use Rattle.octseq.specs.Limit.{IsPast}
+use Rattle.octseq.specs.Limit.{ExceedsLimit}
 use Rattle.octseq.specs.Part.{part_of}
 use Rattle.octseq.specs.Window.{Window, at, left, next, past, rest, whole}
 use Rattle.octseq.proofs.WindowsAfter.{front_comes_next}
@@ -24,7 +24,7 @@ use Rattle.octseq.proofs.Limits.{past_more}
 
 -- a string that exceeds a limit exceeds it with those after it
 pub past_string : (limit : Option ℕ) (now part rest old all : List ℕ) → now ++ (part ++ rest) ≡ old ++ all
-    → IsPast limit (length now + length part) → IsPast limit (length old + length all)
+    → ExceedsLimit limit (length now + length part) → ExceedsLimit limit (length old + length all)
 past_string limit now part rest old all same past =
     let long : length now + length (part ++ rest) ≡ length old + length all =
     sym (length-append now (part ++ rest)) ∙ ap length same ∙ length-append old all in

@@ -3,7 +3,7 @@ use Rattle.std.proofs.Common.{◌≡◌, ℕ, Option, List, [], ◌∷◌, ◌++
 use Rattle.std.proofs.lemmas.List.{length-map}
 use Rattle.std.proofs.lemmas.Slice.Zip.{AllZip-long}
 use Rattle.std.specs.List.{AllZip}
-use Rattle.octseq.specs.Limit.{IsPast}
+use Rattle.octseq.specs.Limit.{ExceedsLimit}
 use Rattle.octseq.proofs.Limits.{past_more}
 use Rattle.octseq_dns_message.specs.Entry as entry
 use Rattle.octseq_dns_message.specs.declared.header.Header.{Header}
@@ -11,7 +11,7 @@ use Rattle.octseq_dns_message.specs.declared.header.HeaderCounts.{HeaderCounts}
 use Rattle.octseq_dns.specs.Contents.{Question, Record, Message, counts_of, octets_of, records_in}
 use Rattle.octseq_dns.specs.ReadBack.{bare}
 use Rattle.octseq_dns.specs.Rewritten.{IsMessageOf, IsQuestionOf, IsRecordOf}
-use Rattle.octseq_dns.specs.Writes.{Building, Writes}
+use Rattle.octseq_dns.specs.Writes.{Building, ComposesMessage}
 use Rattle.octseq_dns.proofs.OnlyRecord.{single_record}
 use Rattle.octseq_dns.proofs.Pushed.{twelve_first}
 use Rattle.octseq_dns.proofs.Zips.{zip_append, zip_cut, zip_once}
@@ -26,8 +26,8 @@ asked m = of_sections m.header m.questions [] [] []
 
 -- ---- a message has its header
 
-pub past_twelve : (limit : Option ℕ) (most : ℕ) (m : Message) → IsPast limit 12
-    → IsPast limit (length (octets_of most m))
+pub past_twelve : (limit : Option ℕ) (most : ℕ) (m : Message) → ExceedsLimit limit 12
+    → ExceedsLimit limit (length (octets_of most m))
 past_twelve limit most m past = past_more limit 12 (length (octets_of most m)) (twelve_first most m) past
 
 -- ---- what is written for a message that was read
@@ -92,7 +92,7 @@ module _ {header : Header} {questions : List entry.Question} {answers authoritie
 
 -- it is this message
 abbrev pub WritesIn : {B T : Type 0} → ℕ → Message → Building B T → Type 0
-WritesIn most m b = Writes most m b.state b.header b.counts
+WritesIn most m b = ComposesMessage most m b.state b.header b.counts
 
 pub stage_next : {B T : Type 0} (most : ℕ) (b then : Building B T) (m other : Message) → WritesIn most m b → m ≡ other
     → then ≡ b → WritesIn most other then

@@ -71,12 +71,12 @@ abbrev pub entries_of : Message → List Entry
 entries_of m = map question_entry m.questions ++ map record_entry (records_in m)
 
 -- a header, with no names that pointers may lead to
-abbrev pub headed : Header → HeaderCounts → State
-headed h counts = record { octets = header_octets h counts; names = empty }
+abbrev pub with_only_header : Header → HeaderCounts → State
+with_only_header h counts = record { octets = header_octets h counts; names = empty }
 
 -- The octets of a message, and the names in it that pointers may lead to; at most `most` names are kept.
 abbrev pub composed : ℕ → Message → State
-composed most m = with_entries most (headed m.header (counts_of m)) (entries_of m)
+composed most m = with_entries most (with_only_header m.header (counts_of m)) (entries_of m)
 
 abbrev pub octets_of : ℕ → Message → List ℕ
 octets_of most m = (composed most m).octets
@@ -104,7 +104,7 @@ pub record FitsHeader (h : Header) : Type 0 where
   pub rcode : h.rcode < 16
 
 -- All values of a message fit, and no section has more entries than its count can express.
-pub record Fits (m : Message) : Type 0 where
+pub record MessageFits (m : Message) : Type 0 where
   pub header : FitsHeader m.header
   pub questions : AllByRecursion FitsQuestion m.questions
   pub answers : AllByRecursion FitsRecord m.answers

@@ -13,5 +13,5 @@ abbrev pub stream_of : List (List ℕ) → List ℕ
 stream_of messages = flat_map (part_of 2) messages
 
 -- octets at the end of a stream that aren't a whole message: at least one, and no message is at their front
-abbrev pub IsCut : List ℕ → Type 0
-IsCut octets = (0 < length octets) × ¬ HasFront FitsStream (part_of 2) octets
+abbrev pub IsMessageCut : List ℕ → Type 0
+IsMessageCut octets = (0 < length octets) × ¬ HasFront FitsStream (part_of 2) octets

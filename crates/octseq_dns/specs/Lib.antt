@@ -34,7 +34,7 @@ pub use Rattle.octseq_dns_data.specs.Mnemonic
 pub use Rattle.octseq_dns_data.specs.OneRow
 pub use Rattle.octseq_dns_data.specs.Pieces
 pub use Rattle.octseq_dns_data.specs.Places
-pub use Rattle.octseq_dns_data.specs.PlainName
+pub use Rattle.octseq_dns_data.specs.UncompressedName
 pub use Rattle.octseq_dns_data.specs.RdataText
 pub use Rattle.octseq_dns_data.specs.RtypeBitmap
 pub use Rattle.octseq_dns_data.specs.RtypeBitmapMade

@@ -4,7 +4,7 @@ use Rattle.std.specs.List.{AllByRecursion, list_any}
 use Rattle.std.specs.Prelude.{ℕ, ◌<◌, Bool, ◌||◌, ◌&&◌, nat_eq, List, [], ◌∷◌, IsTrue}
 use Rattle.octseq.specs.Window.{left}
 use Rattle.octseq_dns_data.specs.Data.{ParsedRdata}
-use Rattle.octseq_dns_message.specs.RecordData.{IsTyped}
+use Rattle.octseq_dns_message.specs.RecordData.{IsDataTyped}
 use Rattle.octseq_dns_message.specs.Entry.{Record}
 use Rattle.octseq_dns_data.specs.Rtype as types
 
@@ -22,7 +22,7 @@ may_have_names rtype class = list_any (λ t. nat_eq t rtype) types_with_names
 
 -- a record's data doesn't have the form of its type, or the type has no known form
 abbrev pub IsUnknown : Record → Type 0
-IsUnknown r = (rdata : ParsedRdata) → ¬ IsTyped r rdata
+IsUnknown r = (rdata : ParsedRdata) → ¬ IsDataTyped r rdata
 
 -- a record can be moved if its data is parsed, is empty, or is of a type without names
 abbrev pub CanMoveRecord : Record → Type 0

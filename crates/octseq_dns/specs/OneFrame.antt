@@ -7,6 +7,8 @@ use Rattle.octseq.specs.Integer.{be, octets_be}
 use Rattle.octseq.specs.Part.{part_of}
 use Rattle.octseq_dns.specs.Frames.{FitsStream}
 
+-- ---- lemmas: proved below this line, so what the words mean is read above it
+
 head_is : (message : List ℕ) → take 2 (part_of 2 message) ≡ octets_be 2 (length message)
 head_is message =
     let head = octets_be 2 (length message) in

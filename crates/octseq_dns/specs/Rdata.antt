@@ -9,7 +9,7 @@ use Rattle.octseq_dns_compress.specs.State.{Field}
 use Rattle.octseq_dns_data.specs.Data.{ParsedRdata, naptr_form, naptr_parts}
 use Rattle.octseq_dns_data.specs.Local.{form}
 use Rattle.octseq_dns_data.specs.Local.{IsOfClass as IsLocalClass}
-use Rattle.octseq_dns_message.specs.RecordData.{IsTyped}
+use Rattle.octseq_dns_message.specs.RecordData.{IsDataTyped}
 use Rattle.octseq_dns_message.specs.Entry.{Record}
 use Rattle.octseq_dns_name.specs.Wire.{wire}
 use Rattle.octseq_dns_data.specs.Rtype as types
@@ -109,5 +109,5 @@ IsOfClass class _ = Unit {0}
 
 -- A record has the type and the class of the data. If the type is unknown, the record's data has no known form.
 abbrev pub IsOfType : Record → Rdata → Type 0
-IsOfType r (Rdata.unknown rtype octets) = (r.rtype ≡ rtype) × ((parsed : ParsedRdata) → ¬ IsTyped r parsed)
+IsOfType r (Rdata.unknown rtype octets) = (r.rtype ≡ rtype) × ((parsed : ParsedRdata) → ¬ IsDataTyped r parsed)
 IsOfType r said = (r.rtype ≡ rtype_of said) × IsOfClass r.class said

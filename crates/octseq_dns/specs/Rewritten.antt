@@ -16,7 +16,7 @@ use Rattle.octseq_dns.specs.declared.rewriting.RewriteError.{RewriteError}
 use Rattle.octseq_dns.specs.Contents.{Question, Record, Message}
 use Rattle.octseq_dns.specs.Rdata.{bare_rdata, rdata_fields}
 use Rattle.octseq_dns.specs.ReadBack.{bare}
-use Rattle.octseq_dns.specs.Writes.{Building, Writes}
+use Rattle.octseq_dns.specs.Writes.{Building, ComposesMessage}
 
 -- the record that is written for one that was read with this data
 abbrev pub record_of_parsed : entry.Record → ParsedRdata → Record
@@ -59,7 +59,7 @@ any_opt records = list_any (λ (r : entry.Record). nat_eq r.rtype types.opt) rec
 -- A message that was read was rewritten into a builder, within a limit. No push limit is set.
 pub record IsRewritten {R B T : Type 0} {g : Ghosts R} (most : ℕ) (limit : Option ℕ) (source : Parsed R g)
     (b : Building B T) : Type 0 where
-  pub written : (m : Message) → IsContentsOf source m → Writes most m b.state b.header b.counts
+  pub written : (m : Message) → IsContentsOf source m → ComposesMessage most m b.state b.header b.counts
   pub contents : (m : Message) × IsContentsOf source m
   pub fits : IsWithin limit (length b.state.octets)
   pub push_limit : b.push_limit ≡ None

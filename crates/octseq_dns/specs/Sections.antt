@@ -4,9 +4,18 @@ use Rattle.std.proofs.Common.{sym, ap, ◌∙◌, arith, append_assoc, append-ni
 use Rattle.std.proofs.lemmas.List.{length-append, map-append, nil_from_length}
 use Rattle.octseq_dns.specs.Contents.{Question, Record, Message, FitsQuestion, FitsRecord, counts_of, entries_of}
 use Rattle.octseq_dns.specs.Contents.{question_entry, record_entry}
-use Rattle.octseq_dns.specs.Writes.{Takes, TakesRecords, UpToQuestions, UpToAnswers, UpToAuthorities, UpToAdditionals}
+use Rattle.octseq_dns.specs.Writes.{
+  SectionTakes,
+  TakesRecords,
+  UpToQuestions,
+  UpToAnswers,
+  UpToAuthorities,
+  UpToAdditionals,
+}
 use Rattle.octseq_dns.specs.Writes.{more_questions, more_answers, more_authorities, more_additionals}
 use Rattle.octseq.proofs.Repeats.{each_snoc}
+
+-- ---- lemmas: proved below this line, so what the words mean is read above it
 
 -- a list with one more element
 one_longer : {A : Type 0} (row : List A) (one : A) → length (row ++ one ∷ []) ≡ length row + 1
@@ -17,7 +26,7 @@ one_counted : {A : Type 0} (row : List A) (one : A) → length row < 65535 → l
 one_counted row one less = let longer = one_longer row one in omega (arith, longer, less)
 
 -- the question section takes questions
-pub takes_questions : Takes Question question_entry FitsQuestion UpToQuestions (λ c. c.qdcount)
+pub takes_questions : SectionTakes Question question_entry FitsQuestion UpToQuestions (λ c. c.qdcount)
     (λ c n. record c { qdcount = n }) more_questions
 takes_questions = record {
   header = λ m one. refl;

@@ -1,13 +1,13 @@
 -- A message while it is written, and what a push does to it.
 use Rattle.std.specs.Prelude.{◌≡◌, ℕ, ◌+◌, ◌<◌, ◌≤◌, ◌⊎◌, Bool, Option, Some, None, List, [], ◌∷◌, ◌++◌, length}
 use Rattle.std.specs.Prelude.{min, Result, OnOk, OnErr}
-use Rattle.octseq.specs.Limit.{IsPast, IsWithin}
+use Rattle.octseq.specs.Limit.{ExceedsLimit, IsWithin}
 use Rattle.octseq.specs.Refusal.{Refusal, IsShort, IsMemory, append_error}
 use Rattle.octseq.specs.declared.AppendError.{AppendError}
 use Rattle.octseq_dns_compress.specs.State.{State, Entry, with_header}
 use Rattle.octseq_dns_message.specs.declared.header.Header.{Header}
 use Rattle.octseq_dns_message.specs.declared.header.HeaderCounts.{HeaderCounts}
-use Rattle.octseq_dns.specs.Contents.{Question, Record, Message, FitsRecord, Fits, composed, counts_of}
+use Rattle.octseq_dns.specs.Contents.{Question, Record, Message, FitsRecord, MessageFits, composed, counts_of}
 use Rattle.octseq_dns.specs.Contents.{entries_of, record_entry}
 
 -- A message that is being written: the builder of its octets, the table, its octets with the names in them, its header,
@@ -22,16 +22,17 @@ pub record Building (B T : Type 0) : Type 0 where
   pub has_opt : Bool
 
 -- It is this message, with at most `most` names kept.
-pub record Writes (most : ℕ) (m : Message) (state : State) (header : Header) (counts : HeaderCounts) : Type 0 where
+pub record ComposesMessage (most : ℕ) (m : Message) (state : State) (header : Header)
+    (counts : HeaderCounts) : Type 0 where
   pub state_is : state ≡ composed most m
   pub header_is : header ≡ m.header
   pub counts_are : counts ≡ counts_of m
-  pub fits : Fits m
+  pub fits : MessageFits m
 
 -- it is a message that has nothing after its section
 abbrev pub IsBuilt : ℕ → State → Header → HeaderCounts → (HeaderCounts → Type 0) → Type 0
 IsBuilt most state header counts Reaches =
-    ∥ ((m : Message) × Writes most m state header counts) ∥₁ × Reaches counts
+    ∥ ((m : Message) × ComposesMessage most m state header counts) ∥₁ × Reaches counts
 
 -- ---- up to which section it is written
 
@@ -80,7 +81,7 @@ all_more more m (one ∷ rest) = all_more more (more m one) rest
 
 -- A section takes values as entries, and a header has their count. If a message has nothing after the section, one more
 -- value becomes its last entry, and it still has nothing after the section.
-pub record Takes (A : Type 0) (entry : A → Entry) (FitsOne : A → Type 0) (Reaches : HeaderCounts → Type 0)
+pub record SectionTakes (A : Type 0) (entry : A → Entry) (FitsOne : A → Type 0) (Reaches : HeaderCounts → Type 0)
     (count : HeaderCounts → ℕ) (counted : HeaderCounts → ℕ → HeaderCounts) (more : Message → A → Message)
     : Type 0 where
   pub header : (m : Message) (one : A) → (more m one).header ≡ m.header
@@ -89,12 +90,13 @@ pub record Takes (A : Type 0) (entry : A → Entry) (FitsOne : A → Type 0) (Re
       → entries_of (more m one) ≡ entries_of m ++ entry one ∷ []
   pub count_is : (counts : HeaderCounts) (n : ℕ) → count (counted counts n) ≡ n
   pub reaches : (counts : HeaderCounts) (n : ℕ) → Reaches counts → Reaches (counted counts n)
-  pub fits : (m : Message) (one : A) → Fits m → FitsOne one → count (counts_of m) < 65535 → Fits (more m one)
+  pub fits : (m : Message) (one : A) → MessageFits m → FitsOne one → count (counts_of m) < 65535
+      → MessageFits (more m one)
 
 -- a section takes records
 abbrev pub TakesRecords : (HeaderCounts → Type 0) → (HeaderCounts → ℕ) → (HeaderCounts → ℕ → HeaderCounts)
     → (Message → Record → Message) → Type 0
-TakesRecords Reaches count counted more = Takes Record record_entry FitsRecord Reaches count counted more
+TakesRecords Reaches count counted more = SectionTakes Record record_entry FitsRecord Reaches count counted more
 
 -- ---- what a push does
 
@@ -106,12 +108,12 @@ least_limit (Some most) (Some limit) = Some (min most limit)
 
 -- A call changes a message to the wanted state, or leaves it unchanged. It fails with `Short` only if the wanted octets
 -- exceed the limit, and with `Memory` only if a request for memory may be refused.
-pub record Appends (limit : Option ℕ) (Asks : Type 0) (result : Result (Unit {0}) AppendError)
+pub record ChangesMessage (limit : Option ℕ) (Asks : Type 0) (result : Result (Unit {0}) AppendError)
     (wanted old new : State) : Type 0 where
   pub ok : OnOk result (new ≡ wanted)
   pub within : OnOk result (IsWithin limit (length wanted.octets))
   pub err : OnErr result (new ≡ old)
-  pub short : IsShort append_error result → IsPast limit (length wanted.octets)
+  pub short : IsShort append_error result → ExceedsLimit limit (length wanted.octets)
   pub memory : IsMemory append_error result → Asks
 
 -- A call pushes an entry: it changes a message to the wanted state with a header, or leaves it unchanged. It fails with
@@ -121,7 +123,7 @@ pub record PushesAs {E : Type 0} (refusal : E → Refusal) (limit : Option ℕ) 
   pub ok : OnOk result (new ≡ with_header wanted header)
   pub fits : OnOk result (IsWithin limit (length wanted.octets) × (count < 65535))
   pub err : OnErr result (new ≡ old)
-  pub short : IsShort refusal result → IsPast limit (length wanted.octets) ⊎ (65535 ≤ count)
+  pub short : IsShort refusal result → ExceedsLimit limit (length wanted.octets) ⊎ (65535 ≤ count)
   pub memory : IsMemory refusal result → Asks
 
 -- a call with the errors of an append

@@ -4,9 +4,9 @@
 //! builder type of its own, which turns into that of the next, so nothing can be pushed to an earlier section. Each
 //! push appends a whole entry or nothing, and the octets are a message at all times.
 ghost use Rattle.std.specs.Prelude.{◌≡◌, ◌≤◌, ℕ, length};
-ghost use Rattle.octseq_dns.specs.Contents.{Fits, Message, header_octets, octets_of};
+ghost use Rattle.octseq_dns.specs.Contents.{MessageFits, Message, header_octets, octets_of};
 ghost use Rattle.octseq_dns.specs.ReadBack.{ReadsBack};
-ghost use Rattle.octseq_dns.specs.Writes.{IsBuilt, Writes};
+ghost use Rattle.octseq_dns.specs.Writes.{IsBuilt, ComposesMessage};
 ghost use Rattle.octseq_dns_compress.specs.State.{with_header};
 
 use crate::builder::header::octets_of;
@@ -96,8 +96,8 @@ impl<B: OctetsBuilder + Truncate + AsOctetsMut, T: Compressor, S: Section> Secti
         ensures counts { self.new.counts ≡ self.old.counts }
         ensures state { self.new.state ≡ with_header self.old.state (header_octets header self.old.counts) }
         ensures len { length self.new.state.octets ≡ length self.old.state.octets }
-        ensures written { (m : Message) → Writes T.most m self.old.state self.old.header self.old.counts
-            → Writes T.most (record m { header = header }) self.new.state self.new.header self.new.counts }
+        ensures written { (m : Message) → ComposesMessage T.most m self.old.state self.old.header self.old.counts
+            → ComposesMessage T.most (record m { header = header }) self.new.state self.new.header self.new.counts }
         ensures push_limit { self.new.push_limit ≡ self.old.push_limit }
         ensures has_opt { self.new.has_opt ≡ self.old.has_opt }
         ensures borrows { B.borrows self.new.octets ≡ B.borrows self.old.octets }

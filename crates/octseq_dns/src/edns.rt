@@ -12,7 +12,7 @@ ghost use Rattle.octseq_dns.specs.Contents.{Message, header_octets, record_entry
 ghost use Rattle.octseq_dns.specs.OptWritten.{option_octets, options_octets, opt_fields, opt_record, opt_ttl};
 ghost use Rattle.octseq_dns.specs.OptWritten.{FitsOpt, SaysOpt, push_opt_error};
 ghost use Rattle.octseq_dns.specs.ReadBack.{IsAsWritten};
-ghost use Rattle.octseq_dns.specs.Writes.{PushesAs, Writes, least_limit, more_additionals};
+ghost use Rattle.octseq_dns.specs.Writes.{PushesAs, ComposesMessage, least_limit, more_additionals};
 
 use crate::builder::AdditionalBuilder;
 use crate::rdata::ComposeRecordData;
@@ -150,8 +150,8 @@ impl<B: OctetsBuilder + Truncate + AsOctetsMut, T: Compressor> AdditionalBuilder
             (header_octets self.new.header self.new.counts) self.old.counts.arcount
             self.old.state self.new.state }
         ensures written { OnOk result ((m : Message)
-            → Writes T.most m self.old.state self.old.header self.old.counts
-            → Writes T.most (more_additionals m (opt_record opt.now))
+            → ComposesMessage T.most m self.old.state self.old.header self.old.counts
+            → ComposesMessage T.most (more_additionals m (opt_record opt.now))
             self.new.state self.new.header self.new.counts) }
         ensures within { OnOk result (IsWithin (least_limit self.old.push_limit (message_limit B.limit))
             (length self.new.state.octets)) }

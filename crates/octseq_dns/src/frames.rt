@@ -9,7 +9,7 @@ ghost use Rattle.octseq.specs.Integer.{be};
 ghost use Rattle.octseq.specs.Part.{part_of};
 ghost use Rattle.octseq.specs.Parser.{window, sequence};
 ghost use Rattle.octseq.specs.Window.{left, rest};
-ghost use Rattle.octseq_dns.specs.Frames.{FitsStream, IsCut, stream_of};
+ghost use Rattle.octseq_dns.specs.Frames.{FitsStream, IsMessageCut, stream_of};
 
 use octseq::{AsOctets, Malformed, Parser, ShortInput};
 use octseq_stream::Framing;
@@ -47,7 +47,7 @@ pub fn next_frame<R: AsOctets + Copy>(
         × (rest (window parser.old) ≡ part_of 2 (rest (window frame)) ++ rest (window parser.new))
         × (left (window parser.new) < left (window parser.old)))) }
     ensures end { IfOk result (λ frame. IfNone frame (rest (window parser.old) ≡ [])) }
-    ensures cut { OnErr result (IsCut (rest (window parser.old))) }
+    ensures cut { OnErr result (IsMessageCut (rest (window parser.old))) }
     ensures kept { OnErr result (window parser.new ≡ window parser.old) }
     ensures same { sequence parser.new ≡ sequence parser.old }
 {
@@ -116,7 +116,7 @@ pub fn read_frame<R: Read>(reader: &mut R, frame: &mut Vec<u8>) -> Result<bool, 
         × Consumes (R.remaining reader.old) (R.remaining reader.new) (part_of 2 frame.new.items) }
     ensures end { result ≡ Ok false → Consumes (R.remaining reader.old) (R.remaining reader.new) []
         × IsAtEnd (R.remaining reader.new) }
-    ensures short { result ≡ Err FrameError.Short → (read : List ℕ) × IsCut read
+    ensures short { result ≡ Err FrameError.Short → (read : List ℕ) × IsMessageCut read
         × Consumes (R.remaining reader.old) (R.remaining reader.new) read × IsAtEnd (R.remaining reader.new) }
     ensures malformed { result ≢ Err FrameError.Malformed }
     ensures err { OnErr result ((read : List ℕ) × ¬ HasFront FitsStream (part_of 2) read

@@ -2,7 +2,7 @@
 //!
 //! A message is octets that anyone may have sent. [`Message::parse`] accepts every message of RFC 1035 and nothing
 //! else, and requests no memory. It returns a value that says where everything is: the header, and iterators over the
-//! sections that can't fail. A name is its place in the message, with its compression pointers.
+//! sections that can't fail. A name is its offset in the message, with its compression pointers.
 //!
 //! [`MessageBuilder`] writes a message, section by section, into an octets builder. A table of the names in the message
 //! is used for compression. What was written is read back as that message.

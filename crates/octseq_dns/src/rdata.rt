@@ -237,6 +237,7 @@ fn compose_srv<B: OctetsBuilder + Truncate + AsOctetsMut, T: Compressor, R: AsOc
 {
     message.append_slice(&srv_numbers(srv))?;
     a_name_has_labels(&srv.target);
+    // A name has at most 255 octets.
     let _len = srv.target.len();
     let mut target = Array::<255>::new();
     infallible(DomainName::put(&mut target, &srv.target));

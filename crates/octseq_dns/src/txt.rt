@@ -1,7 +1,7 @@
 //! Writing TXT data, from strings or from one text: RFC 1035, 3.3 and 3.3.14.
 ghost use Rattle.std.specs.Prelude.{◌≡◌, ◌↔◌, ℕ, ◌+◌, ◌++◌, ◌≤◌, true, List, length, map, IsTrue, OnOk, OnErr};
 ghost use Rattle.octseq.specs.Appends.{Appends};
-ghost use Rattle.octseq.specs.Limit.{IsPast};
+ghost use Rattle.octseq.specs.Limit.{ExceedsLimit};
 ghost use Rattle.octseq.specs.Part.{part_of};
 ghost use Rattle.octseq.specs.Refusal.{IsMalformed, IsMemory, IsShort, append_error, write_error};
 ghost use Rattle.octseq.specs.Window.{Window, whole};
@@ -40,10 +40,10 @@ pub fn append_strings<B: OctetsBuilder + Truncate>(
     ensures ok { OnOk result (B.content octets.new
         ≡ B.content octets.old ++ spelling (map (λ string. string.now) strings.now)) }
     ensures err { OnErr result (B.content octets.new ≡ B.content octets.old) }
-    ensures fits { OnOk result (¬ IsPast B.limit
+    ensures fits { OnOk result (¬ ExceedsLimit B.limit
         (length (B.content octets.old) + length (spelling (map (λ string. string.now) strings.now)))) }
     ensures malformed { IsMalformed write_error result ↔ ¬ AreStrings (map (λ string. string.now) strings.now) }
-    ensures short { IsShort write_error result → IsPast B.limit
+    ensures short { IsShort write_error result → ExceedsLimit B.limit
         (length (B.content octets.old) + length (spelling (map (λ string. string.now) strings.now))) }
     ensures memory { IsMemory write_error result → B.asks ≡ true }
     ensures borrows { B.borrows octets.new ≡ B.borrows octets.old }
@@ -84,10 +84,10 @@ pub fn append_text<B: OctetsBuilder + Truncate>(
     ensures ok { OnOk result (B.content octets.new
         ≡ B.content octets.old ++ spelling (strings_of_text text.now)) }
     ensures err { OnErr result (B.content octets.new ≡ B.content octets.old) }
-    ensures fits { OnOk result (¬ IsPast B.limit
+    ensures fits { OnOk result (¬ ExceedsLimit B.limit
         (length (B.content octets.old) + length (spelling (strings_of_text text.now)))) }
     ensures strings { AreStrings (strings_of_text text.now) }
-    ensures short { IsShort append_error result → IsPast B.limit
+    ensures short { IsShort append_error result → ExceedsLimit B.limit
         (length (B.content octets.old) + length (spelling (strings_of_text text.now))) }
     ensures memory { IsMemory append_error result → B.asks ≡ true }
     ensures borrows { B.borrows octets.new ≡ B.borrows octets.old }
@@ -141,9 +141,9 @@ fn append_each<B: OctetsBuilder + Truncate>(
     ensures ok { OnOk result (B.content octets.new
         ≡ B.content octets.old ++ spelling (map (λ string. string.now) strings.now)) }
     ensures err { OnErr result (B.content octets.new ≡ B.content octets.old) }
-    ensures fits { OnOk result (¬ IsPast B.limit
+    ensures fits { OnOk result (¬ ExceedsLimit B.limit
         (length (B.content octets.old) + length (spelling (map (λ string. string.now) strings.now)))) }
-    ensures short { IsShort append_error result → IsPast B.limit
+    ensures short { IsShort append_error result → ExceedsLimit B.limit
         (length (B.content octets.old) + length (spelling (map (λ string. string.now) strings.now))) }
     ensures memory { IsMemory append_error result → B.asks ≡ true }
     ensures borrows { B.borrows octets.new ≡ B.borrows octets.old }

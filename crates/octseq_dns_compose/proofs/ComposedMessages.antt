@@ -23,13 +23,21 @@ use Rattle.octseq_dns_compose.proofs.ShownRecords.{record_fit}
 use Rattle.octseq_dns.specs.Contents.{Message, Question, Record}
 use Rattle.octseq_dns.specs.Writes.{all_more, more_additionals, more_answers, more_authorities, more_questions}
 use Rattle.octseq_dns_message.specs.declared.header.Header.{Header}
-use Rattle.octseq_dns_compose.specs.MessageShown.{IsMessageOf, SaysLines, entries_said}
-use Rattle.octseq_dns_compose.specs.MessageText.{Entry, IsMessageText, IsRecordOf, IsWith, IsWithAll, Said, SayEntries}
+use Rattle.octseq_dns_compose.specs.MessageShown.{IsMessageOfLines, SaysLines, entries_said}
+use Rattle.octseq_dns_compose.specs.MessageText.{
+  EntryLine,
+  IsTextOfMessage,
+  IsRecordOfLine,
+  IsWith,
+  IsWithAll,
+  RecordLine,
+  SayEntries,
+}
 use Rattle.octseq_dns_compose.specs.MessageText.{headed_message}
 use Rattle.octseq_dns_compose.proofs.SectionLines.{whole_message, whole_with}
 use Rattle.octseq_dns_compose.proofs.OneMessage.{lines_once, lines_say}
 
-split_all : (m all : Message) (xs ys : List Entry) → IsWithAll m (xs ++ ys) all
+split_all : (m all : Message) (xs ys : List EntryLine) → IsWithAll m (xs ++ ys) all
     → (mid : Message) × IsWithAll m xs mid × IsWithAll mid ys all
 split_all m all [] ys is = (m, refl, is)
 split_all m all (x ∷ xs) ys (more, one, rest) =
@@ -37,7 +45,7 @@ split_all m all (x ∷ xs) ys (more, one, rest) =
     (mid, (more, one, front), after)
 
 -- entries of a section, each with a value of it
-all_made : {A S : Type 0} (make : S → Entry) (Is : S → A → Type 0) (more : Message → A → Message)
+all_made : {A S : Type 0} (make : S → EntryLine) (Is : S → A → Type 0) (more : Message → A → Message)
     → ((m all : Message) (s : S) → IsWith m (make s) all → (x : A) × Is s x × (all ≡ more m x)) → (m all : Message)
     (said : List S) → IsWithAll m (map make said) all
     → (xs : List A) × AllZip Is said xs × (all ≡ all_more more m xs)
@@ -95,54 +103,57 @@ whole_is header questions rs us ds =
     (all_questions (headed_message header) questions)))
 
 -- what entries say of a message
-message_of : (header : Header) (questions : List Question) (answers authorities additionals : List Said) (m : Message)
+message_of : (header : Header) (questions : List Question) (answers authorities additionals : List RecordLine)
+    (m : Message)
     → IsWithAll (headed_message header) (entries_said questions answers authorities additionals) m
-    → IsMessageOf header questions answers authorities additionals m
+    → IsMessageOfLines header questions answers authorities additionals m
 message_of header questions answers authorities additionals m is =
     let m0 = headed_message header in
-    let e3 = map Entry.additional additionals ++ [] in
-    let e2 = map Entry.authority authorities ++ e3 in
-    let e1 = map Entry.answer answers ++ e2 in
-    let (m1, one, rest1) = split_all m0 m (map Entry.question questions) e1 is in
-    let (m2, two, rest2) = split_all m1 m (map Entry.answer answers) e2 rest1 in
-    let (m3, three, rest3) = split_all m2 m (map Entry.authority authorities) e3 rest2 in
-    let (m4, four, same) = split_all m3 m (map Entry.additional additionals) [] rest3 in
-    let (qs, q_are, q_is) = all_made Entry.question (λ q other. other ≡ q) more_questions (λ n more q it. (q, refl, it))
+    let e3 = map EntryLine.additional additionals ++ [] in
+    let e2 = map EntryLine.authority authorities ++ e3 in
+    let e1 = map EntryLine.answer answers ++ e2 in
+    let (m1, one, rest1) = split_all m0 m (map EntryLine.question questions) e1 is in
+    let (m2, two, rest2) = split_all m1 m (map EntryLine.answer answers) e2 rest1 in
+    let (m3, three, rest3) = split_all m2 m (map EntryLine.authority authorities) e3 rest2 in
+    let (m4, four, same) = split_all m3 m (map EntryLine.additional additionals) [] rest3 in
+    let (qs, q_are, q_is) = all_made EntryLine.question (λ q other. other ≡ q) more_questions
+    (λ n more q it. (q, refl, it))
     m0 m1 questions one in
-    let (rs, r_are, r_is) = all_made Entry.answer IsRecordOf more_answers (λ n more s it. it) m1 m2 answers two in
+    let (rs, r_are, r_is) = all_made EntryLine.answer IsRecordOfLine more_answers
+    (λ n more s it. it) m1 m2 answers two in
     let (us, u_are, u_is) =
-    all_made Entry.authority IsRecordOf more_authorities (λ n more s it. it) m2 m3 authorities three in
+    all_made EntryLine.authority IsRecordOfLine more_authorities (λ n more s it. it) m2 m3 authorities three in
     let (ds, d_are, d_is) =
-    all_made Entry.additional IsRecordOf more_additionals (λ n more s it. it) m3 m4 additionals four in
+    all_made EntryLine.additional IsRecordOfLine more_additionals (λ n more s it. it) m3 m4 additionals four in
     let all : m ≡ message_with header qs rs us ds =
     same ∙ d_is ∙ ap (λ n. all_more more_additionals n ds) (u_is ∙ ap (λ n. all_more more_authorities n us)
     (r_is ∙ ap (λ n. all_more more_answers n rs) q_is)) ∙ whole_is header qs rs us ds in
     record {
       header_is = ap (λ (n : Message). n.header) all;
       questions_are = ap (λ (n : Message). n.questions) all ∙ each_same questions qs q_are;
-      answers_are = subst (AllZip IsRecordOf answers) (sym (ap (λ (n : Message). n.answers) all)) r_are;
-      authorities_are = subst (AllZip IsRecordOf authorities) (sym (ap (λ (n : Message). n.authorities) all)) u_are;
-      additionals_are = subst (AllZip IsRecordOf additionals) (sym (ap (λ (n : Message). n.additionals) all)) d_are;
+      answers_are = subst (AllZip IsRecordOfLine answers) (sym (ap (λ (n : Message). n.answers) all)) r_are;
+      authorities_are = subst (AllZip IsRecordOfLine authorities) (sym (ap (λ (n : Message). n.authorities) all)) u_are;
+      additionals_are = subst (AllZip IsRecordOfLine additionals) (sym (ap (λ (n : Message). n.additionals) all)) d_are;
     }
 
 -- the messages of a text are those
 pub messages_of : (text : List ℕ) (header : Header) (questions : List Question)
-    (answers authorities additionals : List Said) (m : Message)
+    (answers authorities additionals : List RecordLine) (m : Message)
     → SaysLines text header (entries_said questions answers authorities additionals)
-    → IsMessageText text m ↔ IsMessageOf header questions answers authorities additionals m
+    → IsTextOfMessage text m ↔ IsMessageOfLines header questions answers authorities additionals m
 messages_of text header questions answers authorities additionals m says = (there, back)
   where
-    there : IsMessageText text m → IsMessageOf header questions answers authorities additionals m
+    there : IsTextOfMessage text m → IsMessageOfLines header questions answers authorities additionals m
     there is =
         let entries = entries_said questions answers authorities additionals in
         let lines = lines_once text is.lines says.lines is.lines_are says.lines_are in
         let both = lines_say says.lines is.header header is.entries entries
         (subst (λ l. SayEntries l is.header is.entries) lines is.say) says.say in
-        let headed = subst (λ h. IsWithAll (headed_message h) is.entries m) both.0 is.message_is in
+        let with_only_header = subst (λ h. IsWithAll (headed_message h) is.entries m) both.0 is.message_is in
         message_of header questions answers authorities additionals m
-        (subst (λ es. IsWithAll (headed_message header) es m) both.1 headed)
+        (subst (λ es. IsWithAll (headed_message header) es m) both.1 with_only_header)
 
-    back : IsMessageOf header questions answers authorities additionals m → IsMessageText text m
+    back : IsMessageOfLines header questions answers authorities additionals m → IsTextOfMessage text m
     back is =
         let entries = entries_said questions answers authorities additionals in
         let made = whole_with header questions answers authorities additionals m.answers m.authorities m.additionals
@@ -162,7 +173,7 @@ messages_of text header questions answers authorities additionals m says = (ther
 -- ---- a message that was read
 
 record_again : (w : Window) (r : read.Record) (v : Window) (rdata : ParsedRdata) → IsSound w → IsRecord w r v
-    → IsDataOf r rdata → IsRecordOf (said_of r rdata) (record_of_parsed r rdata)
+    → IsDataOf r rdata → IsRecordOfLine (said_of r rdata) (record_of_parsed r rdata)
 record_again w r v rdata sound is says =
     let (u, fit) = record_fit w r v sound is in
     let (parsed, same, alone) = says_alone r rdata fit.own fit.place fit.inside says in
@@ -178,9 +189,9 @@ record_again w r v rdata sound is says =
       };
     }
 
-records_again : (w v : Window) (records : List read.Record) (said : List Said) (written : List Record) → IsSound w
+records_again : (w v : Window) (records : List read.Record) (said : List RecordLine) (written : List Record) → IsSound w
     → Row IsRecord w records v → AllZip IsSaidOf records said
-    → AllZip rewritten.IsRecordOf records written → AllZip IsRecordOf said written
+    → AllZip rewritten.IsRecordOf records written → AllZip IsRecordOfLine said written
 records_again w v [] [] [] sound row are others = tt
 records_again w v [] (s ∷ said) written sound row are others = absurd are
 records_again w v [] [] (x ∷ written) sound row are others = absurd others
@@ -192,7 +203,7 @@ records_again w v (r ∷ records) (s ∷ said) (x ∷ written) sound (u, is, row
     let one = other.is ∙ ap (record_of_parsed r) (one_said r other.parsed rdata other.data_is says) in
     let it = record_again w r u rdata sound is says in
     let on = sound_on onward_record w r u sound is in (
-      subst (λ t. IsRecordOf t x) (sym same) (subst (IsRecordOf (said_of r rdata)) (sym one) it),
+      subst (λ t. IsRecordOfLine t x) (sym same) (subst (IsRecordOfLine (said_of r rdata)) (sym one) it),
       records_again u v records said written on row are.1 others.1,
     )
 
@@ -201,7 +212,7 @@ pub message_again : (text : List ℕ) (header : Header) (questions : List read.Q
     (answers authorities additionals : List read.Record) (m : Message)
     → AreRows header questions answers authorities additionals
     → shown.IsMessageText header questions answers authorities additionals text
-    → rewritten.IsMessageOf (header_said header) questions answers authorities additionals m → IsMessageText text m
+    → rewritten.IsMessageOf (header_said header) questions answers authorities additionals m → IsTextOfMessage text m
 message_again text header questions answers authorities additionals m rows is of =
     let said = message_shown text header questions answers authorities additionals rows is in
     let answered = rows.answered in

@@ -3,24 +3,24 @@ use Rattle.std.proofs.Common.{◌≡◌, ◌⊎◌, ℕ, ◌+◌, ◌≤◌, Opt
 use Rattle.std.proofs.Common.{Bool, true, refl, sym, ap, ◌∙◌, subst, inl, inr, arith}
 use Rattle.std.proofs.lemmas.List.{length-append}
 use Rattle.std.specs.List.{AllByRecursion, AllZip}
-use Rattle.octseq.specs.Limit.{IsPast, IsWithin}
+use Rattle.octseq.specs.Limit.{ExceedsLimit, IsWithin}
 use Rattle.octseq_dns.specs.Contents.{Message, Record, counts_of, entries_of}
-use Rattle.octseq_dns.specs.Writes.{Building, Writes, all_more, least_limit, more_additionals, more_answers}
+use Rattle.octseq_dns.specs.Writes.{Building, ComposesMessage, all_more, least_limit, more_additionals, more_answers}
 use Rattle.octseq_dns.specs.Writes.{more_authorities, more_questions}
 use Rattle.octseq_dns_compress.specs.Composed.{message_limit}
 use Rattle.octseq_dns_message.specs.declared.header.Header.{Header}
 use Rattle.octseq_dns_message.specs.declared.header.HeaderCounts.{HeaderCounts}
 use Rattle.octseq_dns_compose.specs.HeaderLine.{IsHeaderLine}
-use Rattle.octseq_dns_compose.specs.MessageText.{AreEntries, Entry, IsAnyText, IsMessageText}
+use Rattle.octseq_dns_compose.specs.MessageText.{AreEntries, EntryLine, IsAnyText, IsTextOfMessage}
 use Rattle.octseq_dns_compose.specs.MessageText.{IsQuestionLine}
-use Rattle.octseq_dns_compose.specs.MessageText.{IsRecordLine, IsWith, IsWithAll, Said, SayEntries}
+use Rattle.octseq_dns_compose.specs.MessageText.{IsRecordLine, IsWith, IsWithAll, RecordLine, SayEntries}
 use Rattle.octseq_dns_compose.specs.MessageText.{headed_message, section_of}
-use Rattle.octseq_dns_compose.specs.Progress.{ExceedsNext, HasPushed, HasRead, IsAsked, IsSmallRecord, PushedUpTo}
+use Rattle.octseq_dns_compose.specs.Progress.{ExceedsNext, HasPushed, HasReadLines, IsAsked, IsSmallRecord, PushedUpTo}
 use Rattle.octseq_dns_compose.specs.QuestionText.{IsAnyQuestion}
 use Rattle.octseq_dns_compose.specs.RecordText.{IsAnyRecord}
 use Rattle.octseq_dns_compose.specs.TextLines.{IsFaultyLine, IsLineFault, IsLongLine, IsNoneOf, TakesLine}
 use Rattle.octseq_dns_compose.specs.TooLong.{BeginsWithEntries, Exceeds, HasListLine, IsListLine}
-use Rattle.octseq_dns_compose.specs.TooLong.{IsRecordWord, IsTooLong, data_octets}
+use Rattle.octseq_dns_compose.specs.TooLong.{IsRecordWord, IsMessageTooLong, data_octets}
 use Rattle.octseq_dns_compose.proofs.LineFaults.{LeadsLines, Line, leads_on, led_line_fault, lines_end, lines_more}
 use Rattle.octseq_dns_compose.proofs.MessageFaults.{AnyEntries, IsSection, NoneFrom, SaysAs, after_header, entry_fault}
 use Rattle.octseq_dns_compose.proofs.MessageFaults.{of_questions, of_records, section_in, word_in}
@@ -29,7 +29,7 @@ use Rattle.octseq_dns_compose.proofs.Overrun.{counts_most, header_past, past_lim
 
 -- ---- entries after others
 
-weaker : (from to : ℕ) (entries : List Entry) (lines : List Line) → from ≤ to → AreEntries to entries lines
+weaker : (from to : ℕ) (entries : List EntryLine) (lines : List Line) → from ≤ to → AreEntries to entries lines
     → AreEntries from entries lines
 weaker from to entries [] less are = are
 weaker from to entries (words ∷ lines) less are =
@@ -37,7 +37,7 @@ weaker from to entries (words ∷ lines) less are =
     (are.0, are.1, are.2, omega (arith, less, after), are.4, are.5)
 
 -- none of them is of a later section
-abbrev UpTo : ℕ → List Entry → Type 0
+abbrev UpTo : ℕ → List EntryLine → Type 0
 UpTo section entries = AllByRecursion (λ entry. section_of entry ≤ section) entries
 
 all_append : {A : Type 0} (P : A → Type 0) (xs ys : List A) → AllByRecursion P xs → AllByRecursion P ys
@@ -45,12 +45,12 @@ all_append : {A : Type 0} (P : A → Type 0) (xs ys : List A) → AllByRecursion
 all_append P [] ys are more = more
 all_append P (x ∷ xs) ys are more = (are.0, all_append P xs ys are.1 more)
 
-up_to_later : (from section : ℕ) (entries : List Entry) → from ≤ section → UpTo from entries → UpTo section entries
+up_to_later : (from section : ℕ) (entries : List EntryLine) → from ≤ section → UpTo from entries → UpTo section entries
 up_to_later from section [] less are = tt
 up_to_later from section (entry ∷ entries) less are =
     let here = are.0 in (omega (arith, here, less), up_to_later from section entries less are.1)
 
-pub entries_after : (from section : ℕ) (entries others : List Entry) (lines more : List Line) → from ≤ section
+pub entries_after : (from section : ℕ) (entries others : List EntryLine) (lines more : List Line) → from ≤ section
     → AreEntries from entries lines → UpTo section entries → AreEntries section others more
     → AreEntries from (entries ++ others) (lines ++ more)
 entries_after from section entries others [] more less are last after =
@@ -65,7 +65,7 @@ entries_after from section entries others (words ∷ lines) more less are last a
       entries_after (section_of are.0) section are.1 others lines more ends.0 are.5 ends.1 after,
     )
 
-pub with_more : (m n all : Message) (entries others : List Entry) → IsWithAll m entries n → IsWithAll n others all
+pub with_more : (m n all : Message) (entries others : List EntryLine) → IsWithAll m entries n → IsWithAll n others all
     → IsWithAll m (entries ++ others) all
 with_more m n all [] others one two = subst (λ x. IsWithAll x others all) one two
 with_more m n all (entry ∷ entries) others one two =
@@ -73,7 +73,8 @@ with_more m n all (entry ∷ entries) others one two =
 
 -- ---- the entries of one section
 
-pub section_entries : {A : Type 0} (make : A → Entry) (IsText : A → Line → Type 0) (section from : ℕ) (values : List A)
+pub section_entries : {A : Type 0} (make : A → EntryLine) (IsText : A → Line → Type 0) (section from : ℕ)
+    (values : List A)
     (lines : List Line) → SaysAs make IsText section → from ≤ section → AllZip IsText values lines
     → AreEntries from (map make values) lines
 section_entries make IsText section from [] [] says less all = refl
@@ -88,7 +89,7 @@ section_entries make IsText section from (a ∷ values) (words ∷ lines) says l
     )
 section_entries make IsText section from values lines says less all = absurd all
 
-pub section_up_to : {A : Type 0} (make : A → Entry) (section : ℕ) (values : List A)
+pub section_up_to : {A : Type 0} (make : A → EntryLine) (section : ℕ) (values : List A)
     → ((a : A) → section_of (make a) ≡ section) → UpTo section (map make values)
 section_up_to make section [] of = tt
 section_up_to make section (a ∷ values) of =
@@ -108,7 +109,7 @@ pub record SaidUpTo (text ahead : List ℕ) (now next : ℕ) : Type 0 where
   pub leads : LeadsLines IsAnyText (AnyEntries to) front.lines
   pub none : NoneFrom to next ahead
 
-abbrev pub IsSmall : Entry → Type 0
+abbrev pub IsSmall : EntryLine → Type 0
 IsSmall entry = length (data_octets entry) ≤ 65535
 
 -- They are those of a message, which is written within a limit, with no push limit, and none has long data.
@@ -118,7 +119,7 @@ pub record Stage {B T : Type 0} (most : ℕ) (limit : Option ℕ) (text ahead : 
   pub m : Message
   pub message_is : IsWithAll (headed_message said.front.header) said.front.entries m
   pub small : AllByRecursion IsSmall said.front.entries
-  pub writes : Writes most m b.state b.header b.counts
+  pub writes : ComposesMessage most m b.state b.header b.counts
   pub within : IsWithin (message_limit limit) (length b.state.octets)
   pub free : b.push_limit ≡ None
 
@@ -139,7 +140,7 @@ ReadsHeader text ahead number now header =
 
 pub header_stage : {B T : Type 0} {most : ℕ} {limit : Option ℕ} {text whole ahead : List ℕ} {number now : ℕ}
     {b other : Building B T} (header : Header) → other ≡ b → whole ≡ text → number ≡ 1
-    → ReadsHeader whole ahead number now header → Writes most (headed_message header) b.state b.header b.counts
+    → ReadsHeader whole ahead number now header → ComposesMessage most (headed_message header) b.state b.header b.counts
     → IsWithin (message_limit limit) (length b.state.octets) → b.push_limit ≡ None
     → Stage most limit text ahead now 0 other
 header_stage {most = most} {limit = limit} {text = text} {ahead = ahead} {now = now} header also same one read writes
@@ -164,8 +165,8 @@ header_stage {most = most} {limit = limit} {text = text} {ahead = ahead} {now = 
     })
 
 pub long_header : {text whole ahead : List ℕ} {now : ℕ} (number most : ℕ) (limit : Option ℕ) (header : Header)
-    → whole ≡ text → ReadsHeader whole ahead number now header → IsPast limit 12
-    → IsTooLong most (message_limit limit) text
+    → whole ≡ text → ReadsHeader whole ahead number now header → ExceedsLimit limit 12
+    → IsMessageTooLong most (message_limit limit) text
 long_header {text = text} {ahead = ahead} number most limit header same read past = inl (record {
   ahead = ahead;
   front = header_front text ahead header read.0 (subst (λ t. TakesLine read.0 t ahead) same read.1) read.2;
@@ -174,7 +175,7 @@ long_header {text = text} {ahead = ahead} number most limit header same read pas
   past = header_past most limit (headed_message header) past;
 })
 
-says_more : (lines more : List Line) (header : Header) (entries others : List Entry) (section : ℕ)
+says_more : (lines more : List Line) (header : Header) (entries others : List EntryLine) (section : ℕ)
     → SayEntries lines header entries → UpTo section entries → AreEntries section others more
     → SayEntries (lines ++ more) header (entries ++ others)
 says_more lines more header entries others section say last are = record {
@@ -188,16 +189,16 @@ says_more lines more header entries others section say last are = record {
 -- ---- one section more
 
 -- A section: its entries, what their lines say, the word for it and what may follow that.
-pub record Section {A : Type 0} (make : A → Entry) (IsText : A → Line → Type 0) (section : ℕ) (word : List ℕ)
+pub record Section {A : Type 0} (make : A → EntryLine) (IsText : A → Line → Type 0) (section : ℕ) (word : List ℕ)
     (Texts : Line → List ℕ → Type 0) : Type 0 where
   pub says : SaysAs make IsText section
   pub of : IsSection section word Texts
   pub few : section ≤ 3
 
-module _ {A : Type 0} {make : A → Entry} {IsText : A → Line → Type 0} {section : ℕ} {word : List ℕ}
+module _ {A : Type 0} {make : A → EntryLine} {IsText : A → Line → Type 0} {section : ℕ} {word : List ℕ}
     {Texts : Line → List ℕ → Type 0} (sect : Section make IsText section word Texts) {text a : List ℕ} {i : ℕ}
     (now : SaidUpTo text a i section) where
-  abbrev section_front : (b : List ℕ) (j : ℕ) (values : List A) → HasRead IsText a b i j values
+  abbrev section_front : (b : List ℕ) (j : ℕ) (values : List A) → HasReadLines IsText a b i j values
       → BeginsWithEntries text b
   section_front b j values read =
       let front = now.front in
@@ -216,7 +217,7 @@ module _ {A : Type 0} {make : A → Entry} {IsText : A → Line → Type 0} {sec
       (section_up_to make section values sect.says.of)
 
   -- past some of its lines
-  abbrev section_said : (b : List ℕ) (j : ℕ) (values : List A) → HasRead IsText a b i j values
+  abbrev section_said : (b : List ℕ) (j : ℕ) (values : List A) → HasReadLines IsText a b i j values
       → SaidUpTo text b j section
   section_said b j values read =
       let front = now.front in
@@ -271,7 +272,7 @@ end_at {text = text} {ahead = ahead} {now = now} said some =
 -- ---- the sections
 
 -- A section that is pushed: its entries in a message, and their count.
-pub record Pushes {A R : Type 0} (make : A → Entry) (IsText : A → Line → Type 0) (Is : A → R → Type 0)
+pub record Pushes {A R : Type 0} (make : A → EntryLine) (IsText : A → Line → Type 0) (Is : A → R → Type 0)
     (more : Message → R → Message) (count : HeaderCounts → ℕ) (section : ℕ) (word : List ℕ)
     (Texts : Line → List ℕ → Type 0) : Type 0 where
   pub sect : Section make IsText section word Texts
@@ -279,11 +280,12 @@ pub record Pushes {A R : Type 0} (make : A → Entry) (IsText : A → Line → T
   pub small : (a : A) (r : R) → Is a r → IsSmall (make a)
   pub counted : (m : Message) → count (counts_of m) ≤ length (entries_of m)
 
-abbrev pub PushesRecords : (Said → Entry) → (Message → Record → Message) → (HeaderCounts → ℕ) → ℕ → List ℕ → Type 0
+abbrev pub PushesRecords : (RecordLine → EntryLine) → (Message → Record → Message) → (HeaderCounts → ℕ) → ℕ → List ℕ
+    → Type 0
 PushesRecords make more count section word =
     Pushes make (IsRecordLine word) (IsSmallRecord (Some 65535)) more count section word (IsAnyRecord None)
 
-pub questions : Pushes Entry.question IsQuestionLine IsAsked more_questions (λ counts. counts.qdcount) 0
+pub questions : Pushes EntryLine.question IsQuestionLine IsAsked more_questions (λ counts. counts.qdcount) 0
     (codes "question") IsAnyQuestion
 questions = record {
   sect = record { says = record { of = λ q. refl; is = λ q words is. is }; of = of_questions; few = omega arith };
@@ -292,40 +294,42 @@ questions = record {
   counted = λ m. (counts_most m).0;
 }
 
-record_section : (make : Said → Entry) (section : ℕ) (word : List ℕ) → SaysAs make (IsRecordLine word) section
+record_section : (make : RecordLine → EntryLine) (section : ℕ) (word : List ℕ) → SaysAs make (IsRecordLine word) section
     → section_in word ≡ section → word ≡ word_in section → 1 ≤ section → section ≤ 3
     → Section make (IsRecordLine word) section word (IsAnyRecord None)
 record_section make section word says first is late few =
     record { says = says; of = of_records make section word says first is late; few = few }
 
-pub answers : PushesRecords Entry.answer more_answers (λ counts. counts.ancount) 1 (codes "answer")
+pub answers : PushesRecords EntryLine.answer more_answers (λ counts. counts.ancount) 1 (codes "answer")
 answers = record {
-  sect = record_section Entry.answer 1 (codes "answer") (record { of = λ said. refl; is = λ said words is. is })
+  sect = record_section EntryLine.answer 1 (codes "answer") (record { of = λ said. refl; is = λ said words is. is })
       refl refl (omega arith) (omega arith);
   adds = λ m said r is. (r, is.0, refl);
   small = λ said r is. is.1;
   counted = λ m. (counts_most m).1;
 }
 
-pub authorities : PushesRecords Entry.authority more_authorities (λ counts. counts.nscount) 2 (codes "authority")
+pub authorities : PushesRecords EntryLine.authority more_authorities (λ counts. counts.nscount) 2 (codes "authority")
 authorities = record {
-  sect = record_section Entry.authority 2 (codes "authority") (record { of = λ said. refl; is = λ said words is. is })
+  sect = record_section EntryLine.authority 2 (codes "authority")
+      (record { of = λ said. refl; is = λ said words is. is })
       refl refl (omega arith) (omega arith);
   adds = λ m said r is. (r, is.0, refl);
   small = λ said r is. is.1;
   counted = λ m. (counts_most m).2;
 }
 
-pub additionals : PushesRecords Entry.additional more_additionals (λ counts. counts.arcount) 3 (codes "additional")
+pub additionals : PushesRecords EntryLine.additional more_additionals (λ counts. counts.arcount) 3 (codes "additional")
 additionals = record {
-  sect = record_section Entry.additional 3 (codes "additional") (record { of = λ said. refl; is = λ said words is. is })
+  sect = record_section EntryLine.additional 3 (codes "additional")
+      (record { of = λ said. refl; is = λ said words is. is })
       refl refl (omega arith) (omega arith);
   adds = λ m said r is. (r, is.0, refl);
   small = λ said r is. is.1;
   counted = λ m. (counts_most m).3;
 }
 
-pub with_values : {A R : Type 0} (make : A → Entry) (Is : A → R → Type 0) (more : Message → R → Message)
+pub with_values : {A R : Type 0} (make : A → EntryLine) (Is : A → R → Type 0) (more : Message → R → Message)
     → ((m : Message) (a : A) (r : R) → Is a r → IsWith m (make a) (more m r)) → (m : Message) (values : List A)
     (all : List R) → AllZip Is values all → IsWithAll m (map make values) (all_more more m all)
 with_values make Is more adds m [] [] are = refl
@@ -333,7 +337,7 @@ with_values make Is more adds m (a ∷ values) (r ∷ all) are =
     (more m r, adds m a r are.0, with_values make Is more adds (more m r) values all are.1)
 with_values make Is more adds m values all are = absurd are
 
-all_small : {A R : Type 0} (make : A → Entry) (Is : A → R → Type 0) → ((a : A) (r : R) → Is a r → IsSmall (make a))
+all_small : {A R : Type 0} (make : A → EntryLine) (Is : A → R → Type 0) → ((a : A) (r : R) → Is a r → IsSmall (make a))
     → (values : List A) (all : List R) → AllZip Is values all → AllByRecursion IsSmall (map make values)
 all_small make Is small [] all are = tt
 all_small make Is small (a ∷ values) [] are = absurd are
@@ -342,7 +346,7 @@ all_small make Is small (a ∷ values) (r ∷ all) are = (small a r are.0, all_s
 -- ---- texts that are read, and texts that are too long
 
 pub whole_text : {B T : Type 0} {most : ℕ} {limit : Option ℕ} {text ahead : List ℕ} {i next : ℕ} {b : Building B T}
-    (now : Stage most limit text ahead i next b) → ahead ≡ [] → IsMessageText text now.m
+    (now : Stage most limit text ahead i next b) → ahead ≡ [] → IsTextOfMessage text now.m
 whole_text {text = text} {ahead = ahead} now over =
     let front = now.said.front in
     record {
@@ -354,7 +358,7 @@ whole_text {text = text} {ahead = ahead} now over =
       message_is = now.message_is;
     }
 
-module _ {A R : Type 0} {make : A → Entry} {IsText : A → Line → Type 0} {Is : A → R → Type 0}
+module _ {A R : Type 0} {make : A → EntryLine} {IsText : A → Line → Type 0} {Is : A → R → Type 0}
     {more : Message → R → Message} {count : HeaderCounts → ℕ} {section : ℕ} {word : List ℕ}
     {Texts : Line → List ℕ → Type 0} (of : Pushes make IsText Is more count section word Texts) {B T : Type 0}
     {most : ℕ} {limit : Option ℕ} {text a : List ℕ} {i : ℕ} {before : Building B T}
@@ -393,7 +397,7 @@ module _ {A R : Type 0} {make : A → Entry} {IsText : A → Line → Type 0} {I
 
   -- one more makes it too long
   pub long_next : ExceedsNext IsText Is most (least_limit before.push_limit (message_limit limit)) count more a before
-      → IsTooLong most (message_limit limit) text
+      → IsMessageTooLong most (message_limit limit) text
   long_next next =
       let front = now.said.front in
       let one = make next.value in
@@ -415,7 +419,7 @@ module _ {A R : Type 0} {make : A → Entry} {IsText : A → Line → Type 0} {I
       })
 
 -- past a section
-pub stage_past : {A R : Type 0} {make : A → Entry} {IsText : A → Line → Type 0} {Is : A → R → Type 0}
+pub stage_past : {A R : Type 0} {make : A → EntryLine} {IsText : A → Line → Type 0} {Is : A → R → Type 0}
     {more : Message → R → Message} {count : HeaderCounts → ℕ} {section : ℕ} {word : List ℕ}
     {Texts : Line → List ℕ → Type 0} (of : Pushes make IsText Is more count section word Texts) {B T : Type 0}
     {most : ℕ} {limit : Option ℕ} {text a b : List ℕ} {i j : ℕ} {before after other : Building B T} → other ≡ after
@@ -425,17 +429,17 @@ pub stage_past : {A R : Type 0} {make : A → Entry} {IsText : A → Line → Ty
 stage_past {section = section} of {most = most} {limit = limit} {text = text} {b = b} {j = j} same now (pushed, none) =
     subst (Stage most limit text b j (section + 1)) (sym same) (stage_over of (stage_on of now pushed) none)
 
-module _ {make : Said → Entry} {section : ℕ} {word : List ℕ} {more : Message → Record → Message}
+module _ {make : RecordLine → EntryLine} {section : ℕ} {word : List ℕ} {more : Message → Record → Message}
     {count : HeaderCounts → ℕ} (of : PushesRecords make more count section word)
-    (octets : (said : Said) → data_octets (make said) ≡ said.octets) {B T : Type 0} {most : ℕ} {limit : Option ℕ}
+    (octets : (said : RecordLine) → data_octets (make said) ≡ said.octets) {B T : Type 0} {most : ℕ} {limit : Option ℕ}
     {text a : List ℕ} {i : ℕ} {before : Building B T} (now : Stage most limit text a i section before) where
   pub long_record : ExceedsNext (IsRecordLine word) (IsSmallRecord (Some 65535)) most
       (least_limit before.push_limit (message_limit limit)) count more a before
-      ⊎ IsLongLine word (IsAnyRecord None) (Some 65535) a → IsTooLong most (message_limit limit) text
+      ⊎ IsLongLine word (IsAnyRecord None) (Some 65535) a → IsMessageTooLong most (message_limit limit) text
   long_record (inl next) = long_next of now next
   long_record (inr long) =
       let front = now.said.front in
-      let said : Said = record { head = long.is.0; octets = long.octets } in
+      let said : RecordLine = record { head = long.is.0; octets = long.octets } in
       let late = long.past in
       let here = of.sect.says.of said in
       let same = ap length (octets said) in

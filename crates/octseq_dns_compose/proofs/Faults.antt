@@ -4,9 +4,9 @@ use Rattle.std.proofs.Common.{None, append_assoc}
 use Rattle.std.proofs.lemmas.List.{append-nil}
 use Rattle.octseq_dns_scan.specs.Word.{TakesWord, AreWords}
 use Rattle.octseq_dns_scan.proofs.Taken.{word_once}
-use Rattle.octseq_dns_compose.specs.Take.{Takes}
+use Rattle.octseq_dns_compose.specs.Take.{TakesNextWord}
 use Rattle.octseq_dns_text.proofs.ReadTexts.{begins_more, takes_some}
-use Rattle.octseq_dns_text.specs.Scans.{Goes, BeginsWithWords, IsFault}
+use Rattle.octseq_dns_text.specs.Scans.{Goes, BeginsWithWords, IsWordFault}
 
 -- ---- words at the front of a text
 
@@ -28,12 +28,12 @@ only_word Is word ahead rest taken not other left also is =
 
 -- no word is next, or another one, and the text stays
 pub takes_none : {A : Type 0} (Is : A → List ℕ → Type 0) {ahead : List ℕ}
-    → ((word rest : List ℕ) → ¬ TakesWord word ahead rest) → Takes Is None ahead ahead
+    → ((word rest : List ℕ) → ¬ TakesWord word ahead rest) → TakesNextWord Is None ahead ahead
 takes_none Is none =
     record { some = tt; none = λ _ word rest value taken. absurd (none word rest taken); kept = refl }
 
 pub takes_other : {A : Type 0} (Is : A → List ℕ → Type 0) {word ahead rest : List ℕ} → TakesWord word ahead rest
-    → ((value : A) → ¬ Is value word) → Takes Is None ahead ahead
+    → ((value : A) → ¬ Is value word) → TakesNextWord Is None ahead ahead
 takes_other Is taken other = record {
   some = tt;
   none = λ _ next left value also. only_word (Is value) _ _ _ taken (other value) next left also;
@@ -53,7 +53,7 @@ regroup a b c d = append_assoc (a ++ b) c d ∙ append_assoc a b (c ++ d) ∙ ap
 -- what no text goes on with after the words, none goes on with at all
 pub led_fault : (Is Rest : List (List ℕ) → List ℕ → Type 0) (front : List (List ℕ)) → Leads Is Rest front
     → (text ahead : List ℕ) (start next offset : ℕ) → BeginsWithWords front text ahead
-    → next + length ahead ≡ start + length text → IsFault Rest ahead next offset → IsFault Is text start offset
+    → next + length ahead ≡ start + length text → IsWordFault Rest ahead next offset → IsWordFault Is text start offset
 led_fault Is Rest front leads text ahead start next offset begins place fault = record {
   front = front ++ fault.front;
   rest = fault.rest;
@@ -108,21 +108,21 @@ past_words {Is = Is} {text = text} {ahead = ahead} {after = after} front so_far 
 }
 
 pub reached_fault : {Is Rest : List (List ℕ) → List ℕ → Type 0} {text ahead : List ℕ} {start next offset : ℕ}
-    → Reached Is Rest text start ahead next → IsFault Rest ahead next offset → IsFault Is text start offset
+    → Reached Is Rest text start ahead next → IsWordFault Rest ahead next offset → IsWordFault Is text start offset
 reached_fault so_far fault = led_fault _ _ so_far.front so_far.leads _ _ _ _ _ so_far.begins so_far.place fault
 
 -- a reader that stays where it is stays at its place
 pub kept_fault : (Is : List (List ℕ) → List ℕ → Type 0) (ahead after : List ℕ) (start next : ℕ) → after ≡ ahead
-    → next + length after ≡ start + length ahead → IsFault Is ahead start start → IsFault Is ahead start next
+    → next + length after ≡ start + length ahead → IsWordFault Is ahead start start → IsWordFault Is ahead start next
 kept_fault Is ahead after start next same place fault =
     let size = ap length same in
     let at : start ≡ next = omega (arith, place, size) in
-    subst (IsFault Is ahead start) at fault
+    subst (IsWordFault Is ahead start) at fault
 
 -- the first word is a fault
 pub first_fault : (Is : List (List ℕ) → List ℕ → Type 0) (ahead : List ℕ) (start : ℕ) → Goes Is []
     → ((word left : List ℕ) → TakesWord word ahead left → ¬ Goes Is (word ∷ []))
-    → (ahead ≡ [] → (octets : List ℕ) → ¬ Is [] octets) → IsFault Is ahead start start
+    → (ahead ≡ [] → (octets : List ℕ) → ¬ Is [] octets) → IsWordFault Is ahead start start
 first_fault Is ahead start goes stops ends = record {
   front = [];
   rest = ahead;
@@ -134,7 +134,7 @@ first_fault Is ahead start goes stops ends = record {
 }
 
 not_on : (Is : List (List ℕ) → List ℕ → Type 0) (ahead : List ℕ) (start offset : ℕ)
-    → (fault : IsFault Is ahead start offset) → (others : List (List ℕ)) (octets : List ℕ)
+    → (fault : IsWordFault Is ahead start offset) → (others : List (List ℕ)) (octets : List ℕ)
     → AreWords others fault.rest → ¬ Is (fault.front ++ others) octets
 not_on Is ahead start offset fault [] octets are is =
     fault.ends are octets (subst (λ ws. Is ws octets) (append-nil fault.front) is)
@@ -144,7 +144,7 @@ not_on Is ahead start offset fault (word ∷ others) octets are is =
 
 -- where a fault is, there is no text
 pub no_text : (Is : List (List ℕ) → List ℕ → Type 0) (ahead : List ℕ) (start offset : ℕ)
-    → IsFault Is ahead start offset → (words : List (List ℕ)) (octets : List ℕ) → AreWords words ahead
+    → IsWordFault Is ahead start offset → (words : List (List ℕ)) (octets : List ℕ) → AreWords words ahead
     → ¬ Is words octets
 no_text Is ahead start offset fault words octets are is =
     let split = words_after fault.front words ahead fault.rest fault.begins are in

@@ -7,7 +7,7 @@ use Rattle.std.proofs.lemmas.List.{append-nil}
 use Rattle.std.proofs.lemmas.Slice.Eq.{bytes_eq-Decides}
 use Rattle.std.specs.Prelude.{bytes_eq}
 use Rattle.octseq_dns_scan.specs.Word.{TakesWord}
-use Rattle.octseq_dns_text.specs.Scans.{IsFault}
+use Rattle.octseq_dns_text.specs.Scans.{IsWordFault}
 use Rattle.octseq_dns_compose.specs.Take.{IsTaken}
 use Rattle.octseq_dns_compose.specs.HeaderLine.{flag_word, flag_names, AreFlags, ArePicked, Picks}
 use Rattle.octseq_dns_message.specs.declared.header.Flags.{Flags}
@@ -112,7 +112,7 @@ are_picked words (qr, a, is_a, after_qr) =
 -- another word than a flag, where the flags that are there are passed
 pub flags_fault : (ahead rest : List ℕ) (words : List (List ℕ)) (start offset : ℕ) → Picks flag_names ahead words rest
     → offset + length rest ≡ start + length ahead → ¬ (rest ≡ [])
-    → IsFault (λ ws octets. (flags : Flags) × AreFlags flags ws) ahead start offset
+    → IsWordFault (λ ws octets. (flags : Flags) × AreFlags flags ws) ahead start offset
 flags_fault ahead rest words start offset picks place some = record {
   front = words;
   rest = rest;

@@ -3,9 +3,9 @@ use Rattle.std.proofs.Common.{◌≡◌, ℕ, ◌+◌, false, List, [], ◌∷�
 use Rattle.std.proofs.Common.{refl, subst, arith}
 use Rattle.octseq_dns_scan.specs.Word.{TakesWord, AreWords}
 use Rattle.octseq_dns_text.proofs.ReadTexts.{begins_all}
-use Rattle.octseq_dns_text.specs.Scans.{BeginsWithWords, IsFault}
+use Rattle.octseq_dns_text.specs.Scans.{BeginsWithWords, IsWordFault}
 use Rattle.octseq_dns_compose.specs.Take.{IsGiven, IsUpTo, Then}
-use Rattle.octseq_dns_compose.specs.HeaderLine.{Field, IsNoField, AreFlags, IsHeaderLine, Picks, flag_names}
+use Rattle.octseq_dns_compose.specs.HeaderLine.{HeaderField, IsNoField, AreFlags, IsHeaderLine, Picks, flag_names}
 use Rattle.octseq_dns_compose.proofs.Faults.{Leads, Reached, first_fault, kept_fault, led_fault, past_words}
 use Rattle.octseq_dns_compose.proofs.Flags.{flags_fault}
 use Rattle.octseq_dns_message.specs.declared.header.Flags.{Flags}
@@ -23,10 +23,10 @@ abbrev pub AfterRcode : Header → List (List ℕ) → Type 0
 AfterRcode h = Then (IsGiven (codes "flags")) (AreFlags h.flags)
 
 abbrev pub AfterOpcode : Header → List (List ℕ) → Type 0
-AfterOpcode h = Field (codes "rcode") 15 h.rcode (AfterRcode h)
+AfterOpcode h = HeaderField (codes "rcode") 15 h.rcode (AfterRcode h)
 
 abbrev pub AfterId : Header → List (List ℕ) → Type 0
-AfterId h = Field (codes "opcode") 15 h.opcode (AfterOpcode h)
+AfterId h = HeaderField (codes "opcode") 15 h.opcode (AfterOpcode h)
 
 -- ---- a sample
 
@@ -70,12 +70,12 @@ id_text = (refl, (zero_up_to 65535, opcode_text))
 
 -- the same, if a word and a number come first
 abbrev FieldIn : List ℕ → ℕ → (Header → ℕ) → (Header → List (List ℕ) → Type 0) → Header → List (List ℕ) → Type 0
-FieldIn name most number Rest h = Field name most (number h) (Rest h)
+FieldIn name most number Rest h = HeaderField name most (number h) (Rest h)
 
 field_fault : (name : List ℕ) (most : ℕ) (number : Header → ℕ) (Rest : Header → List (List ℕ) → Type 0)
     (words : List (List ℕ)) → FieldIn name most number Rest zero_header (name ∷ codes "0" ∷ words)
     → {ahead after : List ℕ} {start next : ℕ} → next + length after ≡ start + length ahead
-    → IsNoField name most ahead after → IsFault (Any (FieldIn name most number Rest)) ahead start next
+    → IsNoField name most ahead after → IsWordFault (Any (FieldIn name most number Rest)) ahead start next
 field_fault name most number Rest words sample {ahead = ahead} {after = after} {start = start} {next = next} place
     (IsNoField.no_name same none) =
     kept_fault (Any (FieldIn name most number Rest)) ahead after start next same place
@@ -94,15 +94,15 @@ field_fault name most number Rest words sample {ahead = ahead} {after = after} {
     }
 
 pub id_fault : {ahead after : List ℕ} {start next : ℕ} → next + length after ≡ start + length ahead
-    → IsNoField (codes "id") 65535 ahead after → IsFault HeaderTexts ahead start next
+    → IsNoField (codes "id") 65535 ahead after → IsWordFault HeaderTexts ahead start next
 id_fault = field_fault (codes "id") 65535 (λ h. h.id) AfterId opcode_words id_text
 
 pub opcode_fault : {ahead after : List ℕ} {start next : ℕ} → next + length after ≡ start + length ahead
-    → IsNoField (codes "opcode") 15 ahead after → IsFault (Any AfterId) ahead start next
+    → IsNoField (codes "opcode") 15 ahead after → IsWordFault (Any AfterId) ahead start next
 opcode_fault = field_fault (codes "opcode") 15 (λ h. h.opcode) AfterOpcode rcode_words opcode_text
 
 pub rcode_fault : {ahead after : List ℕ} {start next : ℕ} → next + length after ≡ start + length ahead
-    → IsNoField (codes "rcode") 15 ahead after → IsFault (Any AfterOpcode) ahead start next
+    → IsNoField (codes "rcode") 15 ahead after → IsWordFault (Any AfterOpcode) ahead start next
 rcode_fault = field_fault (codes "rcode") 15 (λ h. h.rcode) AfterRcode flags_words rcode_text
 
 -- A word and a number lead from one to the other.
@@ -138,7 +138,7 @@ past_field {name = name} {n = n} past so_far taken place =
 -- ---- the flags
 
 pub fault_at_flags : (ahead : List ℕ) (start : ℕ) → ((rest : List ℕ) → ¬ TakesWord (codes "flags") ahead rest)
-    → IsFault (Any AfterRcode) ahead start start
+    → IsWordFault (Any AfterRcode) ahead start start
 fault_at_flags ahead start none =
     first_fault (Any AfterRcode) ahead start (flags_words, [], (zero_header, flags_text))
     (λ word left taken goes. none left (subst (λ w. TakesWord w ahead left) goes.2.1.0 taken)) (λ over octets is. is.1)
@@ -146,7 +146,7 @@ fault_at_flags ahead start none =
 pub fault_after_flags : (ahead mid rest : List ℕ) (words : List (List ℕ)) (start next offset : ℕ)
     → TakesWord (codes "flags") ahead mid → next + length mid ≡ start + length ahead
     → Picks flag_names mid words rest → offset + length rest ≡ next + length mid → ¬ (rest ≡ [])
-    → IsFault (Any AfterRcode) ahead start offset
+    → IsWordFault (Any AfterRcode) ahead start offset
 fault_after_flags ahead mid rest words start next offset taken place picks on some =
     led_fault (Any AfterRcode) (λ ws octets. (flags : Flags) × AreFlags flags ws) (codes "flags" ∷ [])
     (record {

@@ -6,8 +6,8 @@ use Rattle.std.proofs.lemmas.List.{length-append, append-nil}
 use Rattle.octseq_dns_scan.specs.Word.{AreWords, TakesWord}
 use Rattle.octseq_dns_scan.proofs.Taken.{words_once}
 use Rattle.octseq_dns_text.proofs.ReadTexts.{words_more}
-use Rattle.octseq_dns_text.specs.Scans.{BeginsWithWords, IsFault}
-use Rattle.octseq_dns_compose.specs.TextLines.{IsLine, EndsLine, TakesLine, AreLines, BeginsWithLines, Splits}
+use Rattle.octseq_dns_text.specs.Scans.{BeginsWithWords, IsWordFault}
+use Rattle.octseq_dns_compose.specs.TextLines.{IsLine, EndsLine, TakesLine, AreLines, BeginsWithLines, SplitsLines}
 use Rattle.octseq_dns_compose.specs.TextLines.{IsNextLine}
 use Rattle.octseq_dns_compose.specs.RecordText.{BeginsWithList}
 use Rattle.octseq_dns_compose.specs.TextLines.{IsUnended, IsLineFault, IsFaultyLine, IsNoneOf}
@@ -81,7 +81,7 @@ lines_after (words ∷ front) (other ∷ lines) text rest begins are =
 
 -- a fault in a line, or only the lack of its line feed
 abbrev pub Broken : (Line → List ℕ → Type 0) → (text after : List ℕ) (start offset : ℕ) → Type 0
-Broken Is text after start offset = IsFault Is text start offset ⊎ IsUnended Is text after start offset
+Broken Is text after start offset = IsWordFault Is text start offset ⊎ IsUnended Is text after start offset
 
 pub led_broken : (Is Rest : Line → List ℕ → Type 0) (front : Line) → Leads Is Rest front
     → (text ahead after : List ℕ) (start next offset : ℕ) → BeginsWithWords front text ahead
@@ -172,7 +172,7 @@ no_lines Is text first number offset fault lines are is =
 
 -- ---- the first line
 
-pub none_of : (first text line after : List ℕ) → Splits text line after
+pub none_of : (first text line after : List ℕ) → SplitsLines text line after
     → ((rest : List ℕ) → ¬ TakesWord first line rest) → IsNoneOf first text
 none_of first text line after split none other left rest also taken =
     let same = splits_same line other after left split.is_line also.is_line split.ends also.ends
@@ -181,8 +181,8 @@ none_of first text line after split none other left rest also taken =
 
 -- a fault in it
 pub faulty_words : (first : List ℕ) (Is : Line → List ℕ → Type 0) (text line after rest : List ℕ) (start offset : ℕ)
-    → Splits text line after → TakesWord first line rest → start + length rest ≡ length line
-    → IsFault Is rest start offset → IsFaultyLine first Is text offset
+    → SplitsLines text line after → TakesWord first line rest → start + length rest ≡ length line
+    → IsWordFault Is rest start offset → IsFaultyLine first Is text offset
 faulty_words first Is text line after rest start offset split taken place fault = record {
   line = line;
   after = after;
@@ -195,7 +195,7 @@ faulty_words first Is text line after rest start offset split taken place fault 
 }
 
 pub no_feed : (first : List ℕ) (Is : Line → List ℕ → Type 0) (text line after rest : List ℕ) (start : ℕ)
-    (words : Line) (octets : List ℕ) → Splits text line after → TakesWord first line rest
+    (words : Line) (octets : List ℕ) → SplitsLines text line after → TakesWord first line rest
     → start + length rest ≡ length line → AreWords words rest → Is words octets → after ≡ []
     → IsFaultyLine first Is text (length line)
 no_feed first Is text line after rest start words octets split taken place are is over = record {
@@ -217,7 +217,7 @@ no_feed first Is text line after rest start words octets split taken place are i
 }
 
 -- data in it that ends in a list
-pub list_line : (P : Type 0) (first text line after rest : List ℕ) → Splits text line after
+pub list_line : (P : Type 0) (first text line after rest : List ℕ) → SplitsLines text line after
     → TakesWord first line rest → P ⊎ BeginsWithList None rest → P ⊎ IsListLine first text
 list_line P first text line after rest split taken (inl is) = inl is
 list_line P first text line after rest split taken (inr list) =

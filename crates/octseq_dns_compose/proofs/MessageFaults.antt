@@ -9,12 +9,12 @@ use Rattle.octseq_dns_text.proofs.ReadTexts.{takes_some}
 use Rattle.octseq_dns_text.specs.Scans.{BeginsWithWords}
 use Rattle.octseq_dns_message.specs.declared.header.Header.{Header}
 use Rattle.octseq_dns_compose.specs.HeaderLine.{IsHeaderLine}
-use Rattle.octseq_dns_compose.specs.MessageText.{AreEntries, Entry, IsAnyText, IsEntryLine, SayEntries}
-use Rattle.octseq_dns_compose.specs.MessageText.{IsRecordLine, Said, section_of}
+use Rattle.octseq_dns_compose.specs.MessageText.{AreEntries, EntryLine, IsAnyText, IsEntryLine, SayEntries}
+use Rattle.octseq_dns_compose.specs.MessageText.{IsRecordLine, RecordLine, section_of}
 use Rattle.octseq_dns_compose.specs.QuestionText.{IsAnyQuestion}
 use Rattle.octseq_dns_compose.specs.RecordText.{IsAnyRecord}
 use Rattle.octseq_dns_compose.specs.TextLines.{BeginsWithLines, IsFaultyHeader, IsFaultyLine, IsLineFault, IsNextLine}
-use Rattle.octseq_dns_compose.specs.TextLines.{IsNoneOf, Splits}
+use Rattle.octseq_dns_compose.specs.TextLines.{IsNoneOf, SplitsLines}
 use Rattle.octseq_dns_compose.specs.TooLong.{data_octets}
 use Rattle.octseq_dns_compose.proofs.Faults.{Leads, first_fault}
 use Rattle.octseq_dns_compose.proofs.HeaderLines.{HeaderTexts}
@@ -25,7 +25,7 @@ use Rattle.octseq_dns_compose.proofs.Records.{record_goes}
 
 -- a line of a kind, where texts of another kind are all that follows its first words
 line_fault : (Is : List Line → Type 0) (Texts : Line → List ℕ → Type 0) (front : Line) (text line after rest : List ℕ)
-    (number start offset : ℕ) → Leads (IsNextLine Is []) Texts front → Splits text line after
+    (number start offset : ℕ) → Leads (IsNextLine Is []) Texts front → SplitsLines text line after
     → BeginsWithWords front line rest → start + length rest ≡ length line → Broken Texts rest after start offset
     → (line ++ after ≡ [] → ¬ Is []) → IsLineFault Is text number number offset
 line_fault Is Texts front text line after rest number start offset leads split begins place fault ends = record {
@@ -66,7 +66,7 @@ header_fault text offset fault =
 -- ---- entries
 
 abbrev pub AnyEntries : ℕ → List Line → Type 0
-AnyEntries from lines = (entries : List Entry) × AreEntries from entries lines
+AnyEntries from lines = (entries : List EntryLine) × AreEntries from entries lines
 
 pub after_header : (header : Header) (first : Line) → IsHeaderLine header first
     → LeadsLines IsAnyText (AnyEntries 0) (first ∷ [])
@@ -85,34 +85,35 @@ after_header header first is = record {
 abbrev pub section_in : List ℕ → ℕ
 section_in word = cond (nat_eq (length word) 8) 0 (cond (nat_eq (length word) 6) 1 (cond (nat_eq (length word) 9) 2 3))
 
-abbrev pub word_of : Entry → List ℕ
-word_of (Entry.question q) = codes "question"
-word_of (Entry.answer said) = codes "answer"
-word_of (Entry.authority said) = codes "authority"
-word_of (Entry.additional said) = codes "additional"
+abbrev pub word_of : EntryLine → List ℕ
+word_of (EntryLine.question q) = codes "question"
+word_of (EntryLine.answer said) = codes "answer"
+word_of (EntryLine.authority said) = codes "authority"
+word_of (EntryLine.additional said) = codes "additional"
 
 -- the word for a section, of its entries alone
 abbrev pub word_in : ℕ → List ℕ
 word_in section = cond (nat_eq section 0) (codes "question") (cond (nat_eq section 1) (codes "answer")
     (cond (nat_eq section 2) (codes "authority") (codes "additional")))
 
-in_section : (entry : Entry) → word_of entry ≡ word_in (section_of entry)
-in_section (Entry.question q) = refl
+in_section : (entry : EntryLine) → word_of entry ≡ word_in (section_of entry)
+in_section (EntryLine.question q) = refl
 in_section entry = refl
 
-pub word_is : (entry : Entry) (word : List ℕ) (words : Line) → IsEntryLine entry (word ∷ words) → word ≡ word_of entry
-word_is (Entry.question q) word words is = is.0
+pub word_is : (entry : EntryLine) (word : List ℕ) (words : Line) → IsEntryLine entry (word ∷ words)
+    → word ≡ word_of entry
+word_is (EntryLine.question q) word words is = is.0
 word_is entry word words is = is.0
 
-pub section_is : (entry : Entry) → section_in (word_of entry) ≡ section_of entry
-section_is (Entry.question q) = refl
+pub section_is : (entry : EntryLine) → section_in (word_of entry) ≡ section_of entry
+section_is (EntryLine.question q) = refl
 section_is entry = refl
 
-pub no_entry : (entry : Entry) → ¬ IsEntryLine entry []
-no_entry (Entry.question q) is = is
+pub no_entry : (entry : EntryLine) → ¬ IsEntryLine entry []
+no_entry (EntryLine.question q) is = is
 no_entry entry is = is
 
-pub same_section : (entry other : Entry) (words : Line) → IsEntryLine entry words → IsEntryLine other words
+pub same_section : (entry other : EntryLine) (words : Line) → IsEntryLine entry words → IsEntryLine other words
     → section_of entry ≡ section_of other
 same_section entry other [] is also = absurd (no_entry entry is)
 same_section entry other (word ∷ words) is also =
@@ -120,7 +121,7 @@ same_section entry other (word ∷ words) is also =
     ∙ section_is other
 
 -- after a line of a section, those of earlier ones are over
-one_entry : (entry : Entry) (words : Line) (from section : ℕ) → IsEntryLine entry words → section_of entry ≡ section
+one_entry : (entry : EntryLine) (words : Line) (from section : ℕ) → IsEntryLine entry words → section_of entry ≡ section
     → from ≤ section → LeadsLines (AnyEntries from) (AnyEntries section) (words ∷ [])
 one_entry entry words from section is here less = record {
   into = λ lines all.
@@ -132,11 +133,11 @@ one_entry entry words from section is here less = record {
 }
 
 -- Lines say values as entries of a section.
-pub record SaysAs {A : Type 0} (make : A → Entry) (IsText : A → Line → Type 0) (section : ℕ) : Type 0 where
+pub record SaysAs {A : Type 0} (make : A → EntryLine) (IsText : A → Line → Type 0) (section : ℕ) : Type 0 where
   pub of : (a : A) → section_of (make a) ≡ section
   pub is : (a : A) (words : Line) → IsText a words → IsEntryLine (make a) words
 
-leads_section : {A : Type 0} (make : A → Entry) (IsText : A → Line → Type 0) (section : ℕ) (values : List A)
+leads_section : {A : Type 0} (make : A → EntryLine) (IsText : A → Line → Type 0) (section : ℕ) (values : List A)
     (lines : List Line) → SaysAs make IsText section → AllZip IsText values lines
     → LeadsLines (AnyEntries section) (AnyEntries section) lines
 leads_section make IsText section [] [] says all =
@@ -149,7 +150,7 @@ leads_section make IsText section values lines says all = absurd all
 -- none of the sections from `from` on, and before `to`, is next
 abbrev pub NoneFrom : ℕ → ℕ → List ℕ → Type 0
 NoneFrom from to text =
-    (entry : Entry) → from ≤ section_of entry → section_of entry < to → IsNoneOf (word_of entry) text
+    (entry : EntryLine) → from ≤ section_of entry → section_of entry < to → IsNoneOf (word_of entry) text
 
 -- Past the lines of a section: if there are some, those of earlier sections are over.
 pub record PastSection (from section : ℕ) (text ahead : List ℕ) (lines : List Line) : Type 0 where
@@ -158,7 +159,7 @@ pub record PastSection (from section : ℕ) (text ahead : List ℕ) (lines : Lis
   pub leads : LeadsLines (AnyEntries from) (AnyEntries to) lines
   pub none : NoneFrom from section text → NoneFrom to section ahead
 
-pub past_section : {A : Type 0} (make : A → Entry) (IsText : A → Line → Type 0) (section from : ℕ) (values : List A)
+pub past_section : {A : Type 0} (make : A → EntryLine) (IsText : A → Line → Type 0) (section from : ℕ) (values : List A)
     (lines : List Line) (text ahead : List ℕ) → SaysAs make IsText section → from ≤ section
     → BeginsWithLines lines text ahead → AllZip IsText values lines → PastSection from section text ahead lines
 past_section make IsText section from [] [] text ahead says less begins all = record {
@@ -183,8 +184,8 @@ pub record IsSection (section : ℕ) (word : List ℕ) (Texts : Line → List �
   pub first : section_in word ≡ section
   pub word_is : word ≡ word_in section
   pub makes : (words : Line) (octets : List ℕ) → Texts words octets
-      → (entry : Entry) × (section_of entry ≡ section) × IsEntryLine entry (word ∷ words)
-  pub takes : (entry : Entry) (words : Line) → section_of entry ≡ section → IsEntryLine entry (word ∷ words)
+      → (entry : EntryLine) × (section_of entry ≡ section) × IsEntryLine entry (word ∷ words)
+  pub takes : (entry : EntryLine) (words : Line) → section_of entry ≡ section → IsEntryLine entry (word ∷ words)
       → Texts words (data_octets entry)
 
 section_next : (section from : ℕ) (word : List ℕ) (Texts : Line → List ℕ → Type 0) → IsSection section word Texts
@@ -216,7 +217,7 @@ entry_fault section from word Texts text number offset of less faulty =
 -- ---- a line of no section that may follow
 
 split_octet : (x : ℕ) (text : List ℕ) (feed : Bool) → nat_eq x 10 ≡ feed
-    → (line after : List ℕ) × Splits text line after → (line after : List ℕ) × Splits (x ∷ text) line after
+    → (line after : List ℕ) × SplitsLines text line after → (line after : List ℕ) × SplitsLines (x ∷ text) line after
 split_octet x text true is rest =
     let feed : x ≡ 10 = grind (arith, nat_tests) in
     ([], x ∷ text, record { whole = refl; is_line = tt; ends = feed })
@@ -231,12 +232,12 @@ split_octet x text false is rest =
       },
     )
 
-split_text : (text : List ℕ) → (line after : List ℕ) × Splits text line after
+split_text : (text : List ℕ) → (line after : List ℕ) × SplitsLines text line after
 split_text [] = ([], [], record { whole = refl; is_line = tt; ends = tt })
 split_text (x ∷ text) = split_octet x text (nat_eq x 10) refl (split_text text)
 
-pub below_four : (entry : Entry) → section_of entry < 4
-below_four (Entry.question q) = omega arith
+pub below_four : (entry : EntryLine) → section_of entry < 4
+below_four (EntryLine.question q) = omega arith
 below_four entry = omega arith
 
 pub other_fault : (from : ℕ) (text : List ℕ) (number : ℕ) → from ≤ 3 → ¬ (text ≡ []) → NoneFrom from 4 text
@@ -244,7 +245,7 @@ pub other_fault : (from : ℕ) (text : List ℕ) (number : ℕ) → from ≤ 3 �
 other_fault from text number less some none =
     let split = split_text text in
     let sample = record_goes None in
-    let one = Entry.additional (record { head = sample.2.0; octets = sample.1 }) in
+    let one = EntryLine.additional (record { head = sample.2.0; octets = sample.1 }) in
     let Next = IsNextLine (AnyEntries from) [] in
     record {
       front = [];
@@ -265,7 +266,7 @@ other_fault from text number less some none =
     }
 
 none_case : (from section : ℕ) (word text : List ℕ) → word ≡ word_in section → NoneFrom from section text
-    → IsNoneOf word text → (entry : Entry) (is : Bool) → nat_eq (section_of entry) section ≡ is
+    → IsNoneOf word text → (entry : EntryLine) (is : Bool) → nat_eq (section_of entry) section ≡ is
     → from ≤ section_of entry → section_of entry < section + 1 → IsNoneOf (word_of entry) text
 none_case from section word text same none here entry true is after before =
     let at : section_of entry ≡ section = grind (arith, nat_tests) in
@@ -282,9 +283,10 @@ none_step from section word text same none here entry =
 
 -- ---- the sections
 
-question_taken : (entry : Entry) (words : Line) → section_of entry ≡ 0 → IsEntryLine entry (codes "question" ∷ words)
+question_taken : (entry : EntryLine) (words : Line) → section_of entry ≡ 0
+    → IsEntryLine entry (codes "question" ∷ words)
     → IsAnyQuestion words (data_octets entry)
-question_taken (Entry.question q) words here is = (q.labels, q.qclass, q.qtype, is.1)
+question_taken (EntryLine.question q) words here is = (q.labels, q.qclass, q.qtype, is.1)
 question_taken entry words here is = absurd (omega (arith, here))
 
 pub of_questions : IsSection 0 (codes "question") IsAnyQuestion
@@ -292,24 +294,24 @@ of_questions = record {
   first = refl;
   word_is = refl;
   makes = λ words octets is.
-      (Entry.question (record { labels = is.0; qtype = is.2; qclass = is.1 }), refl, (refl, is.3));
+      (EntryLine.question (record { labels = is.0; qtype = is.2; qclass = is.1 }), refl, (refl, is.3));
   takes = question_taken;
 }
 
-record_taken : (entry : Entry) (word : List ℕ) (words : Line) → 1 ≤ section_of entry
+record_taken : (entry : EntryLine) (word : List ℕ) (words : Line) → 1 ≤ section_of entry
     → IsEntryLine entry (word ∷ words) → IsAnyRecord None words (data_octets entry)
-record_taken (Entry.question q) word words late is = absurd (omega (arith, late))
-record_taken (Entry.answer said) word words late is = (said.head, is.1)
-record_taken (Entry.authority said) word words late is = (said.head, is.1)
-record_taken (Entry.additional said) word words late is = (said.head, is.1)
+record_taken (EntryLine.question q) word words late is = absurd (omega (arith, late))
+record_taken (EntryLine.answer said) word words late is = (said.head, is.1)
+record_taken (EntryLine.authority said) word words late is = (said.head, is.1)
+record_taken (EntryLine.additional said) word words late is = (said.head, is.1)
 
-pub of_records : (make : Said → Entry) (section : ℕ) (word : List ℕ) → SaysAs make (IsRecordLine word) section
+pub of_records : (make : RecordLine → EntryLine) (section : ℕ) (word : List ℕ) → SaysAs make (IsRecordLine word) section
     → section_in word ≡ section → word ≡ word_in section → 1 ≤ section → IsSection section word (IsAnyRecord None)
 of_records make section word says first is late = record {
   first = first;
   word_is = is;
   makes = λ words octets found.
-      let said : Said = record { head = found.0; octets = octets } in
+      let said : RecordLine = record { head = found.0; octets = octets } in
       (make said, says.of said, says.is said (word ∷ words) (refl, found.1));
   takes = λ entry words here. record_taken entry word words (omega (arith, late, here));
 }

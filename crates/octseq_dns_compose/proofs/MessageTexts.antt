@@ -6,11 +6,11 @@ use Rattle.std.specs.List.{AllZip}
 use Rattle.octseq.specs.Limit.{IsWithin}
 use Rattle.octseq_dns.specs.Contents.{Message}
 use Rattle.octseq_dns.specs.Rdata.{bare_rdata, rdata_fields, rtype_of}
-use Rattle.octseq_dns.specs.Writes.{Building, Writes, all_more}
+use Rattle.octseq_dns.specs.Writes.{Building, ComposesMessage, all_more}
 use Rattle.octseq_dns_data.specs.Data.{ParsedRdata}
 use Rattle.octseq_dns_data.specs.Data as read
 use Rattle.octseq_dns_compose.specs.Alone.{SaysAlone}
-use Rattle.octseq_dns_compose.specs.MessageText.{IsRecordOf, Said}
+use Rattle.octseq_dns_compose.specs.MessageText.{IsRecordOfLine, RecordLine}
 use Rattle.octseq_dns_compose.specs.Progress.{HasPushed}
 use Rattle.octseq_dns_compose.specs.TextLines.{TakesLine}
 use Rattle.octseq_dns_compose.proofs.LineFaults.{Line, lines_more}
@@ -21,10 +21,10 @@ bare_rtype : (p : ParsedRdata) → rtype_of (bare_rdata p) ≡ read.rtype_of p
 bare_rtype (ParsedRdata.a octets) = refl
 bare_rtype p = refl
 
-pub record_said : (said : Said) (labels : List (List ℕ)) (p : ParsedRdata) → labels ≡ said.head.labels
+pub record_said : (said : RecordLine) (labels : List (List ℕ)) (p : ParsedRdata) → labels ≡ said.head.labels
     → read.rtype_of p ≡ said.head.rtype
     → SaysAlone said.head.rtype said.head.class said.octets p
-    → IsRecordOf said (record {
+    → IsRecordOfLine said (record {
       labels = labels;
       rtype = rtype_of (bare_rdata p);
       class = said.head.class;
@@ -75,8 +75,8 @@ module _ {A R B T : Type 0} {IsText : A → Line → Type 0} {Is : A → R → T
   pub pushed_more : {text ahead next : List ℕ} {first now then : ℕ} {before mid after : Building B T} (value : A)
       (entry : R) (words : Line) (so_far : HasPushed IsText Is most limit more text ahead first now before mid)
       → TakesLine words ahead next → then ≡ now + 1 → IsText value words → Is value entry
-      → ((m : Message) → Writes most m mid.state mid.header mid.counts
-      → Writes most (more m entry) after.state after.header after.counts)
+      → ((m : Message) → ComposesMessage most m mid.state mid.header mid.counts
+      → ComposesMessage most (more m entry) after.state after.header after.counts)
       → IsWithin limit (length after.state.octets) → after.push_limit ≡ mid.push_limit
       → HasPushed IsText Is most limit more text next first then before after
   pushed_more {text = text} {ahead = ahead} {next = next} {after = after} value entry words so_far taken number said is
@@ -96,7 +96,7 @@ module _ {A R B T : Type 0} {IsText : A → Line → Type 0} {Is : A → R → T
         entries = so_far.entries ++ entry ∷ [];
         are = zip_snoc Is so_far.values so_far.entries value entry so_far.are is;
         written = λ m writes.
-            subst (λ x. Writes most x after.state after.header after.counts)
+            subst (λ x. ComposesMessage most x after.state after.header after.counts)
             (sym (more_snoc more m so_far.entries entry))
             (written (all_more more m so_far.entries) (so_far.written m writes));
         within = λ _. within;

@@ -9,7 +9,7 @@ use Rattle.std.specs.Char.{to_ascii_lowercase, digit_value}
 use Rattle.std.specs.List.{IsAmong}
 use Rattle.std.specs.Prelude.{IsAscii}
 use Rattle.std.specs.Str.Parse.{IsNumeral}
-use Rattle.octseq_dns_data.specs.Mnemonic.{Names, Spells, Reads, ReadsClass}
+use Rattle.octseq_dns_data.specs.Mnemonic.{Mnemonics, SpellsWord, IsMnemonicText, ReadsClass}
 use Rattle.octseq_dns_data.specs.Mnemonic.{class_names}
 
 -- ---- ASCII
@@ -19,11 +19,11 @@ is_low [] = true
 is_low (x ∷ xs) = nat_lt x 128 && is_low xs
 
 -- names of which each passes a test
-abbrev pub all_named : (List ℕ → Bool) → Names → Bool
+abbrev pub all_named : (List ℕ → Bool) → Mnemonics → Bool
 all_named test [] = true
 all_named test (named ∷ names) = test named.1 && all_named test names
 
-named_so : (test : List ℕ → Bool) (names : Names) (named : ℕ × List ℕ) → all_named test names ≡ true
+named_so : (test : List ℕ → Bool) (names : Mnemonics) (named : ℕ × List ℕ) → all_named test names ≡ true
     → IsAmong names named → test named.1 ≡ true
 named_so test [] named all among = absurd (omega (arith, among.1.0))
 named_so test (first ∷ names) named all (zero, (less, is)) =
@@ -44,7 +44,7 @@ low_ascii (x ∷ xs) low (suc i) = low_ascii xs (and_parts (nat_lt x 128) (is_lo
 lower_low : (x y : ℕ) → to_ascii_lowercase x ≡ to_ascii_lowercase y → nat_lt y 128 ≡ true → nat_lt x 128 ≡ true
 lower_low x y same low = grind (arith, nat_tests)
 
-spelled_low : (text name : List ℕ) → Spells text name → is_low name ≡ true → is_low text ≡ true
+spelled_low : (text name : List ℕ) → SpellsWord text name → is_low name ≡ true → is_low text ≡ true
 spelled_low [] name same low = refl
 spelled_low (x ∷ text) [] same low = absurd (cc)
 spelled_low (x ∷ text) (y ∷ name) same low =
@@ -55,8 +55,8 @@ spelled_low (x ∷ text) (y ∷ name) same low =
     let more = spelled_low text name rest parts.1 in
     cc (one, more)
 
-read_ascii : (word : List ℕ) (names : Names) (text : List ℕ) (n : ℕ) → is_low word ≡ true
-    → all_named is_low names ≡ true → Reads word names text n → IsAscii text
+read_ascii : (word : List ℕ) (names : Mnemonics) (text : List ℕ) (n : ℕ) → is_low word ≡ true
+    → all_named is_low names ≡ true → IsMnemonicText word names text n → IsAscii text
 read_ascii word names text n low all (inl is) =
     low_ascii text (spelled_low text is.name is.spelled (named_so is_low names (n, is.name) all is.named))
 read_ascii word names text n low all (inr is) =
@@ -73,7 +73,7 @@ abbrev pub has_letter : List ℕ → Bool
 has_letter [] = false
 has_letter (x ∷ xs) = nat_lt 96 (to_ascii_lowercase x)
 
-spelled_letter : (text name : List ℕ) → Spells text name → has_letter name ≡ true → has_letter text ≡ true
+spelled_letter : (text name : List ℕ) → SpellsWord text name → has_letter name ≡ true → has_letter text ≡ true
 spelled_letter [] [] same letter = letter
 spelled_letter [] (y ∷ name) same letter = absurd (cc)
 spelled_letter (x ∷ text) [] same letter = absurd (cc)
@@ -85,8 +85,8 @@ front_letter : (xs ys : List ℕ) → has_letter xs ≡ true → has_letter (xs 
 front_letter [] ys letter = absurd (cc)
 front_letter (x ∷ xs) ys letter = letter
 
-read_letter : (word : List ℕ) (names : Names) (text : List ℕ) (n : ℕ) → has_letter word ≡ true
-    → all_named has_letter names ≡ true → Reads word names text n → has_letter text ≡ true
+read_letter : (word : List ℕ) (names : Mnemonics) (text : List ℕ) (n : ℕ) → has_letter word ≡ true
+    → all_named has_letter names ≡ true → IsMnemonicText word names text n → has_letter text ≡ true
 read_letter word names text n letter all (inl is) =
     spelled_letter text is.name is.spelled (named_so has_letter names (n, is.name) all is.named)
 read_letter word names text n letter all (inr is) =

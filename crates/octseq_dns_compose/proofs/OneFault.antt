@@ -3,7 +3,7 @@ use Rattle.std.proofs.Common.{◌≡◌, ℕ, List, [], ◌∷◌, ◌++◌, len
 use Rattle.std.proofs.Common.{append_assoc}
 use Rattle.octseq_dns_scan.specs.Word.{TakesWord}
 use Rattle.octseq_dns_scan.proofs.Taken.{word_once}
-use Rattle.octseq_dns_text.specs.Scans.{BeginsWithWords, Goes, IsFault}
+use Rattle.octseq_dns_text.specs.Scans.{BeginsWithWords, Goes, IsWordFault}
 use Rattle.octseq_dns_compose.specs.TextLines.{BeginsWithLines, IsLineFault, IsNextLine}
 use Rattle.octseq_dns_compose.specs.TextLines.{TakesLine}
 use Rattle.octseq_dns_compose.proofs.Faults.{no_text}
@@ -59,7 +59,7 @@ compared_lines (words ∷ front) (also ∷ other) text rest left p q =
 
 module _ (Is : Line → List ℕ → Type 0) (ahead : List ℕ) (start offset other : ℕ) where
   -- where one fault is, no text goes on to a later one
-  not_later : (fault : IsFault Is ahead start offset) (front more : Line) (word left : List ℕ)
+  not_later : (fault : IsWordFault Is ahead start offset) (front more : Line) (word left : List ℕ)
       → front ≡ fault.front ++ word ∷ more → TakesWord word fault.rest left → ¬ Goes Is front
   not_later fault front more word left e takes goes =
       let whole = subst (λ ws. Is (ws ++ goes.0) goes.1) e goes.2 in
@@ -68,7 +68,7 @@ module _ (Is : Line → List ℕ → Type 0) (ahead : List ℕ) (start offset ot
       fault.stops word left takes (more ++ goes.0, goes.1, subst (λ ws. Is ws goes.1) split whole)
 
 module _ (Is : Line → List ℕ → Type 0) (ahead : List ℕ) (start : ℕ) where
-  one_offset : (offset other : ℕ) (fault : IsFault Is ahead start offset) (also : IsFault Is ahead start other)
+  one_offset : (offset other : ℕ) (fault : IsWordFault Is ahead start offset) (also : IsWordFault Is ahead start other)
       → Compared TakesWord fault.front also.front fault.rest also.rest → offset ≡ other
   one_offset offset other fault also (Compared.equal p q) =
       let here = fault.place in
@@ -80,7 +80,7 @@ module _ (Is : Line → List ℕ → Type 0) (ahead : List ℕ) (start : ℕ) wh
   one_offset offset other fault also (Compared.longer word more left e takes) =
       absurd (not_later Is ahead start other offset also fault.front more word left e takes fault.goes)
 
-  one_fault : (offset other : ℕ) → IsFault Is ahead start offset → IsFault Is ahead start other → offset ≡ other
+  one_fault : (offset other : ℕ) → IsWordFault Is ahead start offset → IsWordFault Is ahead start other → offset ≡ other
   one_fault offset other fault also =
       one_offset offset other fault also
       (compared_words fault.front also.front ahead fault.rest also.rest fault.begins also.begins)

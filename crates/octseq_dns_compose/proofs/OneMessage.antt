@@ -16,8 +16,15 @@ use Rattle.octseq_dns_text.proofs.TypesTexts.{type_once}
 use Rattle.octseq_dns_text.specs.DataText.{IsDataText}
 use Rattle.octseq_dns_compose.specs.Alone.{SaysAlone}
 use Rattle.octseq_dns_compose.specs.HeaderLine.{IsHeaderLine, AreFlags, ArePicked, flag_names}
-use Rattle.octseq_dns_compose.specs.MessageText.{AreEntries, Entry, IsEntryLine, IsMessageText, IsRecordOf, IsWith}
-use Rattle.octseq_dns_compose.specs.MessageText.{IsWithAll, Said, SayEntries, headed_message, section_of}
+use Rattle.octseq_dns_compose.specs.MessageText.{
+  AreEntries,
+  EntryLine,
+  IsEntryLine,
+  IsTextOfMessage,
+  IsRecordOfLine,
+  IsWith,
+}
+use Rattle.octseq_dns_compose.specs.MessageText.{IsWithAll, RecordLine, SayEntries, headed_message, section_of}
 use Rattle.octseq_dns_compose.specs.QuestionText.{IsQuestionText}
 use Rattle.octseq_dns_compose.specs.RecordText.{IsClassWord, IsNameWord, IsRecordText, IsRtypeWord, IsTtlWord}
 use Rattle.octseq_dns_compose.specs.RecordText.{TtlAndClass}
@@ -140,18 +147,18 @@ either_parts ttl class Rest a b more (inl (time, (is, rest))) = (inl (time, is),
 either_parts ttl class Rest a b more (inr (is, (time, rest))) = (inr (is, time), rest)
 
 -- what follows the owner, and what follows the TTL and the class
-abbrev IsAfterOrder : Said → Line → Type 0
+abbrev IsAfterOrder : RecordLine → Line → Type 0
 IsAfterOrder said =
     Then (IsRtypeWord said.head.rtype) (λ more. IsDataText None said.head.rtype said.head.class more said.octets)
 
-abbrev IsAfterOwner : Said → Line → Type 0
+abbrev IsAfterOwner : RecordLine → Line → Type 0
 IsAfterOwner said = TtlAndClass said.head.ttl said.head.class (IsAfterOrder said)
 
-abbrev Same : Said → Said → Type 0
+abbrev Same : RecordLine → RecordLine → Type 0
 Same said other = (said.head.ttl ≡ other.head.ttl) × (said.head.class ≡ other.head.class)
     × (said.head.rtype ≡ other.head.rtype) × (said.octets ≡ other.octets)
 
-after_once : (said other : Said) (words : Line) → IsAfterOwner said words → IsAfterOwner other words
+after_once : (said other : RecordLine) (words : Line) → IsAfterOwner said words → IsAfterOwner other words
     → Same said other
 after_once said other [] (inl none) two = absurd none
 after_once said other [] (inr none) two = absurd none
@@ -172,7 +179,7 @@ after_once said other (a ∷ b ∷ c ∷ more) one two =
       data_one None said.head.rtype said.head.class more said.octets other.octets x.1.1 too,
     )
 
-pub record_once : (said other : Said) (words : Line) → IsRecordText None said.head words said.octets
+pub record_once : (said other : RecordLine) (words : Line) → IsRecordText None said.head words said.octets
     → IsRecordText None other.head words other.octets → said ≡ other
 record_once said other [] one two = absurd one
 record_once said other (owner ∷ words) one two =
@@ -185,22 +192,22 @@ record_once said other (owner ∷ words) one two =
 
 -- ---- entries
 
-pub entry_once : (entry other : Entry) (words : Line) → IsEntryLine entry words → IsEntryLine other words
+pub entry_once : (entry other : EntryLine) (words : Line) → IsEntryLine entry words → IsEntryLine other words
     → entry ≡ other
 entry_once entry other [] one two = absurd (no_entry entry one)
-entry_once (Entry.question q) (Entry.question p) (word ∷ words) one two =
-    ap Entry.question (question_once q p words one.1 two.1)
-entry_once (Entry.answer said) (Entry.answer other) (word ∷ words) one two =
-    ap Entry.answer (record_once said other words one.1 two.1)
-entry_once (Entry.authority said) (Entry.authority other) (word ∷ words) one two =
-    ap Entry.authority (record_once said other words one.1 two.1)
-entry_once (Entry.additional said) (Entry.additional other) (word ∷ words) one two =
-    ap Entry.additional (record_once said other words one.1 two.1)
+entry_once (EntryLine.question q) (EntryLine.question p) (word ∷ words) one two =
+    ap EntryLine.question (question_once q p words one.1 two.1)
+entry_once (EntryLine.answer said) (EntryLine.answer other) (word ∷ words) one two =
+    ap EntryLine.answer (record_once said other words one.1 two.1)
+entry_once (EntryLine.authority said) (EntryLine.authority other) (word ∷ words) one two =
+    ap EntryLine.authority (record_once said other words one.1 two.1)
+entry_once (EntryLine.additional said) (EntryLine.additional other) (word ∷ words) one two =
+    ap EntryLine.additional (record_once said other words one.1 two.1)
 entry_once entry other (word ∷ words) one two =
     let same = same_section entry other (word ∷ words) one two in
     absurd (omega (arith, same))
 
-entries_once : (from : ℕ) (entries others : List Entry) (lines : List Line) → AreEntries from entries lines
+entries_once : (from : ℕ) (entries others : List EntryLine) (lines : List Line) → AreEntries from entries lines
     → AreEntries from others lines → entries ≡ others
 entries_once from entries others [] one two = one ∙ sym two
 entries_once from entries others (words ∷ lines) (entry, more, is, at, line, rest) (other, after, also, on, too, end) =
@@ -209,7 +216,7 @@ entries_once from entries others (words ∷ lines) (entry, more, is, at, line, r
     (subst (λ e. AreEntries (section_of e) after lines) (sym first) end) in
     is ∙ (λ i. first i ∷ all i) ∙ sym also
 
-pub lines_say : (lines : List Line) (header other : Header) (entries others : List Entry)
+pub lines_say : (lines : List Line) (header other : Header) (entries others : List EntryLine)
     → SayEntries lines header entries → SayEntries lines other others → (header ≡ other) × (entries ≡ others)
 lines_say lines header other entries others one two =
     let same : one.first ∷ one.others ≡ two.first ∷ two.others = sym one.lines_are ∙ two.lines_are in
@@ -229,7 +236,7 @@ alone_once rtype class octets rdata other (inl one) (inr two) = absurd (two.1 rd
 alone_once rtype class octets rdata other (inr one) (inl two) = absurd (one.1 other two)
 alone_once rtype class octets rdata other (inr one) (inr two) = one.0 ∙ sym two.0
 
-record_of_once : (said : Said) (r other : Record) → IsRecordOf said r → IsRecordOf said other → r ≡ other
+record_of_once : (said : RecordLine) (r other : Record) → IsRecordOfLine said r → IsRecordOfLine said other → r ≡ other
 record_of_once said r other one two =
     let parsed = alone_once said.head.rtype said.head.class said.octets one.parsed two.parsed one.says two.says in
     one.is ∙ (λ i. record {
@@ -240,23 +247,23 @@ record_of_once said r other one two =
       fields = rdata_fields (bare_rdata (parsed i));
     }) ∙ sym two.is
 
-pub with_once : (m more other : Message) (entry : Entry) → IsWith m entry more → IsWith m entry other → more ≡ other
-with_once m more other (Entry.question q) one two = one ∙ sym two
-with_once m more other (Entry.answer said) (r, is, one) (s, also, two) =
+pub with_once : (m more other : Message) (entry : EntryLine) → IsWith m entry more → IsWith m entry other → more ≡ other
+with_once m more other (EntryLine.question q) one two = one ∙ sym two
+with_once m more other (EntryLine.answer said) (r, is, one) (s, also, two) =
     one ∙ ap (more_answers m) (record_of_once said r s is also) ∙ sym two
-with_once m more other (Entry.authority said) (r, is, one) (s, also, two) =
+with_once m more other (EntryLine.authority said) (r, is, one) (s, also, two) =
     one ∙ ap (more_authorities m) (record_of_once said r s is also) ∙ sym two
-with_once m more other (Entry.additional said) (r, is, one) (s, also, two) =
+with_once m more other (EntryLine.additional said) (r, is, one) (s, also, two) =
     one ∙ ap (more_additionals m) (record_of_once said r s is also) ∙ sym two
 
-all_once : (m all other : Message) (entries : List Entry) → IsWithAll m entries all → IsWithAll m entries other
+all_once : (m all other : Message) (entries : List EntryLine) → IsWithAll m entries all → IsWithAll m entries other
     → all ≡ other
 all_once m all other [] one two = one ∙ sym two
 all_once m all other (entry ∷ entries) (more, is, one) (next, also, two) =
     let same = with_once m more next entry is also in
     all_once more all other entries one (subst (λ n. IsWithAll n entries other) (sym same) two)
 
-pub message_once : (text : List ℕ) (m other : Message) → IsMessageText text m → IsMessageText text other → m ≡ other
+pub message_once : (text : List ℕ) (m other : Message) → IsTextOfMessage text m → IsTextOfMessage text other → m ≡ other
 message_once text m other one two =
     let lines = lines_once text one.lines two.lines one.lines_are two.lines_are in
     let both = lines_say two.lines one.header two.header one.entries two.entries

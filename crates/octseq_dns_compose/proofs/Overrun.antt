@@ -3,11 +3,11 @@ use Rattle.std.proofs.Common.{◌≡◌, ◌⊎◌, ℕ, ◌+◌, ◌<◌, ◌�
 use Rattle.std.proofs.Common.{sym, ap, ◌∙◌, subst, inl, inr, arith}
 use Rattle.std.proofs.lemmas.List.{length-append, length-map}
 use Rattle.octseq.specs.Integer.{octets_be}
-use Rattle.octseq.specs.Limit.{IsPast}
+use Rattle.octseq.specs.Limit.{ExceedsLimit}
 use Rattle.octseq.proofs.Written.{length_be}
 use Rattle.octseq_dns.specs.Contents.{Message, Question, Record, composed, counts_of, entries_of, header_octets}
-use Rattle.octseq_dns.specs.Contents.{headed, octets_of, question_entry, record_entry, records_in}
-use Rattle.octseq_dns.specs.Writes.{Takes, Writes}
+use Rattle.octseq_dns.specs.Contents.{with_only_header, octets_of, question_entry, record_entry, records_in}
+use Rattle.octseq_dns.specs.Writes.{SectionTakes, ComposesMessage}
 use Rattle.octseq_dns.proofs.HeaderRead.{header_length}
 use Rattle.octseq_dns.proofs.Pushed.{composed_more, twelve_first}
 use Rattle.octseq_dns_compress.specs.Composed.{message_limit}
@@ -60,7 +60,7 @@ each_long most entry long s (one ∷ all) =
 -- a message has more octets than entries
 entries_long : (most : ℕ) (m : Message) → length (entries_of m) ≤ length (octets_of most m)
 entries_long most m =
-    let first = headed m.header (counts_of m) in
+    let first = with_only_header m.header (counts_of m) in
     let asked = with_entries most first (map question_entry m.questions) in
     let one = each_long most question_entry (question_long most) first m.questions in
     let two = each_long most record_entry (record_long most) asked (records_in m) in
@@ -74,13 +74,13 @@ entries_long most m =
 -- so a section with too many entries makes it exceed any limit of a message
 pub past_limit : (most : ℕ) (limit : Option ℕ) (count : HeaderCounts → ℕ) (m : Message)
     → count (counts_of m) ≤ length (entries_of m) → Exceeds most (message_limit limit) count m
-    → IsPast (message_limit limit) (length (octets_of most m))
+    → ExceedsLimit (message_limit limit) (length (octets_of most m))
 past_limit most limit count m less (inl past) = past
 past_limit most limit count m less (inr many) =
     let size = entries_long most m in
     most_past limit _ (omega (arith, less, many, size))
   where
-    most_past : (limit : Option ℕ) (n : ℕ) → 65535 < n → IsPast (message_limit limit) n
+    most_past : (limit : Option ℕ) (n : ℕ) → 65535 < n → ExceedsLimit (message_limit limit) n
     most_past None n late = late
     most_past (Some limit) n late = omega (arith, late)
 
@@ -103,14 +103,14 @@ counts_most m =
 
 -- ---- what a push refuses
 
-pub header_past : (most : ℕ) (limit : Option ℕ) (m : Message) → IsPast limit 12
-    → IsPast (message_limit limit) (length (octets_of most m))
+pub header_past : (most : ℕ) (limit : Option ℕ) (m : Message) → ExceedsLimit limit 12
+    → ExceedsLimit (message_limit limit) (length (octets_of most m))
 header_past most None m past = absurd past
 header_past most (Some limit) m past = let first = twelve_first most m in omega (arith, first, past)
 
 module _ {A : Type 0} {entry : A → Entry} {FitsOne : A → Type 0} {Reaches : HeaderCounts → Type 0}
     {count : HeaderCounts → ℕ} {counted : HeaderCounts → ℕ → HeaderCounts} {more : Message → A → Message}
-    (takes : Takes A entry FitsOne Reaches count counted more) (most : ℕ) where
+    (takes : SectionTakes A entry FitsOne Reaches count counted more) (most : ℕ) where
   -- a message has the octets of an entry more
   entry_past : (m : Message) (one : A) → Reaches (counts_of m)
       → (length (octets_of most m) ≤ length (with_entry most (composed most m) (entry one)).octets)
@@ -136,11 +136,12 @@ module _ {A : Type 0} {entry : A → Entry} {FitsOne : A → Type 0} {Reaches : 
 
   pub push_exceeds : (limit : Option ℕ) (one : A) (state : State) (header : Header) (counts : HeaderCounts)
       → Reaches counts
-      → IsPast limit (length (with_entry most state (entry one)).octets) ⊎ (65535 ≤ count counts) → (m : Message)
-      → Writes most m state header counts → Exceeds most limit count (more m one)
+      → ExceedsLimit limit (length (with_entry most state (entry one)).octets) ⊎ (65535 ≤ count counts) → (m : Message)
+      → ComposesMessage most m state header counts → Exceeds most limit count (more m one)
   push_exceeds limit one state header counts reaches (inl past) m writes =
       let same = (entry_past m one (subst Reaches writes.counts_are reaches)).1 in
-      inl (subst (IsPast limit) (ap (λ s. length (with_entry most s (entry one)).octets) writes.state_is ∙ sym same)
+      inl (subst (ExceedsLimit limit)
+      (ap (λ s. length (with_entry most s (entry one)).octets) writes.state_is ∙ sym same)
       past)
   push_exceeds limit one state header counts reaches (inr many) m writes =
       let before = ap count writes.counts_are in

@@ -19,7 +19,7 @@ use Rattle.octseq_dns_data.specs.Local.{form}
 use Rattle.octseq_dns_data.specs.Strings.{HasString}
 use Rattle.octseq_dns_data.specs.Typed.{mx_parts, naptr_parts, soa_parts, srv_parts}
 use Rattle.octseq_dns_message.specs.Entry as read
-use Rattle.octseq_dns_message.specs.RecordData.{IsDataOf, IsTyped}
+use Rattle.octseq_dns_message.specs.RecordData.{IsDataOf, IsDataTyped}
 use Rattle.octseq_dns_name.specs.NameFormat.{wire_has_labels}
 use Rattle.octseq_dns_name.specs.Wire.{wire}
 use Rattle.octseq_dns_text.proofs.ShownData.{mx_shown, naptr_shown, soa_shown, srv_shown, string_at}
@@ -195,9 +195,10 @@ typed_known rtype class w inside rdata is = tt
 
 -- the data of a record has a form, with these values
 abbrev IsTypedAs : read.Record → Rdata → Type 0
-IsTypedAs r said = (parsed : ParsedRdata) × (bare_rdata parsed ≡ said) × IsTyped r parsed
+IsTypedAs r said = (parsed : ParsedRdata) × (bare_rdata parsed ≡ said) × IsDataTyped r parsed
 
-is_typed : (r : read.Record) (parsed : ParsedRdata) → IsKnown (bare_rdata parsed) → IsDataOf r parsed → IsTyped r parsed
+is_typed : (r : read.Record) (parsed : ParsedRdata) → IsKnown (bare_rdata parsed) → IsDataOf r parsed
+    → IsDataTyped r parsed
 is_typed r parsed known (inl is) = is
 is_typed r parsed known (inr (same, none)) = absurd (subst (λ p. IsKnown (bare_rdata p)) same known)
 
@@ -234,7 +235,7 @@ typed_alone rtype class w inside rdata sound in_it is =
     (parsed, same, inl (form, plain))
 
 -- if the octets of a record's data have a form by themselves, the data has it in the message too
-none_alone : (r : read.Record) → HasItsData r → IsSound r.rdata → ((other : ParsedRdata) → ¬ IsTyped r other)
+none_alone : (r : read.Record) → HasItsData r → IsSound r.rdata → ((other : ParsedRdata) → ¬ IsDataTyped r other)
     → (other : ParsedRdata) → ¬ IsTypedAlone r.rtype r.class (rest r.rdata) other
 none_alone r its in_it none other (form, plain) =
     let octets = rest r.rdata in

@@ -10,10 +10,10 @@ use Rattle.octseq.specs.Integer.{be, octets_be}
 use Rattle.octseq.specs.Part.{part_length, part_of}
 use Rattle.octseq.specs.Window.{Window, past, rest}
 use Rattle.octseq_dns.specs.Rdata.{FitsRdata, bare_rdata}
-use Rattle.octseq_dns_data.specs.Data.{HasOctets, IsTypedData, ParsedRdata}
-use Rattle.octseq_dns_data.specs.Form.{Part, domain_name, number}
+use Rattle.octseq_dns_data.specs.Data.{HasOctetCount, IsTypedData, ParsedRdata}
+use Rattle.octseq_dns_data.specs.Form.{FormPart, domain_name, number}
 use Rattle.octseq_dns_data.specs.Formed.{IsFormed, IsString}
-use Rattle.octseq_dns_data.specs.PlainName.{HasPlainName, IsPlainName}
+use Rattle.octseq_dns_data.specs.UncompressedName.{HasUncompressedName, IsUncompressedName}
 use Rattle.octseq_dns_data.specs.Strings.{HasString}
 use Rattle.octseq_dns_data.specs.Typed.{mx_parts, naptr_parts, quoted, soa_parts, srv_parts}
 use Rattle.octseq_dns_name.specs.Name.{HasName, IsName, Name}
@@ -36,13 +36,13 @@ use Rattle.octseq_dns_compose.specs.Alone.{ArePlain, IsPlain}
 -- ---- data with no pointers has the octets of its plain form
 
 -- a name that is read with no pointers
-name_plain : (u v : Window) (name : Name) → HasName u name v → IsPlain name → HasPlainName u name v
+name_plain : (u v : Window) (name : Name) → HasName u name v → IsPlain name → HasUncompressedName u name v
 name_plain u v name is (end, plain) =
     let labels = name.labels in
-    let here : IsPlainName u labels end = subst (λ p. IsPlainName p labels end) is.0 plain in
+    let here : IsUncompressedName u labels end = subst (λ p. IsUncompressedName p labels end) is.0 plain in
     let read : IsName u labels end =
     record { pointers = 0; has_labels = here.has_labels; short = here.short; few = omega arith } in
-    (is.0, subst (IsPlainName u labels) (one_name u end v labels labels read is.1).1 here)
+    (is.0, subst (IsUncompressedName u labels) (one_name u end v labels labels read is.1).1 here)
 
 -- what is read from a window takes these octets, up to the same end
 abbrev Spans : Window → List ℕ → Window → Type 0
@@ -54,7 +54,7 @@ span_all w v octets ends (all, same) =
     let none = nil_from_length (rest v) (let few = length_rest v in omega (arith, few, same, ends)) in
     sym (all ∙ ap (λ t. octets ++ t) none ∙ append-nil octets)
 
-octets_span : (n : ℕ) (w v : Window) (octets : List ℕ) → HasOctets n w octets v → Spans w octets v
+octets_span : (n : ℕ) (w v : Window) (octets : List ℕ) → HasOctetCount n w octets v → Spans w octets v
 octets_span n w v octets (few, is, moved) = (
   sym (next_and_rest w n few) ∙ ap (λ t. t ++ rest (past n w)) (sym is) ∙ ap (λ u. octets ++ rest u) (sym moved),
   ap (λ (x : Window). x.end) moved,
@@ -152,7 +152,7 @@ plain_octets_are rtype class w (ParsedRdata.unknown other octets) sound is plain
 -- ---- data whose octets are those of its plain form has no pointers
 
 -- the octets of a part come next, followed by others, and the part is read from there: the others are past it
-part_read : (part : Part) (w u : Window) (found : part.Found) (more : List ℕ) → part.Fits (part.says found)
+part_read : (part : FormPart) (w u : Window) (found : part.Found) (more : List ℕ) → part.Fits (part.says found)
     → part.Is w found u → rest w ≡ part.octets (part.says found) ++ more → rest u ≡ more
 part_read part w u found more fits is all =
     let octets = part.octets (part.says found) in
@@ -165,7 +165,7 @@ first_is_plain : (u v : Window) (name : Name) (more : List ℕ) → NameFits nam
 first_is_plain u v name more fits is all =
     let end = past (length (wire name.labels)) u in (
       end,
-      subst (λ p. IsPlainName p name.labels end) (sym is.0)
+      subst (λ p. IsUncompressedName p name.labels end) (sym is.0)
           (record { has_labels = wire_has_labels u.position u name.labels more fits.each all; short = fits.short }),
     )
 

@@ -1,7 +1,7 @@
 -- The text of a question, and where it is none.
 use Rattle.std.proofs.Common.{◌≡◌, ℕ, ◌+◌, None, List, [], ◌∷◌, length, codes, refl}
 use Rattle.octseq_dns_scan.specs.Word.{TakesWord}
-use Rattle.octseq_dns_text.specs.Scans.{IsFault}
+use Rattle.octseq_dns_text.specs.Scans.{IsWordFault}
 use Rattle.octseq_dns_compose.specs.QuestionText.{IsAnyQuestion, IsOver}
 use Rattle.octseq_dns_compose.specs.RecordText.{IsNameWord, IsClassWord, IsRtypeWord}
 use Rattle.octseq_dns_compose.specs.Take.{Then}
@@ -20,19 +20,19 @@ AfterRtype words octets = IsOver words
 
 pub question_fault : (ahead : List ℕ) (start : ℕ)
     → ((word rest : List ℕ) (labels : List (List ℕ)) → TakesWord word ahead rest → ¬ IsNameWord None labels word)
-    → IsFault IsAnyQuestion ahead start start
+    → IsWordFault IsAnyQuestion ahead start start
 question_fault ahead start none =
     first_fault IsAnyQuestion ahead start
     (codes "." ∷ codes "IN" ∷ codes "A" ∷ [], [], ([], 1, 1, (name_sample None, (class_sample, (rtype_sample, refl)))))
     (λ word left taken goes. none word left goes.2.0 taken goes.2.3.0) (λ over octets is. is.3)
 
-pub class_fault : (ahead : List ℕ) (start : ℕ) → NoneNext IsClassWord ahead → IsFault AfterName ahead start start
+pub class_fault : (ahead : List ℕ) (start : ℕ) → NoneNext IsClassWord ahead → IsWordFault AfterName ahead start start
 class_fault ahead start none =
     first_fault AfterName ahead start
     (codes "IN" ∷ codes "A" ∷ [], [], (1, 1, (class_sample, (rtype_sample, refl))))
     (λ word left taken goes. none word left goes.2.0 taken goes.2.2.0) (λ over octets is. is.2)
 
-pub rtype_fault : (ahead : List ℕ) (start : ℕ) → NoneNext IsRtypeWord ahead → IsFault AfterClass ahead start start
+pub rtype_fault : (ahead : List ℕ) (start : ℕ) → NoneNext IsRtypeWord ahead → IsWordFault AfterClass ahead start start
 rtype_fault ahead start none =
     first_fault AfterClass ahead start (codes "A" ∷ [], [], (1, (rtype_sample, refl)))
     (λ word left taken goes. none word left goes.2.0 taken goes.2.1.0) (λ over octets is. is.1)
@@ -72,7 +72,7 @@ past_rtype rtype so_far taken place =
 nothing : (word : List ℕ) (words : List (List ℕ)) → ¬ (word ∷ words ≡ [])
 nothing word words is = absurd (cc)
 
-pub more_fault : (ahead : List ℕ) (start : ℕ) → ¬ (ahead ≡ []) → IsFault AfterRtype ahead start start
+pub more_fault : (ahead : List ℕ) (start : ℕ) → ¬ (ahead ≡ []) → IsWordFault AfterRtype ahead start start
 more_fault ahead start some =
     first_fault AfterRtype ahead start ([], [], refl) (λ other left also goes. absurd (nothing other goes.0 goes.2))
     (λ over. absurd (some over))

@@ -6,7 +6,7 @@ use Rattle.octseq_dns_text.proofs.TypesTexts.{type_once}
 use Rattle.octseq_dns_text.specs.DataText.{IsDataText, ends_in_list}
 use Rattle.octseq_dns_text.specs.Layouts.{layout_of}
 use Rattle.octseq_dns_text.proofs.ReadTexts.{words_more}
-use Rattle.octseq_dns_text.specs.Scans.{BeginsWithWords, Goes, IsFault}
+use Rattle.octseq_dns_text.specs.Scans.{BeginsWithWords, Goes, IsWordFault}
 use Rattle.octseq_dns_compose.specs.RecordText.{Head, IsNameWord, IsTtlWord, IsClassWord, IsRtypeWord}
 use Rattle.octseq_dns_compose.specs.RecordText.{BeginsWithList, TtlAndClass, IsRecordText, IsAnyRecord}
 use Rattle.octseq_dns_compose.specs.Take.{Then}
@@ -105,7 +105,7 @@ rtype_leads origin class rtype word is = record {
 -- at the owner
 pub fault_at_owner : (origin : Option (List (List ℕ))) (ahead : List ℕ) (start : ℕ)
     → ((word rest : List ℕ) (labels : List (List ℕ)) → TakesWord word ahead rest → ¬ IsNameWord origin labels word)
-    → IsFault (IsAnyRecord origin) ahead start start
+    → IsWordFault (IsAnyRecord origin) ahead start start
 fault_at_owner origin ahead start none =
     first_fault (IsAnyRecord origin) ahead start (record_goes origin)
     (λ word left taken goes. none word left goes.2.0.labels taken goes.2.1.0) (λ over octets is. is.1)
@@ -147,11 +147,12 @@ no_ttl_on origin n first after word left is none taken (more, octets, (ttl, clas
     none word left ttl taken on.1.0
 
 pub fault_at_order : (origin : Option (List (List ℕ))) (ahead after : List ℕ) (start next : ℕ)
-    → next + length after ≡ start + length ahead → IsNoOrder ahead after → IsFault (AfterOwner origin) ahead start next
+    → next + length after ≡ start + length ahead → IsNoOrder ahead after
+    → IsWordFault (AfterOwner origin) ahead start next
 fault_at_order origin ahead after start next place (IsNoOrder.no_first same no_ttl no_class) =
     let size = ap length same in
     let at : start ≡ next = omega (arith, place, size) in
-    subst (IsFault (AfterOwner origin) ahead start) at
+    subst (IsWordFault (AfterOwner origin) ahead start) at
     (first_fault (AfterOwner origin) ahead start (owner_goes origin)
     (λ word left taken. no_first_on origin ahead word left no_ttl no_class taken) (λ over octets. no_end origin octets))
 fault_at_order origin ahead after start next place (IsNoOrder.no_class ttl word is taken none) =
@@ -189,7 +190,7 @@ past_order origin ttl class so_far taken place =
 
 -- at the type
 pub fault_at_rtype : (origin : Option (List (List ℕ))) (class : ℕ) (ahead : List ℕ) (start : ℕ)
-    → NoneNext IsRtypeWord ahead → IsFault (AfterClass origin class) ahead start start
+    → NoneNext IsRtypeWord ahead → IsWordFault (AfterClass origin class) ahead start start
 fault_at_rtype origin class ahead start none =
     first_fault (AfterClass origin class) ahead start (class_goes origin class)
     (λ word left taken goes. none word left goes.2.0 taken goes.2.1.0) (λ over octets is. is.1)

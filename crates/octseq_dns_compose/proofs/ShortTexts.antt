@@ -2,7 +2,7 @@
 use Rattle.std.proofs.Common.{◌≡◌, ℕ, ◌<◌, ◌≤◌, Option, Some, None, List, [], ◌∷◌, ◌++◌, length, append-nil}
 use Rattle.std.proofs.Common.{append_assoc, refl, sym, ap, ◌∙◌, subst, inl, inr, arith}
 use Rattle.std.specs.List.{AllByRecursion}
-use Rattle.octseq.specs.Limit.{IsPast}
+use Rattle.octseq.specs.Limit.{ExceedsLimit}
 use Rattle.octseq_dns.specs.Contents.{Message, Record, octets_of}
 use Rattle.octseq_dns.specs.Sections.{takes_additionals, takes_answers, takes_authorities, takes_questions}
 use Rattle.octseq_dns.specs.Writes.{Building}
@@ -12,12 +12,12 @@ use Rattle.octseq_dns_message.specs.declared.header.HeaderCounts.{HeaderCounts}
 use Rattle.octseq_dns_scan.specs.Word.{AreWords, TakesWord}
 use Rattle.octseq_dns_scan.proofs.Taken.{word_once, words_once}
 use Rattle.octseq_dns_compose.specs.HeaderLine.{IsHeaderLine}
-use Rattle.octseq_dns_compose.specs.MessageText.{AreEntries, Entry, IsAnyText, IsEntryLine, IsWith, IsWithAll}
-use Rattle.octseq_dns_compose.specs.MessageText.{IsRecordLine, SayEntries, Said, headed_message, section_of}
+use Rattle.octseq_dns_compose.specs.MessageText.{AreEntries, EntryLine, IsAnyText, IsEntryLine, IsWith, IsWithAll}
+use Rattle.octseq_dns_compose.specs.MessageText.{IsRecordLine, SayEntries, RecordLine, headed_message, section_of}
 use Rattle.octseq_dns_compose.specs.Progress.{IsSmallRecord, PushedUpTo}
 use Rattle.octseq_dns_compose.specs.RecordText.{IsAnyRecord}
-use Rattle.octseq_dns_compose.specs.TextLines.{IsFaultyLine, IsLineFault, IsLongLine, Splits, TakesLine}
-use Rattle.octseq_dns_compose.specs.TooLong.{HasLongData, HasLongMessage, IsTooLong, data_octets}
+use Rattle.octseq_dns_compose.specs.TextLines.{IsFaultyLine, IsLineFault, IsLongLine, SplitsLines, TakesLine}
+use Rattle.octseq_dns_compose.specs.TooLong.{HasLongData, HasLongMessage, IsMessageTooLong, data_octets}
 use Rattle.octseq_dns_compose.proofs.Composing.{IsSmall, PushesRecords, Stage, stage_on, stop_at}
 use Rattle.octseq_dns_compose.proofs.Faults.{no_text}
 use Rattle.octseq_dns_compose.proofs.LineFaults.{Broken, Line, line_same, splits_same}
@@ -36,28 +36,28 @@ EndsBy section m = (section ≤ 0 → length m.answers ≡ 0) × (section ≤ 1 
     × (section ≤ 2 → length m.additionals ≡ 0)
 
 -- one more entry, of that section or a later one
-record GrowsWith (most : ℕ) (entry : Entry) (m more : Message) : Type 0 where
+record GrowsWith (most : ℕ) (entry : EntryLine) (m more : Message) : Type 0 where
   ends : EndsBy (section_of entry) more
   grows : length (octets_of most m) ≤ length (octets_of most more)
 
-with_grows : (most from : ℕ) (entry : Entry) (m more : Message) → from ≤ section_of entry → EndsBy from m
+with_grows : (most from : ℕ) (entry : EntryLine) (m more : Message) → from ≤ section_of entry → EndsBy from m
     → IsWith m entry more → GrowsWith most entry m more
-with_grows most from (Entry.question q) m more less (rs, us, ds) is = subst (GrowsWith most _ m) (sym is) (record {
+with_grows most from (EntryLine.question q) m more less (rs, us, ds) is = subst (GrowsWith most _ m) (sym is) (record {
   ends = (λ _. rs less, λ _. us (omega (arith, less)), λ _. ds (omega (arith, less)));
   grows = push_grows takes_questions most m q
       (rs less, us (omega (arith, less)), ds (omega (arith, less)));
 })
-with_grows most from (Entry.answer said) m more less (rs, us, ds) (r, record_is, is) =
+with_grows most from (EntryLine.answer said) m more less (rs, us, ds) (r, record_is, is) =
     subst (GrowsWith most _ m) (sym is) (record {
       ends = (λ late. absurd (omega (arith, late)), λ _. us less, λ _. ds (omega (arith, less)));
       grows = push_grows takes_answers most m r (us less, ds (omega (arith, less)));
     })
-with_grows most from (Entry.authority said) m more less (rs, us, ds) (r, record_is, is) =
+with_grows most from (EntryLine.authority said) m more less (rs, us, ds) (r, record_is, is) =
     subst (GrowsWith most _ m) (sym is) (record {
       ends = (λ late. absurd (omega (arith, late)), λ late. absurd (omega (arith, late)), λ _. ds less);
       grows = push_grows takes_authorities most m r (ds less);
     })
-with_grows most from (Entry.additional said) m more less ends (r, record_is, is) =
+with_grows most from (EntryLine.additional said) m more less ends (r, record_is, is) =
     subst (GrowsWith most _ m) (sym is) (record {
       ends = (
         λ late. absurd (omega (arith, late)),
@@ -67,7 +67,7 @@ with_grows most from (Entry.additional said) m more less ends (r, record_is, is)
       grows = push_grows takes_additionals most m r tt;
     })
 
-all_grow : (most from : ℕ) (lines : List Line) (m all : Message) (entries : List Entry)
+all_grow : (most from : ℕ) (lines : List Line) (m all : Message) (entries : List EntryLine)
     → AreEntries from entries lines → IsWithAll m entries all → EndsBy from m
     → length (octets_of most m) ≤ length (octets_of most all)
 all_grow most from [] m all entries are is ends =
@@ -80,7 +80,7 @@ all_grow most from (words ∷ lines) m all entries (entry, more, e, less, line, 
     let others = all_grow most (section_of entry) lines next all more are rest one.ends in
     omega (arith, here, others)
 
-entries_grow : (most from : ℕ) (lines more : List Line) (m one two : Message) (entries others : List Entry)
+entries_grow : (most from : ℕ) (lines more : List Line) (m one two : Message) (entries others : List EntryLine)
     → AreEntries from entries lines → AreEntries from others (lines ++ more) → IsWithAll m entries one
     → IsWithAll m others two → EndsBy from m → length (octets_of most one) ≤ length (octets_of most two)
 entries_grow most from [] more m one two entries others are also is too ends =
@@ -98,7 +98,7 @@ entries_grow most from (words ∷ lines) more m one two entries others (entry, r
     (subst (λ x. IsWithAll x left two) both end) (with_grows most from entry m next less ends with).ends
 
 -- the lines of a text after that of its header
-others_are : (lines more : List Line) (header other : Header) (entries others : List Entry)
+others_are : (lines more : List Line) (header other : Header) (entries others : List EntryLine)
     (one : SayEntries lines header entries) (two : SayEntries (lines ++ more) other others)
     → (two.first ≡ one.first) × (two.others ≡ one.others ++ more)
 others_are lines more header other entries others one two =
@@ -106,7 +106,7 @@ others_are lines more header other entries others one two =
     sym two.lines_are ∙ ap (λ l. l ++ more) one.lines_are in
     (cc (same), cc (same))
 
-say_grows : (most : ℕ) (lines more : List Line) (header other : Header) (entries others : List Entry)
+say_grows : (most : ℕ) (lines more : List Line) (header other : Header) (entries others : List EntryLine)
     (m n : Message) → SayEntries lines header entries → SayEntries (lines ++ more) other others
     → IsWithAll (headed_message header) entries m → IsWithAll (headed_message other) others n
     → length (octets_of most m) ≤ length (octets_of most n)
@@ -120,7 +120,7 @@ say_grows most lines more header other entries others m n one two is too =
 
 -- ---- data of a line
 
-small_line : (from : ℕ) (lines more : List Line) (words : Line) (entries : List Entry) (entry : Entry)
+small_line : (from : ℕ) (lines more : List Line) (words : Line) (entries : List EntryLine) (entry : EntryLine)
     → AreEntries from entries (lines ++ words ∷ more) → AllByRecursion IsSmall entries → IsEntryLine entry words
     → IsSmall entry
 small_line from [] more words entries entry (other, rest, e, less, line, are) small is =
@@ -128,7 +128,7 @@ small_line from [] more words entries entry (other, rest, e, less, line, are) sm
 small_line from (first ∷ lines) more words entries entry (other, rest, e, less, line, are) small is =
     small_line (section_of other) lines more words rest entry are (subst (AllByRecursion IsSmall) e small).1 is
 
-last_line : (from : ℕ) (lines : List Line) (words : Line) (entries : List Entry) (entry : Entry)
+last_line : (from : ℕ) (lines : List Line) (words : Line) (entries : List EntryLine) (entry : EntryLine)
     → AreEntries from entries lines → AreEntries from (entries ++ entry ∷ []) (lines ++ words ∷ [])
     → IsEntryLine entry words
 last_line from [] words entries entry are (other, rest, e, less, line, over) =
@@ -146,23 +146,24 @@ last_line from (first ∷ lines) words entries entry (one, more, d, on, said, ar
 
 -- If the next line is that of an entry that may come next, it lacks its line feed, and has no long data.
 abbrev pub StopsAt : ℕ → List ℕ → Type 0
-StopsAt from text = (entry : Entry) (words : Line) (line after : List ℕ) → Splits text line after
+StopsAt from text = (entry : EntryLine) (words : Line) (line after : List ℕ) → SplitsLines text line after
     → AreWords words line → from ≤ section_of entry → IsEntryLine entry words
     → (after ≡ []) × ¬ (65535 < length (data_octets entry))
 
 taken_splits : (words : Line) (text rest : List ℕ) → (taken : TakesLine words text rest)
-    → Splits text taken.0 (10 ∷ rest)
+    → SplitsLines text taken.0 (10 ∷ rest)
 taken_splits words text rest taken = record { whole = taken.1; is_line = taken.2; ends = refl }
 
-past_more : (limit : Option ℕ) (n more : ℕ) → n ≤ more → IsPast limit n → IsPast limit more
+past_more : (limit : Option ℕ) (n more : ℕ) → n ≤ more → ExceedsLimit limit n → ExceedsLimit limit more
 past_more None n more less past = past
 past_more (Some limit) n more less past = omega (arith, less, past)
 
 module _ {B T : Type 0} {most : ℕ} {limit : Option ℕ} {text ahead : List ℕ} {i next : ℕ} {b : Building B T}
     (now : Stage most limit text ahead i next b) (stops : StopsAt now.said.to ahead) where
-  at_stop : (words : Line) (others : List Line) (line after : List ℕ) → Splits ahead line after → AreWords words line
+  at_stop : (words : Line) (others : List Line) (line after : List ℕ) → SplitsLines ahead line after
+      → AreWords words line
       → IsAnyText (now.said.front.lines ++ words ∷ others)
-      → (after ≡ []) × ((entry : Entry) → IsEntryLine entry words → ¬ (65535 < length (data_octets entry)))
+      → (after ≡ []) × ((entry : EntryLine) → IsEntryLine entry words → ¬ (65535 < length (data_octets entry)))
   at_stop words others line after split are any =
       let all = (now.said.leads.out (words ∷ others) any).1 in
       let ends = stops all.0 words line after split are all.3 all.4 in (
@@ -186,7 +187,7 @@ module _ {B T : Type 0} {most : ℕ} {limit : Option ℕ} {text ahead : List ℕ
       long.m now.m long.front.say (subst (λ l. SayEntries l front.header front.entries) e front.say) long.message_is
       now.message_is in
       not_past (message_limit limit) (length b.state.octets) now.within
-      (subst (λ s. IsPast (message_limit limit) (length s.octets)) (sym now.writes.state_is)
+      (subst (λ s. ExceedsLimit (message_limit limit) (length s.octets)) (sym now.writes.state_is)
       (past_more (message_limit limit) _ _ grown long.past))
 
   no_long_message : (long : HasLongMessage most (message_limit limit) text)
@@ -204,7 +205,8 @@ module _ {B T : Type 0} {most : ℕ} {limit : Option ℕ} {text ahead : List ℕ
   no_long_data long (Compared.equal p q) is =
       let header = long.front.header in
       let entries = long.front.entries ++ long.entry ∷ [] in
-      (at_stop long.words [] long.line long.after (subst (λ t. Splits t long.line long.after) q long.split) long.are
+      (at_stop long.words [] long.line long.after
+      (subst (λ t. SplitsLines t long.line long.after) q long.split) long.are
       (header, entries, subst (λ l. SayEntries (l ++ long.words ∷ []) header entries) p long.say)).1 long.entry is
       long.past
   no_long_data long (Compared.shorter words more after e takes) is =
@@ -228,7 +230,7 @@ module _ {B T : Type 0} {most : ℕ} {limit : Option ℕ} {text ahead : List ℕ
             ∙ append_assoc now.said.front.lines (words ∷ more) (long.words ∷ [])) long.say,
       )
 
-  pub not_long : ¬ IsTooLong most (message_limit limit) text
+  pub not_long : ¬ IsMessageTooLong most (message_limit limit) text
   not_long (inl long) =
       no_long_message long (compared_lines long.front.lines now.said.front.lines text long.ahead ahead
       long.front.begins now.said.front.begins)
@@ -251,7 +253,7 @@ stops_over from text none entry (word ∷ words) line after split (rest, taken, 
 -- at a fault
 module _ {section : ℕ} {first : List ℕ} {Texts : Line → List ℕ → Type 0} (of : IsSection section first Texts)
     {text : List ℕ} {offset : ℕ} (fault : IsFaultyLine first Texts text offset)
-    (small : (entry : Entry) (words : Line) → section_of entry ≡ section → AreWords words fault.rest
+    (small : (entry : EntryLine) (words : Line) → section_of entry ≡ section → AreWords words fault.rest
     → Texts words (data_octets entry) → ¬ (65535 < length (data_octets entry))) where
   unended : (words : Line) (octets : List ℕ) → AreWords words fault.rest → Texts words octets
       → Broken Texts fault.rest fault.after fault.start offset → fault.after ≡ []
@@ -274,7 +276,7 @@ module _ {section : ℕ} {first : List ℕ} {Texts : Line → List ℕ → Type 
 
 -- which isn't that of a record with long data, or is a question
 pub short_line : {section : ℕ} {first : List ℕ} {Texts : Line → List ℕ → Type 0} {text : List ℕ} {offset : ℕ}
-    (fault : IsFaultyLine first Texts text offset) → ¬ IsLongLine first Texts (Some 65535) text → (entry : Entry)
+    (fault : IsFaultyLine first Texts text offset) → ¬ IsLongLine first Texts (Some 65535) text → (entry : EntryLine)
     (words : Line) → section_of entry ≡ section → AreWords words fault.rest → Texts words (data_octets entry)
     → ¬ (65535 < length (data_octets entry))
 short_line fault short entry words here are is late = short (record {
@@ -290,19 +292,19 @@ short_line fault short entry words here are is late = short (record {
   past = late;
 })
 
-pub no_question_data : (entry : Entry) → section_of entry ≡ 0 → ¬ (65535 < length (data_octets entry))
-no_question_data (Entry.question q) here late = omega (arith, late)
+pub no_question_data : (entry : EntryLine) → section_of entry ≡ 0 → ¬ (65535 < length (data_octets entry))
+no_question_data (EntryLine.question q) here late = omega (arith, late)
 no_question_data entry here late = absurd (omega (arith, here))
 
 -- where a record is refused
-pub record_refused : {make : Said → Entry} {section : ℕ} {word : List ℕ} {more : Message → Record → Message}
+pub record_refused : {make : RecordLine → EntryLine} {section : ℕ} {word : List ℕ} {more : Message → Record → Message}
     {count : HeaderCounts → ℕ} (of : PushesRecords make more count section word) {B T : Type 0} {most : ℕ}
     {limit : Option ℕ} {text a : List ℕ} {i number offset : ℕ} {before : Building B T}
     (now : Stage most limit text a i section before)
     → PushedUpTo (IsRecordLine word) (IsSmallRecord (Some 65535)) most (message_limit limit) more a i before
     (λ ahead j after. (number ≡ j) × IsFaultyLine word (IsAnyRecord None) ahead offset
     × ¬ IsLongLine word (IsAnyRecord None) (Some 65535) ahead)
-    → IsLineFault IsAnyText text 1 number offset × ¬ IsTooLong most (message_limit limit) text
+    → IsLineFault IsAnyText text 1 number offset × ¬ IsMessageTooLong most (message_limit limit) text
 record_refused of now stop =
     let there = stage_on of now stop.pushed in
     let fault = stop.is.1 in (

@@ -30,7 +30,7 @@ use Rattle.octseq_dns_text.proofs.SpacedWords.{IsFeedless, feedless_both, words_
 use Rattle.octseq_format.specs.Canonical.{IsSound, many_rest, sound_nested, sound_on, sound_past}
 use Rattle.octseq_format.specs.Fixed.{canonical_fixed}
 use Rattle.octseq_format.specs.Integers.{are_be}
-use Rattle.octseq_dns_compose.specs.MessageShown.{IsTextOf, ShowsWords, said_of}
+use Rattle.octseq_dns_compose.specs.MessageShown.{AreRecordWords, ShowsWords, said_of}
 use Rattle.octseq_dns_compose.specs.QuestionText.{IsQuestionText}
 use Rattle.octseq_dns_compose.specs.RecordText.{IsClassWord, IsNameWord, IsRtypeWord, IsTtlWord}
 
@@ -182,7 +182,7 @@ record_fit w r v sound (u, named, (a, rtype, (b, class, (c, ttl, (has, is, moved
 
 pub record_shown : (w : Window) (r : Record) (v : Window) (rdata : ParsedRdata) → IsSound w → IsRecord w r v
     → IsDataOf r rdata
-    → ShowsWords (IsTextOf (said_of r rdata)) (record_text r rdata)
+    → ShowsWords (AreRecordWords (said_of r rdata)) (record_text r rdata)
 record_shown w r v rdata sound is says =
     let (u, fit) = record_fit w r v sound is in
     let place = at r.rdata.position r.owner.place in

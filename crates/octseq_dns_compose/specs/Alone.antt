@@ -2,12 +2,12 @@
 use Rattle.std.specs.Prelude.{◌≡◌, ℕ, ◌⊎◌, List}
 use Rattle.octseq.specs.Window.{Window, whole}
 use Rattle.octseq_dns_data.specs.Data.{ParsedRdata, IsTypedData}
-use Rattle.octseq_dns_data.specs.PlainName.{IsPlainName}
+use Rattle.octseq_dns_data.specs.UncompressedName.{IsUncompressedName}
 use Rattle.octseq_dns_name.specs.Name.{Name}
 
 -- a name has no pointers
 abbrev pub IsPlain : Name → Type 0
-IsPlain name = (end : Window) × IsPlainName name.place name.labels end
+IsPlain name = (end : Window) × IsUncompressedName name.place name.labels end
 
 -- no name in data has; those of all other types have none anyway
 abbrev pub ArePlain : ParsedRdata → Type 0

@@ -21,12 +21,13 @@ abbrev pub AreFlags : Flags → List (List ℕ) → Type 0
 AreFlags flags words = (flags.z ≡ false) × (words ≡ flag_words flags)
 
 -- a word, and a number of at most `most`
-abbrev pub Field : List ℕ → ℕ → ℕ → (List (List ℕ) → Type 0) → List (List ℕ) → Type 0
-Field name most number Rest = Then (IsGiven name) (Then (IsUpTo most number) Rest)
+abbrev pub HeaderField : List ℕ → ℕ → ℕ → (List (List ℕ) → Type 0) → List (List ℕ) → Type 0
+HeaderField name most number Rest = Then (IsGiven name) (Then (IsUpTo most number) Rest)
 
 -- the identifier, the opcode, the response code, and the flags
 abbrev pub IsHeaderLine : Header → List (List ℕ) → Type 0
-IsHeaderLine h = Field (codes "id") 65535 h.id (Field (codes "opcode") 15 h.opcode (Field (codes "rcode") 15 h.rcode
+IsHeaderLine h = HeaderField (codes "id") 65535 h.id
+    (HeaderField (codes "opcode") 15 h.opcode (HeaderField (codes "rcode") 15 h.rcode
     (Then (IsGiven (codes "flags")) (AreFlags h.flags))))
 
 -- A word and a number are taken; or the first of them that isn't what has to come there is next.

@@ -16,45 +16,45 @@ use Rattle.octseq_dns_compose.specs.TextLines.{AreLines}
 -- ---- what the lines say
 
 -- What the line of a record says: its head, and the octets of its data.
-pub record Said : Type 0 where
+pub record RecordLine : Type 0 where
   pub head : Head
   pub octets : List ℕ
 
 -- What the line of an entry says: a question, or a record of one of the three sections.
-pub data Entry : Type 0 where
-  question : Question → Entry
-  answer : Said → Entry
-  authority : Said → Entry
-  additional : Said → Entry
+pub data EntryLine : Type 0 where
+  question : Question → EntryLine
+  answer : RecordLine → EntryLine
+  authority : RecordLine → EntryLine
+  additional : RecordLine → EntryLine
 
 -- the sections, in their order
-abbrev pub section_of : Entry → ℕ
-section_of (Entry.question q) = 0
-section_of (Entry.answer said) = 1
-section_of (Entry.authority said) = 2
-section_of (Entry.additional said) = 3
+abbrev pub section_of : EntryLine → ℕ
+section_of (EntryLine.question q) = 0
+section_of (EntryLine.answer said) = 1
+section_of (EntryLine.authority said) = 2
+section_of (EntryLine.additional said) = 3
 
 -- the line of a question, and that of a record after the word for its section
 abbrev pub IsQuestionLine : Question → List (List ℕ) → Type 0
 IsQuestionLine q = Then (IsGiven (codes "question")) (IsQuestionText q.labels q.qclass q.qtype)
 
-abbrev pub IsRecordLine : List ℕ → Said → List (List ℕ) → Type 0
+abbrev pub IsRecordLine : List ℕ → RecordLine → List (List ℕ) → Type 0
 IsRecordLine section said = Then (IsGiven section) (λ words. IsRecordText None said.head words said.octets)
 
-abbrev pub IsEntryLine : Entry → List (List ℕ) → Type 0
-IsEntryLine (Entry.question q) = IsQuestionLine q
-IsEntryLine (Entry.answer said) = IsRecordLine (codes "answer") said
-IsEntryLine (Entry.authority said) = IsRecordLine (codes "authority") said
-IsEntryLine (Entry.additional said) = IsRecordLine (codes "additional") said
+abbrev pub IsEntryLine : EntryLine → List (List ℕ) → Type 0
+IsEntryLine (EntryLine.question q) = IsQuestionLine q
+IsEntryLine (EntryLine.answer said) = IsRecordLine (codes "answer") said
+IsEntryLine (EntryLine.authority said) = IsRecordLine (codes "authority") said
+IsEntryLine (EntryLine.additional said) = IsRecordLine (codes "additional") said
 
 -- Lines of entries, none of which is of an earlier section than `from`, or than the entry before it.
-abbrev pub AreEntries : ℕ → List Entry → List (List (List ℕ)) → Type 0
+abbrev pub AreEntries : ℕ → List EntryLine → List (List (List ℕ)) → Type 0
 AreEntries from entries [] = entries ≡ []
-AreEntries from entries (words ∷ lines) = (entry : Entry) × (more : List Entry) × (entries ≡ entry ∷ more)
+AreEntries from entries (words ∷ lines) = (entry : EntryLine) × (more : List EntryLine) × (entries ≡ entry ∷ more)
     × (from ≤ section_of entry) × IsEntryLine entry words × AreEntries (section_of entry) more lines
 
 -- The lines of a message: that of its header, and those of its entries.
-pub record SayEntries (lines : List (List (List ℕ))) (header : Header) (entries : List Entry) : Type 0 where
+pub record SayEntries (lines : List (List (List ℕ))) (header : Header) (entries : List EntryLine) : Type 0 where
   pub first : List (List ℕ)
   pub others : List (List (List ℕ))
   pub lines_are : lines ≡ first ∷ others
@@ -63,13 +63,13 @@ pub record SayEntries (lines : List (List (List ℕ))) (header : Header) (entrie
 
 -- lines of any message
 abbrev pub IsAnyText : List (List (List ℕ)) → Type 0
-IsAnyText lines = (header : Header) × (entries : List Entry) × SayEntries lines header entries
+IsAnyText lines = (header : Header) × (entries : List EntryLine) × SayEntries lines header entries
 
 -- ---- the message
 
 -- The record that a line says: its data is what its octets say by themselves, by its type and its class. In them no
 -- name has a pointer, since they have no message around them.
-pub record IsRecordOf (said : Said) (r : Record) : Type 0 where
+pub record IsRecordOfLine (said : RecordLine) (r : Record) : Type 0 where
   pub parsed : ParsedRdata
   pub says : SaysAlone said.head.rtype said.head.class said.octets parsed
   pub is : r ≡ record {
@@ -81,14 +81,14 @@ pub record IsRecordOf (said : Said) (r : Record) : Type 0 where
   }
 
 -- a message with one more entry
-abbrev pub IsWith : Message → Entry → Message → Type 0
-IsWith m (Entry.question q) more = more ≡ more_questions m q
-IsWith m (Entry.answer said) more = (r : Record) × IsRecordOf said r × (more ≡ more_answers m r)
-IsWith m (Entry.authority said) more = (r : Record) × IsRecordOf said r × (more ≡ more_authorities m r)
-IsWith m (Entry.additional said) more = (r : Record) × IsRecordOf said r × (more ≡ more_additionals m r)
+abbrev pub IsWith : Message → EntryLine → Message → Type 0
+IsWith m (EntryLine.question q) more = more ≡ more_questions m q
+IsWith m (EntryLine.answer said) more = (r : Record) × IsRecordOfLine said r × (more ≡ more_answers m r)
+IsWith m (EntryLine.authority said) more = (r : Record) × IsRecordOfLine said r × (more ≡ more_authorities m r)
+IsWith m (EntryLine.additional said) more = (r : Record) × IsRecordOfLine said r × (more ≡ more_additionals m r)
 
 -- and with one after another
-abbrev pub IsWithAll : Message → List Entry → Message → Type 0
+abbrev pub IsWithAll : Message → List EntryLine → Message → Type 0
 IsWithAll m [] all = all ≡ m
 IsWithAll m (entry ∷ entries) all = (more : Message) × IsWith m entry more × IsWithAll more entries all
 
@@ -98,10 +98,10 @@ headed_message header = record blank_message { header = header }
 
 -- A text is that of a message: its header, and its questions and records, section by section, each on a line of its
 -- own, in their order.
-pub record IsMessageText (text : List ℕ) (m : Message) : Type 0 where
+pub record IsTextOfMessage (text : List ℕ) (m : Message) : Type 0 where
   pub lines : List (List (List ℕ))
   pub header : Header
-  pub entries : List Entry
+  pub entries : List EntryLine
   pub lines_are : AreLines lines text
   pub say : SayEntries lines header entries
   pub message_is : IsWithAll (headed_message header) entries m

@@ -3,9 +3,9 @@ use Rattle.std.specs.Prelude.{◌≡◌, ℕ, ◌+◌, Option, List, length}
 use Rattle.std.specs.List.{AllZip}
 use Rattle.octseq.specs.Limit.{IsWithin}
 use Rattle.octseq_dns.specs.Contents.{Message, Question, Record}
-use Rattle.octseq_dns.specs.Writes.{Building, Writes, all_more}
+use Rattle.octseq_dns.specs.Writes.{Building, ComposesMessage, all_more}
 use Rattle.octseq_dns_message.specs.declared.header.HeaderCounts.{HeaderCounts}
-use Rattle.octseq_dns_compose.specs.MessageText.{IsRecordOf, Said}
+use Rattle.octseq_dns_compose.specs.MessageText.{IsRecordOfLine, RecordLine}
 use Rattle.octseq_dns_compose.specs.TextLines.{BeginsWithLines, TakesLine}
 use Rattle.octseq_dns_compose.specs.TooLong.{Exceeds}
 
@@ -13,11 +13,11 @@ use Rattle.octseq_dns_compose.specs.TooLong.{Exceeds}
 abbrev pub IsAsked : Question → Question → Type 0
 IsAsked said q = q ≡ said
 
-abbrev pub IsSmallRecord : Option ℕ → Said → Record → Type 0
-IsSmallRecord limit said r = IsRecordOf said r × IsWithin limit (length said.octets)
+abbrev pub IsSmallRecord : Option ℕ → RecordLine → Record → Type 0
+IsSmallRecord limit said r = IsRecordOfLine said r × IsWithin limit (length said.octets)
 
 -- Lines were read as values, up to what is ahead. `first` is the number of the first line, `now` of the next.
-pub record HasRead {A : Type 0} (IsText : A → List (List ℕ) → Type 0) (text ahead : List ℕ) (first now : ℕ)
+pub record HasReadLines {A : Type 0} (IsText : A → List (List ℕ) → Type 0) (text ahead : List ℕ) (first now : ℕ)
     (values : List A) : Type 0 where
   pub lines : List (List (List ℕ))
   pub begins : BeginsWithLines lines text ahead
@@ -29,11 +29,11 @@ pub record HasPushed {A R B T : Type 0} (IsText : A → List (List ℕ) → Type
     (limit : Option ℕ) (more : Message → R → Message) (text ahead : List ℕ) (first now : ℕ)
     (before after : Building B T) : Type 0 where
   pub values : List A
-  pub read : HasRead IsText text ahead first now values
+  pub read : HasReadLines IsText text ahead first now values
   pub entries : List R
   pub are : AllZip Is values entries
-  pub written : (m : Message) → Writes most m before.state before.header before.counts
-      → Writes most (all_more more m entries) after.state after.header after.counts
+  pub written : (m : Message) → ComposesMessage most m before.state before.header before.counts
+      → ComposesMessage most (all_more more m entries) after.state after.header after.counts
   pub within : IsWithin limit (length before.state.octets) → IsWithin limit (length after.state.octets)
   pub push_limit : after.push_limit ≡ before.push_limit
 
@@ -58,4 +58,5 @@ pub record ExceedsNext {A R B T : Type 0} (IsText : A → List (List ℕ) → Ty
   pub said : IsText value words
   pub entry : R
   pub is : Is value entry
-  pub exceeds : (m : Message) → Writes most m b.state b.header b.counts → Exceeds most limit count (more m entry)
+  pub exceeds : (m : Message) → ComposesMessage most m b.state b.header b.counts
+      → Exceeds most limit count (more m entry)

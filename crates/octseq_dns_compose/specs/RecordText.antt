@@ -19,12 +19,12 @@ pub record Head : Type 0 where
   pub rtype : ℕ
 
 -- a word spells a name, which is whole, or relative to an origin
-abbrev pub Spells : Option (List (List ℕ)) → List (List ℕ) → List ℕ → Type 0
-Spells None labels word = SpellsName labels word
-Spells (Some origin) labels word = SpellsWithOrigin origin labels word
+abbrev pub SpellsOwner : Option (List (List ℕ)) → List (List ℕ) → List ℕ → Type 0
+SpellsOwner None labels word = SpellsName labels word
+SpellsOwner (Some origin) labels word = SpellsWithOrigin origin labels word
 
 abbrev pub IsNameWord : Option (List (List ℕ)) → List (List ℕ) → List ℕ → Type 0
-IsNameWord origin labels word = AreLabels labels × (wire_length labels ≤ 255) × Spells origin labels word
+IsNameWord origin labels word = AreLabels labels × (wire_length labels ≤ 255) × SpellsOwner origin labels word
 
 -- a TTL has one to ten digits
 abbrev pub IsTtlWord : ℕ → List ℕ → Type 0

@@ -2,11 +2,12 @@
 use Rattle.std.specs.Prelude.{◌≡◌, ℕ, ◌≤◌, Bool, true, false, Option, List, [], ◌∷◌, IfSome, IfNone, IsNone}
 use Rattle.std.specs.Str.Parse.{IsNumeral, digits_value}
 use Rattle.octseq_dns_scan.specs.Word.{TakesWord, AreWords}
-use Rattle.octseq_dns_text.specs.Scans.{IsFault}
+use Rattle.octseq_dns_text.specs.Scans.{IsWordFault}
 
 -- The next word is read, or it isn't what has to come there, and the text stays. `Is value word`: the word is a text of
 -- the value.
-pub record Takes {A : Type 0} (Is : A → List ℕ → Type 0) (result : Option A) (ahead after : List ℕ) : Type 0 where
+pub record TakesNextWord {A : Type 0} (Is : A → List ℕ → Type 0) (result : Option A)
+    (ahead after : List ℕ) : Type 0 where
   pub some : IfSome result (λ value. (word : List ℕ) × TakesWord word ahead after × Is value word)
   pub none : IsNone result → (word rest : List ℕ) (value : A) → TakesWord word ahead rest → ¬ Is value word
   pub kept : IfNone result (after ≡ ahead)
@@ -31,7 +32,7 @@ Then Is Rest (word ∷ words) = Is word × Rest words
 
 -- All words of a text are read, or none go on so from the place `place`. `Is value words`: the words are a text of the
 -- value.
-pub record Reads {A : Type 0} (Is : A → List (List ℕ) → Type 0) (result : Option A) (ahead : List ℕ)
+pub record ReadsAllWords {A : Type 0} (Is : A → List (List ℕ) → Type 0) (result : Option A) (ahead : List ℕ)
     (start place : ℕ) : Type 0 where
   pub some : IfSome result (λ value. (words : List (List ℕ)) × AreWords words ahead × Is value words)
-  pub none : IsNone result → IsFault (λ words octets. (value : A) × Is value words) ahead start place
+  pub none : IsNone result → IsWordFault (λ words octets. (value : A) × Is value words) ahead start place

@@ -1,9 +1,9 @@
 -- The lines of a text, each ended by a line feed (10).
 use Rattle.std.specs.Prelude.{◌≡◌, ◌⊎◌, ℕ, ◌+◌, Option, List, [], ◌∷◌, ◌++◌, length}
 use Rattle.std.specs.List.{AllByRecursion}
-use Rattle.octseq.specs.Limit.{IsPast}
+use Rattle.octseq.specs.Limit.{ExceedsLimit}
 use Rattle.octseq_dns_scan.specs.Word.{AreWords, TakesWord}
-use Rattle.octseq_dns_text.specs.Scans.{IsFault}
+use Rattle.octseq_dns_text.specs.Scans.{IsWordFault}
 use Rattle.octseq_dns_message.specs.declared.header.Header.{Header}
 use Rattle.octseq_dns_compose.specs.HeaderLine.{IsHeaderLine}
 
@@ -32,7 +32,7 @@ BeginsWithLines (words ∷ lines) text rest =
     (after : List ℕ) × TakesLine words text after × BeginsWithLines lines after rest
 
 -- Of what is left of a text, this is the first line, with what follows its octets.
-pub record Splits (text line after : List ℕ) : Type 0 where
+pub record SplitsLines (text line after : List ℕ) : Type 0 where
   pub whole : text ≡ line ++ after
   pub is_line : IsLine line
   pub ends : EndsLine after
@@ -65,7 +65,7 @@ pub record IsLineFault (Is : List (List (List ℕ)) → Type 0) (text : List ℕ
   pub ended : EndsLine after
   pub place : number ≡ first + length front
   -- no text goes on with it, or it has no line feed
-  pub fault : IsFault (IsNextLine Is front) line 0 offset ⊎ IsUnended (IsNextLine Is front) line after 0 offset
+  pub fault : IsWordFault (IsNextLine Is front) line 0 offset ⊎ IsUnended (IsNextLine Is front) line after 0 offset
   -- the text doesn't end before it
   pub ends : line ++ after ≡ [] → ¬ Is front
 
@@ -75,35 +75,35 @@ pub record IsFaultyLine (first : List ℕ) (Is : List (List ℕ) → List ℕ �
     : Type 0 where
   pub line : List ℕ
   pub after : List ℕ
-  pub split : Splits text line after
+  pub split : SplitsLines text line after
   pub rest : List ℕ
   pub start : ℕ
   pub taken : TakesWord first line rest
   pub place : start + length rest ≡ length line
-  pub fault : IsFault Is rest start offset ⊎ IsUnended Is rest after start offset
+  pub fault : IsWordFault Is rest start offset ⊎ IsUnended Is rest after start offset
 
 -- A line begins with a word, and what follows it is a text of more octets than a limit.
 pub record IsLongLine (first : List ℕ) (Is : List (List ℕ) → List ℕ → Type 0) (limit : Option ℕ) (text : List ℕ)
     : Type 0 where
   pub line : List ℕ
   pub after : List ℕ
-  pub split : Splits text line after
+  pub split : SplitsLines text line after
   pub rest : List ℕ
   pub taken : TakesWord first line rest
   pub words : List (List ℕ)
   pub octets : List ℕ
   pub are : AreWords words rest
   pub is : Is words octets
-  pub past : IsPast limit (length octets)
+  pub past : ExceedsLimit limit (length octets)
 
 -- the first line of a text doesn't begin with a word
 abbrev pub IsNoneOf : List ℕ → List ℕ → Type 0
-IsNoneOf first text = (line after rest : List ℕ) → Splits text line after → ¬ TakesWord first line rest
+IsNoneOf first text = (line after rest : List ℕ) → SplitsLines text line after → ¬ TakesWord first line rest
 
 -- The first line of a text is that of no header, or no line feed ends it.
 pub record IsFaultyHeader (text : List ℕ) (offset : ℕ) : Type 0 where
   pub line : List ℕ
   pub after : List ℕ
-  pub split : Splits text line after
-  pub fault : IsFault (λ words octets. (h : Header) × IsHeaderLine h words) line 0 offset
+  pub split : SplitsLines text line after
+  pub fault : IsWordFault (λ words octets. (h : Header) × IsHeaderLine h words) line 0 offset
       ⊎ IsUnended (λ words octets. (h : Header) × IsHeaderLine h words) line after 0 offset

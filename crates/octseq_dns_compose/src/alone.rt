@@ -6,7 +6,7 @@ ghost use Rattle.octseq_dns_name.specs.Read.{name_of};
 ghost use Rattle.octseq_dns_compose.specs.Alone.{ArePlain, IsPlain, SaysAlone};
 
 use octseq::{Parser, Turns};
-use octseq_dns_data::data::{PlainName, data_has_the_records_type, one_reading_of_data};
+use octseq_dns_data::data::{UncompressedName, data_has_the_records_type, one_reading_of_data};
 use octseq_dns_data::{Class, Data, Rtype};
 use octseq_dns_name::ParsedName;
 use octseq_format::Format;
@@ -26,10 +26,10 @@ pub(crate) fn data_of(octets: &[u8], rtype: Rtype, class: Class) -> Data<&[u8]>
 }
 
 /// Whether no name in data has a pointer.
-fn are_plain(data: &Data<&[u8]>) -> bool
-    ensures { IsTrue result ↔ ArePlain (rdata_of data.now) }
+fn are_plain(value: &Data<&[u8]>) -> bool
+    ensures { IsTrue result ↔ ArePlain (rdata_of value.now) }
 {
-    match data {
+    match value {
         Data::Ns(name) => is_plain(name),
         Data::Cname(name) => is_plain(name),
         Data::Ptr(name) => is_plain(name),
@@ -46,5 +46,5 @@ fn is_plain(name: &ParsedName<&[u8]>) -> bool
     ensures { IsTrue result ↔ IsPlain (name_of name.now) }
 {
     let mut parser = name.parser();
-    PlainName::parse_counted(&mut parser, &mut Turns::new()).is_ok()
+    UncompressedName::parse_counted(&mut parser, &mut Turns::new()).is_ok()
 }

@@ -1,7 +1,7 @@
 //! The line of an entry: a question, or a record after the word for its section.
 ghost use Rattle.std.specs.Prelude.{◌≡◌, ◌+◌, ◌<◌, ◌≤◌, ◌∷◌, ℕ, List, None, length, codes, IfOk, IfSome, IfNone};
 ghost use Rattle.std.specs.Prelude.{◌⊎◌, true, IsErrOf};
-ghost use Rattle.octseq.specs.Limit.{IsPast};
+ghost use Rattle.octseq.specs.Limit.{ExceedsLimit};
 ghost use Rattle.octseq_dns_name.specs.Owned.{owned_labels};
 ghost use Rattle.octseq_dns_compose.specs.HeaderLine.{IsHeaderLine};
 ghost use Rattle.octseq_dns_compose.specs.QuestionText.{IsAnyQuestion, IsQuestionText};
@@ -100,6 +100,7 @@ pub(crate) fn next_record<D: OctetsBuilder + Truncate>(
         Err(ScanError::Short) => return Err(ComposeError::Short),
         Err(ScanError::Memory) => return Err(ComposeError::Memory),
     };
+    // What is composed is octets.
     let _within = target.as_ref();
     let Some(rest) = after_feed(line.1) else {
         return Err(lines.malformed(line.0.len()));

@@ -7,7 +7,7 @@ ghost use Rattle.octseq_dns_name.specs.Wire.{AreLabels};
 ghost use Rattle.octseq_dns_scan.specs.Word.{TakesWord};
 ghost use Rattle.octseq_dns_scan.specs.Words.{ahead_of, offset_of};
 ghost use Rattle.octseq_dns_compose.specs.RecordText.{IsClassWord, IsNameWord, IsRtypeWord, IsTtlWord};
-ghost use Rattle.octseq_dns_compose.specs.Take.{Takes};
+ghost use Rattle.octseq_dns_compose.specs.Take.{TakesNextWord};
 ghost use Rattle.octseq_dns_compose.specs.TakeOrder.{TakesOrder};
 
 use crate::numbers::{scan_class, scan_rtype};
@@ -73,6 +73,7 @@ fn checked(name: Name<Array<255>>) -> Name<Array<255>>
 {
     let parsed = name.parsed();
     a_name_has_labels(&parsed);
+    // A name has at most 255 octets.
     let _len = parsed.len();
     name
 }
@@ -100,7 +101,7 @@ pub(crate) fn take_ttl_and_class(words: &mut Words) -> Option<(Ttl, Class)>
 
 /// Takes a TTL.
 fn take_ttl(words: &mut Words) -> Option<Ttl>
-    ensures taken { Takes IsTtlWord result (ahead_of words.old) (ahead_of words.new) }
+    ensures taken { TakesNextWord IsTtlWord result (ahead_of words.old) (ahead_of words.new) }
     ensures end { offset_of words.new + length (ahead_of words.new)
         ≡ offset_of words.old + length (ahead_of words.old) }
 {
@@ -117,7 +118,7 @@ fn take_ttl(words: &mut Words) -> Option<Ttl>
 
 /// Takes a class.
 pub(crate) fn take_class(words: &mut Words) -> Option<Class>
-    ensures taken { Takes IsClassWord result (ahead_of words.old) (ahead_of words.new) }
+    ensures taken { TakesNextWord IsClassWord result (ahead_of words.old) (ahead_of words.new) }
     ensures end { offset_of words.new + length (ahead_of words.new)
         ≡ offset_of words.old + length (ahead_of words.old) }
 {
@@ -134,7 +135,7 @@ pub(crate) fn take_class(words: &mut Words) -> Option<Class>
 
 /// Takes a type.
 pub(crate) fn take_rtype(words: &mut Words) -> Option<Rtype>
-    ensures taken { Takes IsRtypeWord result (ahead_of words.old) (ahead_of words.new) }
+    ensures taken { TakesNextWord IsRtypeWord result (ahead_of words.old) (ahead_of words.new) }
     ensures end { offset_of words.new + length (ahead_of words.new)
         ≡ offset_of words.old + length (ahead_of words.old) }
 {

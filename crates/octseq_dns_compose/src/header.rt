@@ -2,17 +2,17 @@
 ghost use Rattle.std.specs.Prelude.{◌≡◌, ◌+◌, List, ℕ, length};
 ghost use Rattle.octseq_dns_scan.specs.Words.{ahead_of, offset_of};
 ghost use Rattle.octseq_dns_compose.specs.HeaderLine.{AreFlags, IsHeaderLine, Picks, TakesField, flag_names};
-ghost use Rattle.octseq_dns_compose.specs.Take.{Reads};
+ghost use Rattle.octseq_dns_compose.specs.Take.{ReadsAllWords};
 
 use crate::take::{take_number, take_word};
 use octseq_dns_data::{Opcode, Rcode};
 use octseq_dns_message::{Flags, Header};
 use octseq_dns_scan::Words;
 
-/// Reads a header from the words of its line. If they are none, the cursor stays at the first word that isn't what has
-/// to come there.
+/// Reads a header from the words of its line. If they are none, the cursor stays at the first word that isn't
+/// what has to come there.
 pub(crate) fn scan_header(words: &mut Words) -> Option<Header>
-    ensures { Reads IsHeaderLine result (ahead_of words.old) (offset_of words.old) (offset_of words.new) }
+    ensures { ReadsAllWords IsHeaderLine result (ahead_of words.old) (offset_of words.old) (offset_of words.new) }
 {
     let Some(id) = take_field(words, b"id", 65535) else {
         return None;

@@ -13,16 +13,22 @@ ghost use Rattle.octseq_dns_message.specs.MessageText.{record_text};
 ghost use Rattle.octseq_dns_message.specs.RecordData.{IsDataOf};
 ghost use Rattle.octseq_dns_message.specs.declared.header.Header.{Header};
 ghost use Rattle.octseq_format.specs.Canonical.{IsSound};
-ghost use Rattle.octseq_dns_compose.specs.MessageShown.{IsMessageOf, IsTextOf, SaysLines, ShowsMessage, ShowsWords};
+ghost use Rattle.octseq_dns_compose.specs.MessageShown.{
+  IsMessageOfLines,
+  AreRecordWords,
+  SaysLines,
+  ShowsMessage,
+  ShowsWords,
+};
 ghost use Rattle.octseq_dns_compose.specs.MessageShown.{entries_said, header_said, said_of};
-ghost use Rattle.octseq_dns_compose.specs.MessageText.{IsMessageText, Said};
+ghost use Rattle.octseq_dns_compose.specs.MessageText.{IsTextOfMessage, RecordLine};
 ghost use Rattle.octseq_dns_compose.specs.QuestionText.{IsQuestionText};
 
 /// A text is that of one message at most.
 ///
 /// It does nothing. Calling it brings the law into the caller's proof.
 pub fn a_text_is_of_one_message()
-    ensures { (text : List ℕ) (m other : Message) → IsMessageText text m → IsMessageText text other → m ≡ other }
+    ensures { (text : List ℕ) (m other : Message) → IsTextOfMessage text m → IsTextOfMessage text other → m ≡ other }
 {}
 
 /// The text that is shown of a record consists of words that are read back as the record: its owner, its TTL, its class
@@ -31,7 +37,7 @@ pub fn a_text_is_of_one_message()
 /// It does nothing. Calling it brings the law into the caller's proof.
 pub fn records_are_read_as_shown()
     ensures record { (w : Window) (r : Record) (v : Window) (rdata : ParsedRdata) → IsSound w → IsRecord w r v
-        → IsDataOf r rdata → ShowsWords (IsTextOf (said_of r rdata)) (record_text r rdata) }
+        → IsDataOf r rdata → ShowsWords (AreRecordWords (said_of r rdata)) (record_text r rdata) }
     ensures question { (w : Window) (q : Question) (v : Window) → IsSound w → IsQuestion w q v
         → ShowsWords (IsQuestionText q.qname.labels q.qclass q.qtype) (question_text q) }
 {}
@@ -54,9 +60,10 @@ pub fn messages_are_read_as_shown()
 ///
 /// It does nothing. Calling it brings the law into the caller's proof.
 pub fn a_message_is_what_its_lines_say()
-    ensures { (text : List ℕ) (header : Header) (questions : List Asked) (answers authorities additionals : List Said)
+    ensures { (text : List ℕ) (header : Header) (questions : List Asked)
+        (answers authorities additionals : List RecordLine)
         (m : Message) → SaysLines text header (entries_said questions answers authorities additionals)
-        → IsMessageText text m ↔ IsMessageOf header questions answers authorities additionals m }
+        → IsTextOfMessage text m ↔ IsMessageOfLines header questions answers authorities additionals m }
 {}
 
 /// The text that is shown of a message is the text of that message without the reserved bit.
@@ -68,5 +75,5 @@ pub fn a_shown_message_is_composed_again()
         → IsMessage octets header questions answers authorities additionals
         → shown.IsMessageText header questions answers authorities additionals text
         → rewritten.IsMessageOf (header_said header) questions answers authorities additionals m
-        → IsMessageText text m }
+        → IsTextOfMessage text m }
 {}

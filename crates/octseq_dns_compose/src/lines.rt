@@ -3,13 +3,13 @@ ghost use Rattle.std.specs.Prelude.{◌≡◌, ◌+◌, ◌≤◌, ◌<◌, ◌�
 ghost use Rattle.std.specs.Prelude.{slice_index};
 ghost use Rattle.octseq_dns_scan.specs.Word.{TakesWord};
 ghost use Rattle.octseq_dns_scan.specs.Words.{ahead_of, offset_of};
-ghost use Rattle.octseq_dns_compose.specs.TextLines.{EndsLine, IsLine, Splits};
+ghost use Rattle.octseq_dns_compose.specs.TextLines.{EndsLine, IsLine, SplitsLines};
 
 use octseq_dns_scan::Words;
 
-/// Splits a text behind the octets of its first line.
+/// Splits a text after the octets of its first line.
 pub(crate) fn split_line(text: &[u8]) -> (&[u8], &[u8])
-    ensures { Splits text.now result.0.now result.1.now }
+    ensures { SplitsLines text.now result.0.now result.1.now }
 {
     let len = line_len(text);
     (&text[..len], &text[len..])

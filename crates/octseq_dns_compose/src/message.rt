@@ -1,19 +1,19 @@
 //! Messages, composed of their text.
 ghost use Rattle.std.specs.Prelude.{◌≡◌, ◌⊎◌, ℕ, List, None, true, codes, length, IfOk, OnOk, IsErrOf};
-ghost use Rattle.octseq.specs.Limit.{IsPast, IsWithin};
+ghost use Rattle.octseq.specs.Limit.{ExceedsLimit, IsWithin};
 ghost use Rattle.octseq.specs.Refusal.{IsMemory, IsShort, append_error};
 ghost use Rattle.octseq_dns.specs.Blank.{blank_message};
 ghost use Rattle.octseq_dns.specs.Contents.{Message, Record};
-ghost use Rattle.octseq_dns.specs.Writes.{Writes, least_limit, more_questions};
+ghost use Rattle.octseq_dns.specs.Writes.{ComposesMessage, least_limit, more_questions};
 ghost use Rattle.octseq_dns_compress.specs.Composed.{message_limit};
-ghost use Rattle.octseq_dns_compose.specs.MessageText.{IsAnyText, IsMessageText, IsQuestionLine, IsRecordLine};
-ghost use Rattle.octseq_dns_compose.specs.MessageText.{IsRecordOf};
+ghost use Rattle.octseq_dns_compose.specs.MessageText.{IsAnyText, IsTextOfMessage, IsQuestionLine, IsRecordLine};
+ghost use Rattle.octseq_dns_compose.specs.MessageText.{IsRecordOfLine};
 ghost use Rattle.octseq_dns_compose.specs.Progress.{ExceedsNext, HasPushed, IsAsked, IsSmallRecord, PushedUpTo};
 ghost use Rattle.octseq_dns_compose.specs.QuestionText.{IsAnyQuestion};
 ghost use Rattle.octseq_dns_compose.specs.Read.{head_of};
 ghost use Rattle.octseq_dns_compose.specs.RecordText.{IsAnyRecord};
 ghost use Rattle.octseq_dns_compose.specs.TextLines.{IsFaultyLine, IsLineFault, IsLongLine, IsNoneOf};
-ghost use Rattle.octseq_dns_compose.specs.TooLong.{Exceeds, HasListLine, IsListLine, IsTooLong};
+ghost use Rattle.octseq_dns_compose.specs.TooLong.{Exceeds, HasListLine, IsListLine, IsMessageTooLong};
 
 use crate::alone::data_of;
 use crate::entry::{Lines, next_header, next_question, next_record};
@@ -30,7 +30,7 @@ use std::alloc::Global;
 /// It does nothing. Calling it brings the law into the caller's proof.
 pub fn a_refused_text_is_no_message()
     ensures { (text : List ℕ) (first number offset : ℕ) (m : Message)
-        → IsLineFault IsAnyText text first number offset → ¬ IsMessageText text m }
+        → IsLineFault IsAnyText text first number offset → ¬ IsTextOfMessage text m }
 {}
 
 /// Composes the message of a text, in place of what a builder and a table hold. The text has a line for the header, as
@@ -50,15 +50,15 @@ pub fn compose_text<B: OctetsBuilder + Truncate + AsOctetsMut, T: Compressor>(
     octets: B,
     table: T,
 ) -> Result<AdditionalBuilder<B, T>, ComposeError>
-    ensures ok { IfOk result (λ b. (m : Message) × IsMessageText text.now m
-        × Writes T.most m b.state b.header b.counts) }
+    ensures ok { IfOk result (λ b. (m : Message) × IsTextOfMessage text.now m
+        × ComposesMessage T.most m b.state b.header b.counts) }
     ensures within { IfOk result (λ b. IsWithin (message_limit B.limit) (length b.state.octets)) }
     ensures malformed { (place : Place) → IsErrOf result (ComposeError.Malformed place)
         → IsLineFault IsAnyText text.now 1 place.line place.offset }
     ensures first { (place : Place) → IsErrOf result (ComposeError.Malformed place)
-        → ¬ IsTooLong T.most (message_limit B.limit) text.now }
-    ensures not_long { OnOk result (¬ IsTooLong T.most (message_limit B.limit) text.now) }
-    ensures short { IsErrOf result ComposeError.Short → IsTooLong T.most (message_limit B.limit) text.now }
+        → ¬ IsMessageTooLong T.most (message_limit B.limit) text.now }
+    ensures not_long { OnOk result (¬ IsMessageTooLong T.most (message_limit B.limit) text.now) }
+    ensures short { IsErrOf result ComposeError.Short → IsMessageTooLong T.most (message_limit B.limit) text.now }
     ensures memory { IsErrOf result ComposeError.Memory
         → (B.asks ≡ true) ⊎ (T.asks ≡ true) ⊎ HasListLine text.now }
     ensures borrows { IfOk result (λ b. B.borrows b.octets ≡ B.borrows octets) }
@@ -93,11 +93,11 @@ fn started<B: OctetsBuilder + Truncate + AsOctetsMut, T: Compressor>(
     octets: B,
     table: T,
 ) -> Result<MessageBuilder<B, T>, ComposeError>
-    ensures written { IfOk result (λ m. Writes T.most blank_message m.state m.header m.counts) }
+    ensures written { IfOk result (λ m. ComposesMessage T.most blank_message m.state m.header m.counts) }
     ensures within { IfOk result (λ m. IsWithin (message_limit B.limit) (length m.state.octets)) }
     ensures other { (place : Place) → ¬ IsErrOf result (ComposeError.Malformed place) }
     ensures push_limit { IfOk result (λ m. m.push_limit ≡ None) }
-    ensures short { IsErrOf result ComposeError.Short → IsPast B.limit 12 }
+    ensures short { IsErrOf result ComposeError.Short → ExceedsLimit B.limit 12 }
     ensures memory { IsErrOf result ComposeError.Memory → B.asks ≡ true }
     ensures borrows { IfOk result (λ m. B.borrows m.octets ≡ B.borrows octets) }
 {
@@ -200,13 +200,13 @@ fn push_record<B: OctetsBuilder + Truncate + AsOctetsMut, T: Compressor, S: Reco
     octets: &[u8],
 ) -> Result<(), AppendError>
     ensures written { OnOk result ((r : Record)
-        × IsRecordOf (record { head = head_of head.now; octets = octets.now }) r
-        × ((m : Message) → Writes T.most m message.old.state message.old.header message.old.counts
-        → Writes T.most (S.more m r) message.new.state message.new.header message.new.counts)) }
+        × IsRecordOfLine (record { head = head_of head.now; octets = octets.now }) r
+        × ((m : Message) → ComposesMessage T.most m message.old.state message.old.header message.old.counts
+        → ComposesMessage T.most (S.more m r) message.new.state message.new.header message.new.counts)) }
     ensures within { OnOk result (IsWithin (message_limit B.limit) (length message.new.state.octets)) }
     ensures short { IsShort append_error result → (r : Record)
-        × IsRecordOf (record { head = head_of head.now; octets = octets.now }) r
-        × ((m : Message) → Writes T.most m message.old.state message.old.header message.old.counts
+        × IsRecordOfLine (record { head = head_of head.now; octets = octets.now }) r
+        × ((m : Message) → ComposesMessage T.most m message.old.state message.old.header message.old.counts
         → Exceeds T.most (least_limit message.old.push_limit (message_limit B.limit)) S.count (S.more m r)) }
     ensures memory { IsMemory append_error result → (B.asks ≡ true) ⊎ (T.asks ≡ true) }
     ensures push_limit { message.new.push_limit ≡ message.old.push_limit }

@@ -3,7 +3,7 @@ ghost use Rattle.std.specs.Prelude.{ℕ, List, IfSome, IsNone};
 ghost use Rattle.octseq_dns_name.specs.Owned.{owned_labels};
 ghost use Rattle.octseq_dns_scan.specs.Word.{AreWords};
 ghost use Rattle.octseq_dns_scan.specs.Words.{ahead_of, offset_of};
-ghost use Rattle.octseq_dns_text.specs.Scans.{IsFault};
+ghost use Rattle.octseq_dns_text.specs.Scans.{IsWordFault};
 ghost use Rattle.octseq_dns_compose.specs.QuestionText.{IsAnyQuestion, IsQuestionText};
 
 use crate::head::{take_class, take_owner, take_rtype};
@@ -25,7 +25,7 @@ pub(crate) struct QuestionText {
 pub(crate) fn scan_question(words: &mut Words) -> Option<QuestionText>
     ensures some { IfSome result (λ question. (all : List (List ℕ)) × AreWords all (ahead_of words.old)
         × IsQuestionText (owned_labels question.qname) question.qclass question.qtype all) }
-    ensures none { IsNone result → IsFault IsAnyQuestion (ahead_of words.old) (offset_of words.old)
+    ensures none { IsNone result → IsWordFault IsAnyQuestion (ahead_of words.old) (offset_of words.old)
         (offset_of words.new) }
 {
     let Some(qname) = take_owner::<&[u8]>(words, None) else {

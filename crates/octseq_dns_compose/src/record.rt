@@ -1,11 +1,11 @@
 //! Records, read from one line: RFC 1035, 5.1.
 ghost use Rattle.std.specs.Prelude.{◌≡◌, ◌⊎◌, ◌+◌, ◌++◌, ℕ, List, length, option_map, true};
 ghost use Rattle.std.specs.Prelude.{IfOk, IsErrOf, OnErr};
-ghost use Rattle.octseq.specs.Limit.{IsPast};
+ghost use Rattle.octseq.specs.Limit.{ExceedsLimit};
 ghost use Rattle.octseq_dns_name.specs.Read.{labels_of};
 ghost use Rattle.octseq_dns_scan.specs.Word.{AreWords};
 ghost use Rattle.octseq_dns_scan.specs.Words.{ahead_of, offset_of};
-ghost use Rattle.octseq_dns_text.specs.Scans.{IsFault};
+ghost use Rattle.octseq_dns_text.specs.Scans.{IsWordFault};
 ghost use Rattle.octseq_dns_compose.specs.Read.{head_of};
 ghost use Rattle.octseq_dns_compose.specs.RecordText.{BeginsWithList, IsAnyRecord, IsRecordText};
 
@@ -32,7 +32,7 @@ pub struct RecordHead {
 }
 
 /// Reads a record from the words that are left, and appends the octets of its data: its owner, its TTL and its class in
-/// either order, its type, and its data. Names without a full stop at their end have the origin's labels behind their
+/// either order, its type, and its data. Names without a full stop at their end have the origin's labels after their
 /// own; without an origin each name is whole.
 ///
 /// # Errors
@@ -50,12 +50,12 @@ pub fn scan_record<R: AsOctets + Copy, B: OctetsBuilder + Truncate>(
         × IsRecordText (option_map (λ name. labels_of name.now) origin.entry) (head_of head) all octets
         × (B.content target.new ≡ B.content target.old ++ octets)) }
     ensures fault { (offset : ℕ) → IsErrOf result (ScanError.Malformed offset)
-        → IsFault (IsAnyRecord (option_map (λ name. labels_of name.now) origin.entry)) (ahead_of words.entry)
+        → IsWordFault (IsAnyRecord (option_map (λ name. labels_of name.now) origin.entry)) (ahead_of words.entry)
         (offset_of words.entry) offset }
     ensures short { IsErrOf result ScanError.Short → (all : List (List ℕ)) × (octets : List ℕ)
         × AreWords all (ahead_of words.entry)
         × IsAnyRecord (option_map (λ name. labels_of name.now) origin.entry) all octets
-        × IsPast B.limit (length (B.content target.old) + length octets) }
+        × ExceedsLimit B.limit (length (B.content target.old) + length octets) }
     ensures memory { IsErrOf result ScanError.Memory → (B.asks ≡ true)
         ⊎ BeginsWithList (option_map (λ name. labels_of name.now) origin.entry) (ahead_of words.entry) }
     ensures kept { OnErr result (B.content target.new ≡ B.content target.old) }

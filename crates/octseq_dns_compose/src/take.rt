@@ -1,7 +1,7 @@
 //! Words taken from the front of a text.
 ghost use Rattle.std.specs.Prelude.{◌≡◌, ◌+◌, length};
 ghost use Rattle.octseq_dns_scan.specs.Words.{ahead_of, offset_of};
-ghost use Rattle.octseq_dns_compose.specs.Take.{IsTaken, IsUpTo, Takes};
+ghost use Rattle.octseq_dns_compose.specs.Take.{IsTaken, IsUpTo, TakesNextWord};
 
 use octseq_dns_scan::{Words, scan_number};
 
@@ -23,7 +23,7 @@ pub(crate) fn take_word(words: &mut Words, wanted: &[u8]) -> bool
 
 /// Takes a number of at most `max`.
 pub(crate) fn take_number(words: &mut Words, max: u32) -> Option<u32>
-    ensures taken { Takes (IsUpTo max) result (ahead_of words.old) (ahead_of words.new) }
+    ensures taken { TakesNextWord (IsUpTo max) result (ahead_of words.old) (ahead_of words.new) }
     ensures end { offset_of words.new + length (ahead_of words.new)
         ≡ offset_of words.old + length (ahead_of words.old) }
 {

@@ -7,8 +7,9 @@ use Rattle.std.proofs.lemmas.List.{drop-append-le, take-append-le}
 use Rattle.std.specs.Cmp.Lexicographic.{slice_cmp}
 use Rattle.std.specs.Coded.{Coded-set, coded_bool, coded_ℕ, le_prop}
 use Rattle.std.specs.FinMap.{empty, get-empty, len-empty}
-use Rattle.octseq_dns_compress.proofs.Words.{Agrees, label_at, digest_of, key, key_of, key_cmp, IsWhole, AreTargets}
-use Rattle.octseq_dns_compress.proofs.Words.{Known, Names, Place, labels_cmp, Target}
+use Rattle.octseq_dns_compress.proofs.Words.{TableMatches, label_at, digest_of, key, key_of, key_cmp, IsWholeLabel}
+use Rattle.octseq_dns_compress.proofs.Words.{AreTargets}
+use Rattle.octseq_dns_compress.proofs.Words.{NamesOf, Names, Place, labels_cmp, Target}
 use Rattle.octseq_dns_compress.proofs.Keys.{less_reported}
 
 -- two messages have the same label at an offset
@@ -17,7 +18,7 @@ IsAlike old new at = (slice_index_or new at 0 ≡ slice_index_or old at 0) × (l
 
 module _ (old new : List ℕ) (targets : List Target) (long : length old ≤ length new)
     (alike : (i : ℕ) (d : Target) → i < length targets → IsAlike old new (slice_index_or targets i d).at) where
-  whole_alike : (at : ℕ) → IsAlike old new at → IsWhole old at → IsWhole new at
+  whole_alike : (at : ℕ) → IsAlike old new at → IsWholeLabel old at → IsWholeLabel new at
   whole_alike at same whole = omega (arith, same.0, long, whole)
 
   key_alike : (i : ℕ) (d : Target) → i < length targets
@@ -38,7 +39,7 @@ module _ (old new : List ℕ) (targets : List Target) (long : length old ≤ len
   }
 
   -- the targets are those of the same names
-  pub agrees_alike : (names : Names) → Agrees old targets names → Agrees new targets names
+  pub agrees_alike : (names : Names) → TableMatches old targets names → TableMatches new targets names
   agrees_alike names agrees = record {
     targets_are = targets_alike agrees.targets_are;
     count = agrees.count;
@@ -61,7 +62,7 @@ module _ (old new : List ℕ) (targets : List Target) (long : length old ≤ len
     once = agrees.once;
   }
 
-  abbrev pub known_alike : Known old targets → Known new targets
+  abbrev pub known_alike : NamesOf old targets → NamesOf new targets
   known_alike known = (known.0, ∥∥₁_map known.1 (agrees_alike known.0))
 
 -- ---- octets come after others
@@ -70,28 +71,29 @@ module _ (octets more : List ℕ) where
   pub octet_stays : (at : ℕ) → at < length octets → slice_index_or (octets ++ more) at 0 ≡ slice_index_or octets at 0
   octet_stays at within = get_or-append octets more 0 at within
 
-  pub label_stays : (at : ℕ) → IsWhole octets at → label_at (octets ++ more) at ≡ label_at octets at
+  pub label_stays : (at : ℕ) → IsWholeLabel octets at → label_at (octets ++ more) at ≡ label_at octets at
   unfolding label_at
   label_stays at whole =
       let n = 1 + slice_index_or octets at 0 in
       rw (octet_stays at (omega (arith, whole)), drop-append-le at octets more (omega (arith, whole)))
       (take-append-le n (drop at octets) more (omega (arith, whole, length-drop at octets)))
 
-  pub key_stays : (target : Target) → IsWhole octets target.at → key_of (octets ++ more) target ≡ key_of octets target
+  pub key_stays : (target : Target) → IsWholeLabel octets target.at
+      → key_of (octets ++ more) target ≡ key_of octets target
   key_stays target whole = ap (key target.next) (label_stays target.at whole)
 
-  pub alike_stays : (at : ℕ) → IsWhole octets at → IsAlike octets (octets ++ more) at
+  pub alike_stays : (at : ℕ) → IsWholeLabel octets at → IsAlike octets (octets ++ more) at
   alike_stays at whole = (octet_stays at (omega (arith, whole)), label_stays at whole)
 
-  pub agrees_grown : (targets : List Target) (names : Names) → Agrees octets targets names
-      → Agrees (octets ++ more) targets names
+  pub agrees_grown : (targets : List Target) (names : Names) → TableMatches octets targets names
+      → TableMatches (octets ++ more) targets names
   agrees_grown targets names agrees =
       agrees_alike octets (octets ++ more) targets (omega (arith, length-append octets more))
       (λ i d within. alike_stays (slice_index_or targets i d).at (agrees.targets_are.whole i d within)) names agrees
 
 -- ---- targets of known names
 
-module _ (octets : List ℕ) (targets : List Target) (known : Known octets targets) where
+module _ (octets : List ℕ) (targets : List Target) (known : NamesOf octets targets) where
   pub known_targets : AreTargets octets targets
   known_targets = record {
     whole = λ i d within. ∥∥₁_elim known.1 le_prop (λ agrees. agrees.targets_are.whole i d within);
@@ -108,8 +110,8 @@ module _ (octets : List ℕ) (targets : List Target) (known : Known octets targe
 
 -- ---- no names
 
-pub none_agree : (octets : List ℕ) (held : List Target) → held ≡ [] → Agrees octets held empty
-none_agree octets held none = subst (λ t. Agrees octets t empty) (sym none) (record {
+pub none_agree : (octets : List ℕ) (held : List Target) → held ≡ [] → TableMatches octets held empty
+none_agree octets held none = subst (λ t. TableMatches octets t empty) (sym none) (record {
   targets_are = record {
     whole = λ i d less. absurd (omega (arith, less));
     near = λ i d less. absurd (omega (arith, less));
@@ -126,5 +128,5 @@ none_agree octets held none = subst (λ t. Agrees octets t empty) (sym none) (re
 })
 
 -- so there are no names
-abbrev pub none_known : (octets : List ℕ) (held : List Target) → held ≡ [] → Known octets held
+abbrev pub none_known : (octets : List ℕ) (held : List Target) → held ≡ [] → NamesOf octets held
 none_known octets held none = (empty, ∣ none_agree octets held none ∣₁)

@@ -5,11 +5,19 @@ use Rattle.std.proofs.Common.{true≢false, length-drop, insert, filter}
 use Rattle.std.proofs.lemmas.Bool.{lt-leb}
 use Rattle.std.proofs.lemmas.List.Elements.{filter-append}
 use Rattle.std.specs.FinMap.{get, insert as put}
-use Rattle.octseq_dns_compress.proofs.Words.{Agrees, place_of, IsEnding, place_there, digest_of, Names, Place}
-use Rattle.octseq_dns_compress.proofs.Words.{at_or_zero, is_there, is_kept, label_no, last_place, prefixed}
-use Rattle.octseq_dns_compress.proofs.Words.{pointers_from, with_labels, names_with, IsWritten, Ending, Target}
+use Rattle.octseq_dns_compress.proofs.Words.{
+  TableMatches,
+  place_of,
+  IsSuffixMatch,
+  place_there,
+  digest_of,
+  Names,
+  Place,
+}
+use Rattle.octseq_dns_compress.proofs.Words.{at_or_zero, is_there, is_kept, label_no, last_place, prefixed, Target}
+use Rattle.octseq_dns_compress.proofs.Words.{pointers_from, with_labels, names_with, AreLabelsWritten, SuffixMatch}
 use Rattle.octseq_dns_compress.proofs.KeptNames.{absent, kept_from, unkept, with_known, with_one, with_other}
-use Rattle.octseq_dns_compress.proofs.KeptSoFar.{KeptSoFar, place_after, so_far_kept, whole_here, label_here}
+use Rattle.octseq_dns_compress.proofs.KeptSoFar.{KeptSoFar, offset_after, so_far_kept, whole_here, label_here}
 use Rattle.octseq_dns_compress.proofs.PlainLabels.{last_label, one_left}
 
 -- a target that isn't before an offset doesn't count among those that are
@@ -23,30 +31,32 @@ none_before start held position target late =
     (sym (filter-append p front back) ∙ ap (filter p) (take-append-drop position held))
 
 module _ (most : ℕ) {octets : List ℕ} {held : List Target} {names : Names} {labels : List (List ℕ)} {start : ℕ}
-    {ending : Ending} (agrees : Agrees octets held names) (ends : IsEnding octets held names labels ending)
-    (within : ending.written ≤ length labels) (written : IsWritten octets names start labels ending.written) where
+    {ending : SuffixMatch} (agrees : TableMatches octets held names)
+    (ends : IsSuffixMatch octets held names labels ending)
+    (within : ending.written ≤ length labels)
+    (written : AreLabelsWritten octets names start labels ending.written) where
   -- the number of pointers is that of what ends the name
   same_pointers : ending.pointers ≡ pointers_from (last_place names labels)
   same_pointers = ends.ends.pointers_are ∙ ap pointers_from ends.last
 
   -- the names, with those of this name that are kept from a label on
   abbrev now : ℕ → Names
-  now left = with_labels most ending.pointers names (place_after start labels left) (drop left labels)
+  now left = with_labels most ending.pointers names (offset_after start labels left) (drop left labels)
 
   -- at the end, nothing is kept
   now_none : now ending.written ≡ names
-  now_none = with_known most ending.pointers names (place_after start labels ending.written)
+  now_none = with_known most ending.pointers names (offset_after start labels ending.written)
       (drop ending.written labels) ends.ends.there
 
-  agrees_with : (after : List Target) (more : Names) → Agrees octets after more → now zero ≡ more
-      → Agrees octets after (names_with most names start labels)
+  agrees_with : (after : List Target) (more : Names) → TableMatches octets after more → now zero ≡ more
+      → TableMatches octets after (names_with most names start labels)
   agrees_with after more agrees same =
-      let begin : start ≡ place_after start labels zero = omega arith in
+      let begin : start ≡ offset_after start labels zero = omega arith in
       let all = ap (λ n. with_labels most ending.pointers names n labels) begin ∙ same in
       rw (← same_pointers, all) agrees
 
   module _ (left : ℕ) (some : 0 < left) (few_left : left ≤ ending.written) (at : ℕ)
-      (same : at ≡ place_after start labels (left - 1)) where
+      (same : at ≡ offset_after start labels (left - 1)) where
     abbrev label : List ℕ
     label = label_no labels (left - 1)
 
@@ -59,7 +69,7 @@ module _ (most : ℕ) {octets : List ℕ} {held : List Target} {names : Names} {
     here : drop (left - 1) labels ≡ label ∷ rest
     here = one_left labels left some (omega (arith, few_left, within))
 
-    longer : place_after start labels left ≡ at + length (prefixed label)
+    longer : offset_after start labels left ≡ at + length (prefixed label)
     longer = let more = last_label labels left (prefixed label) some (omega (arith, few_left, within)) refl in
         omega (arith, more, same)
 
@@ -73,7 +83,7 @@ module _ (most : ℕ) {octets : List ℕ} {held : List Target} {names : Names} {
 
   -- the place of the label after this many
   abbrev place_of_no : ℕ → Place
-  place_of_no k = record { at = place_after start labels k; pointers = ending.pointers }
+  place_of_no k = record { at = offset_after start labels k; pointers = ending.pointers }
 
   -- if no label is kept from one on, these are all
   stopped : (left : ℕ) → left ≤ ending.written → (more : Names) → now left ≡ more
@@ -82,12 +92,12 @@ module _ (most : ℕ) {octets : List ℕ} {held : List Target} {names : Names} {
   stopped (suc k) few_left more is never =
       let one : k ≡ suc k - 1 = omega arith in
       stopped k (omega (arith, few_left)) more
-      (ap now one ∙ now_is (suc k) (omega arith) few_left _ (ap (place_after start labels) one) false
+      (ap now one ∙ now_is (suc k) (omega arith) few_left _ (ap (offset_after start labels) one) false
       (ap (λ m. is_kept most m (drop (suc k) labels) (place_of_no k)) is ∙ never k (omega arith)) ∙ is)
       (λ j less. never j (omega (arith, less)))
 
   -- there are too many pointers
-  pub kept_none : 126 < ending.pointers → Agrees octets held (names_with most names start labels)
+  pub kept_none : 126 < ending.pointers → TableMatches octets held (names_with most names start labels)
   kept_none many =
       agrees_with held names agrees (stopped ending.written (omega arith) names now_none
       (λ k less. unkept most names (drop (suc k) labels) (place_of_no k)
@@ -125,7 +135,7 @@ module _ (most : ℕ) {octets : List ℕ} {held : List Target} {names : Names} {
 
   module _ {after : List Target} {end older left next position : ℕ}
       (so_far : KeptSoFar octets after (now left) labels start end older left next position)
-      (some : 0 < left) (few_left : left ≤ ending.written) (at : ℕ) (same : at ≡ place_after start labels (left - 1))
+      (some : 0 < left) (few_left : left ≤ ending.written) (at : ℕ) (same : at ≡ offset_after start labels (left - 1))
     where
       abbrev here_place : Place
       here_place = record { at = at; pointers = ending.pointers }
@@ -135,12 +145,12 @@ module _ (most : ℕ) {octets : List ℕ} {held : List Target} {names : Names} {
       still_new k less =
           let fewer = length-drop k labels in
           let none = length-drop left labels in
-          with_other most ending.pointers names (place_after start labels left) (drop left labels) (drop k labels)
+          with_other most ending.pointers names (offset_after start labels left) (drop left labels) (drop k labels)
           (omega (arith, less, fewer, none, few_left, within)) ∙ ends.new k (omega (arith, less, few_left))
 
       -- one more is kept
       pub kept_at : (new : List Target) (digest : ℕ) → digest ≡ digest_of (prefixed (label_no labels (left - 1)))
-          → end ≡ place_after start labels left
+          → end ≡ offset_after start labels left
           → new ≡ insert after position (record { at = at; next = next; pointers = ending.pointers; digest = digest })
           → at ≤ 16383
           → ending.pointers ≤ 126 → ¬ (most ≤ length after)
@@ -161,7 +171,7 @@ module _ (most : ℕ) {octets : List ℕ} {held : List Target} {names : Names} {
 
       -- if no more are kept, these are all
       kept_stopped : is_kept most (now left) (drop left labels) here_place ≡ false
-          → Agrees octets after (names_with most names start labels)
+          → TableMatches octets after (names_with most names start labels)
       kept_stopped stops =
           agrees_with after (now left) so_far.agrees
           (stopped (left - 1) (omega (arith, few_left)) (now left) (now_is left some few_left at same false stops)
@@ -170,12 +180,12 @@ module _ (most : ℕ) {octets : List ℕ} {held : List Target} {names : Names} {
           true≢false (sym there ∙ absent (now left) (drop (suc k) labels) (omega (arith, long, less, few_left, within))
           (still_new (suc k) (omega (arith, less)))))))
 
-      pub kept_far : 16383 < at → Agrees octets after (names_with most names start labels)
+      pub kept_far : 16383 < at → TableMatches octets after (names_with most names start labels)
       kept_far far =
           kept_stopped (unkept most (now left) (drop left labels) here_place
           (λ near few room there. omega (arith, far, near)))
 
-      pub kept_full : most ≤ length after → Agrees octets after (names_with most names start labels)
+      pub kept_full : most ≤ length after → TableMatches octets after (names_with most names start labels)
       kept_full full =
           let count = so_far.agrees.count in
           kept_stopped
@@ -185,5 +195,5 @@ module _ (most : ℕ) {octets : List ℕ} {held : List Target} {names : Names} {
   -- all are kept
   pub kept_all : {after : List Target} {end older left next position : ℕ}
       → KeptSoFar octets after (now left) labels start end older left next position → left ≡ 0
-      → Agrees octets after (names_with most names start labels)
+      → TableMatches octets after (names_with most names start labels)
   kept_all {after = after} {left = left} so_far none = agrees_with after (now left) so_far.agrees (ap now (sym none))

@@ -11,44 +11,45 @@ use Rattle.std.specs.Cmp.Lexicographic.{slice_cmp}
 use Rattle.std.specs.FinMap.{get, insert as put}
 use Rattle.std.specs.Ordering.{ordering_then}
 use Rattle.std.specs.declared.cmp.Ordering.{Ordering}
-use Rattle.octseq_dns_compress.proofs.Words.{Agrees, place_of, get_new, put_cases, label_at, digest_of, with_digest}
-use Rattle.octseq_dns_compress.proofs.Words.{key, key_cmp, IsWhole, IsPosition, Names, Place, is_there, label_no}
-use Rattle.octseq_dns_compress.proofs.Words.{prefixed, unrooted, IsWritten, Target}
+use Rattle.octseq_dns_compress.proofs.Words.{TableMatches, place_of, get_new, put_cases, label_at, digest_of}
+use Rattle.octseq_dns_compress.proofs.Words.{with_digest}
+use Rattle.octseq_dns_compress.proofs.Words.{key, key_cmp, IsWholeLabel, IsPosition, Names, Place, is_there, label_no}
+use Rattle.octseq_dns_compress.proofs.Words.{prefixed, labels_wire, AreLabelsWritten, Target}
 use Rattle.octseq_dns_compress.proofs.MoreNames.{all_insert, MayBeKept, agrees_added}
 use Rattle.octseq_dns_compress.proofs.PlainLabels.{front_and_rest, whole_there, label_there, one_left}
 
 -- the offset of the label after this many
-abbrev pub place_after : ℕ → List (List ℕ) → ℕ → ℕ
-place_after start labels count = start + length (unrooted (take count labels))
+abbrev pub offset_after : ℕ → List (List ℕ) → ℕ → ℕ
+offset_after start labels count = start + length (labels_wire (take count labels))
 
 -- ---- a label in the octets
 
 module _ {octets : List ℕ} {names : Names} {start : ℕ} {labels : List (List ℕ)} {written : ℕ}
-    (is : IsWritten octets names start labels written) (v : ℕ) (less : v < written) (within : written ≤ length labels)
-    (at : ℕ) (same : at ≡ place_after start labels v) where
+    (is : AreLabelsWritten octets names start labels written) (v : ℕ) (less : v < written)
+    (within : written ≤ length labels) (at : ℕ) (same : at ≡ offset_after start labels v) where
   abbrev front : List ℕ
-  front = is.front ++ unrooted (take v labels)
+  front = is.front ++ labels_wire (take v labels)
 
   abbrev back : List ℕ
-  back = unrooted (drop (v + 1) (take written labels)) ++ is.back
+  back = labels_wire (drop (v + 1) (take written labels)) ++ is.back
 
   split_here : octets ≡ front ++ (prefixed (label_no labels v) ++ back)
   split_here =
       let first = take written labels in
-      let a = unrooted (take v labels) in
+      let a = labels_wire (take v labels) in
       let b = prefixed (label_no labels v) in
-      let c = unrooted (drop (v + 1) first) in
+      let c = labels_wire (drop (v + 1) first) in
       let here = drop_more first v [] (omega (arith, less, within, length-take written labels)) in
-      let parts : unrooted first ≡ a ++ (b ++ c) =
+      let parts : labels_wire first ≡ a ++ (b ++ c) =
       front_and_rest v first
       ∙ rw (take-take v written labels (omega (arith, less)), here, get_or-take written labels v [] less) in
       is.octets_are ∙ ap (λ o. is.front ++ (o ++ is.back)) parts ∙ simp append_assoc
 
   at_is : at ≡ length front
   at_is =
-      omega (arith, length-append is.front (unrooted (take v labels)), is.start_is, same)
+      omega (arith, length-append is.front (labels_wire (take v labels)), is.start_is, same)
 
-  pub whole_here : IsWhole octets at
+  pub whole_here : IsWholeLabel octets at
   whole_here = whole_there octets front (label_no labels v) back at split_here at_is
 
   pub label_here : label_at octets at ≡ prefixed (label_no labels v)
@@ -99,7 +100,7 @@ later_position octets held start older next label late is = record {
 -- kept, except the first one kept.
 pub record KeptSoFar (octets : List ℕ) (held : List Target) (now : Names) (labels : List (List ℕ))
     (start end older left next position : ℕ) : Type 0 where
-  pub agrees : Agrees octets held now
+  pub agrees : TableMatches octets held now
   pub there : IsTrue (is_there now (drop left labels))
   pub next_is : next ≡ place_of now (drop left labels)
   pub apart : (others : List (List ℕ)) (place : Place) → get now others ≡ Some place → start ≤ place.at → end ≤ place.at
@@ -111,7 +112,7 @@ module _ {octets : List ℕ} {held : List Target} {now : Names} {labels : List (
     {start end older left next position : ℕ} (at pointers : ℕ)
     (so_far : KeptSoFar octets held now labels start end older left next position)
     (some : 0 < left) (inside : left ≤ length labels) (new : get now (drop (left - 1) labels) ≡ None)
-    (label_is : label_at octets at ≡ prefixed (label_no labels (left - 1))) (whole : IsWhole octets at)
+    (label_is : label_at octets at ≡ prefixed (label_no labels (left - 1))) (whole : IsWholeLabel octets at)
     (longer : end ≡ at + length (prefixed (label_no labels (left - 1)))) (after_header : 12 ≤ start) (late : start ≤ at)
     (near : at ≤ 16383) (few : pointers ≤ 126) where
   abbrev label : List ℕ
@@ -142,7 +143,7 @@ module _ {octets : List ℕ} {held : List Target} {now : Names} {labels : List (
         let far = so_far.apart others other found (omega (arith, same, late)) in omega (arith, far, same, longer);
   }
 
-  agrees_kept : Agrees octets (insert held position target) (put now (label ∷ rest) place)
+  agrees_kept : TableMatches octets (insert held position target) (put now (label ∷ rest) place)
   agrees_kept =
       rw so_far.next_is (agrees_added octets held now so_far.agrees label rest place may position
       (rw so_far.next_is at so_far.here some))

@@ -7,7 +7,8 @@ use Rattle.std.proofs.lemmas.List.Elements.{All-cons, All-head, All-nil, All-tai
 use Rattle.std.specs.FinMap.{empty}
 use Rattle.octseq.specs.Appends.{Appends}
 use Rattle.octseq.specs.declared.AppendError.{AppendError}
-use Rattle.octseq_dns_compress.proofs.Words.{IsApart, AreApart, before, Known, Message, IsSound, state_of, message_once}
+use Rattle.octseq_dns_compress.proofs.Words.{IsApart, AreTargetsApart, before, NamesOf, MessageWithTargets}
+use Rattle.octseq_dns_compress.proofs.Words.{message_once, state_of, IsSoundMessage}
 use Rattle.octseq_dns_compress.proofs.Words.{Target}
 use Rattle.octseq_dns_compress.proofs.Grown.{known_targets, none_known, IsAlike, alike_stays, known_alike, octet_stays}
 use Rattle.octseq_dns_compress.proofs.Fields.{one_state}
@@ -44,7 +45,7 @@ filtered place (target ∷ targets) each =
     grind (arith, tests, more, All-head (λ t. t.at < place) target targets each)
 
 -- as all are before the end
-pub before_all : {octets : List ℕ} {targets : List Target} → Known octets targets
+pub before_all : {octets : List ℕ} {targets : List Target} → NamesOf octets targets
     → before (length octets) targets ≡ targets
 before_all {octets = octets} {targets = targets} known =
     filtered (length octets) targets (λ i d less.
@@ -57,12 +58,12 @@ none_first (target ∷ targets) = grind (arith, tests, none_first targets)
 
 -- ---- labels apart from the two octets before data
 
-pub none_apart : (octets : List ℕ) (targets : List Target) → AreApart octets 0 targets
+pub none_apart : (octets : List ℕ) (targets : List Target) → AreTargetsApart octets 0 targets
 none_apart octets targets i d within near = absurd (omega (arith, near))
 
 -- labels are still apart after octets and targets are added
 kept_apart : (octets new : List ℕ) (held kept : List Target) (place : ℕ) → Grows octets new → place ≤ length octets
-    → before (length octets) kept ≡ held → AreApart octets place held → AreApart new place kept
+    → before (length octets) kept ≡ held → AreTargetsApart octets place held → AreTargetsApart new place kept
 kept_apart octets new held kept place grows within same are =
     all_by_before (length octets) (IsApart new place) (λ t past near. absurd (omega (arith, past, near, within))) kept
     (subst (All (IsApart new place)) (sym same) (All-weaker (IsApart octets place) (IsApart new place) grown held are))
@@ -74,8 +75,8 @@ kept_apart octets new held kept place grows within same are =
         omega (arith, apart near, same)
 
 -- whole labels are apart from two octets that are appended after them
-pub data_apart : {octets new : List ℕ} {targets : List Target} (more : List ℕ) (place : ℕ) → Known octets targets
-    → new ≡ octets ++ more → place ≡ length octets + 2 → AreApart new place targets
+pub data_apart : {octets new : List ℕ} {targets : List Target} (more : List ℕ) (place : ℕ) → NamesOf octets targets
+    → new ≡ octets ++ more → place ≡ length octets + 2 → AreTargetsApart new place targets
 data_apart {octets = octets} {new = new} {targets = targets} more place known grown end i d within near =
     let target = slice_index_or targets i d in
     let whole = (known_targets octets targets known).whole i d within in
@@ -86,18 +87,19 @@ data_apart {octets = octets} {new = new} {targets = targets} more place known gr
 -- ---- messages
 
 -- equal octets and targets have the same names
-abbrev pub known_same : {old new : List ℕ} {held kept : List Target} → new ≡ old → kept ≡ held → Known old held
-    → Known new kept
+abbrev pub known_same : {old new : List ℕ} {held kept : List Target} → new ≡ old → kept ≡ held → NamesOf old held
+    → NamesOf new kept
 known_same same alike known = (known.0, rw (same, alike) known.1)
 
 -- of equal octets, two messages with the same targets have the same state
-pub state_is : {most : ℕ} {octets new : List ℕ} {held : List Target} (now made : Message most new held) → new ≡ octets
-    → state_of now ≡ record { octets = octets; names = made.known.0 }
+pub state_is : {most : ℕ} {octets new : List ℕ} {held : List Target} (now made : MessageWithTargets most new held)
+    → new ≡ octets → state_of now ≡ record { octets = octets; names = made.known.0 }
 state_is {most = most} {new = new} {held = held} now made same =
     ap state_of (message_once most new held now made) ∙ one_state same refl
 
-module _ {most : ℕ} {octets : List ℕ} {held : List Target} (was : Message most octets held) where
-  abbrev pub message_same : {new : List ℕ} {kept : List Target} → new ≡ octets → kept ≡ held → Message most new kept
+module _ {most : ℕ} {octets : List ℕ} {held : List Target} (was : MessageWithTargets most octets held) where
+  abbrev pub message_same : {new : List ℕ} {kept : List Target} → new ≡ octets → kept ≡ held
+      → MessageWithTargets most new kept
   message_same same alike = record {
     known = known_same same alike was.known;
     few = subst (λ t. length t ≤ most) (sym alike) was.few;
@@ -105,13 +107,13 @@ module _ {most : ℕ} {octets : List ℕ} {held : List Target} (was : Message mo
     short = subst (λ o. length o ≤ 65535) (sym same) was.short;
   }
 
-  pub state_same : {new : List ℕ} {kept : List Target} (now : Message most new kept) → new ≡ octets → kept ≡ held
-      → state_of now ≡ state_of was
+  pub state_same : {new : List ℕ} {kept : List Target} (now : MessageWithTargets most new kept) → new ≡ octets
+      → kept ≡ held → state_of now ≡ state_of was
   state_same now same alike = state_is now (message_same same alike) same
 
   -- the names stay if the labels do
   abbrev pub message_alike : (new : List ℕ) → length octets ≤ length new → length new ≤ 65535
-      → All (λ t. IsAlike octets new t.at) held → Message most new held
+      → All (λ t. IsAlike octets new t.at) held → MessageWithTargets most new held
   message_alike new longer short alike = record {
     known = known_alike octets new held longer alike was.known;
     few = was.few;
@@ -126,12 +128,12 @@ module _ {most : ℕ} {octets : List ℕ} {held : List Target} (was : Message mo
       subst (λ o. IsAlike octets o at) (sym grows.1)
       (alike_stays octets grows.0 at ((known_targets octets held was.known).whole i d within))
 
-  abbrev pub message_grown : {new : List ℕ} → Grows octets new → length new ≤ 65535 → Message most new held
+  abbrev pub message_grown : {new : List ℕ} → Grows octets new → length new ≤ 65535 → MessageWithTargets most new held
   message_grown {new = new} grows short = message_alike new (grown_length octets new grows) short (stay grows)
 
 -- nothing but a header of zeros
 abbrev none_there : {most : ℕ} {octets : List ℕ} {held : List Target} → held ≡ [] → length octets ≡ 12
-    → Message most octets held
+    → MessageWithTargets most octets held
 none_there {octets = octets} {held = held} none twelve =
     record {
       known = none_known octets held none;
@@ -141,13 +143,13 @@ none_there {octets = octets} {held = held} none twelve =
     }
 
 pub state_none : {most : ℕ} {octets : List ℕ} {held : List Target} → held ≡ [] → octets ≡ replicate 12 0
-    → (now : Message most octets held) → state_of now ≡ record { octets = replicate 12 0; names = empty }
+    → (now : MessageWithTargets most octets held) → state_of now ≡ record { octets = replicate 12 0; names = empty }
 state_none none is now = state_is now (none_there none (ap length is)) is
 
 -- ---- messages with an entry and data
 
 pub sound_none : {most : ℕ} {octets : List ℕ} {held : List Target} → held ≡ [] → octets ≡ replicate 12 0
-    → IsSound most octets held 12 0
+    → IsSoundMessage most octets held 12 0
 sound_none {octets = octets} {held = held} none is =
     let long = ap length is in
     record {
@@ -159,10 +161,10 @@ sound_none {octets = octets} {held = held} none is =
     }
 
 module _ {most : ℕ} {octets : List ℕ} {held : List Target} {entry_start data_start : ℕ}
-    (was : IsSound most octets held entry_start data_start) where
+    (was : IsSoundMessage most octets held entry_start data_start) where
   -- data begins elsewhere
-  pub sound_from : (place : ℕ) → place ≤ length octets → AreApart octets place held
-      → IsSound most octets held entry_start place
+  pub sound_from : (place : ℕ) → place ≤ length octets → AreTargetsApart octets place held
+      → IsSoundMessage most octets held entry_start place
   sound_from place within apart = record {
     now = was.now;
     begun = was.begun;
@@ -182,7 +184,7 @@ module _ {most : ℕ} {octets : List ℕ} {held : List Target} {entry_start data
   module _ {new : List ℕ} {kept : List Target} (grows : Grows octets new)
       (same : before (length octets) kept ≡ held) where
     -- octets and targets are added
-    pub sound_grown : Message most new kept → IsSound most new kept entry_start data_start
+    pub sound_grown : MessageWithTargets most new kept → IsSoundMessage most new kept entry_start data_start
     sound_grown now =
         let long = grown_length octets new grows in
         let data_within = was.data_within in
@@ -194,14 +196,14 @@ module _ {most : ℕ} {octets : List ℕ} {held : List Target} {entry_start data
           apart = kept_apart octets new held kept data_start grows data_within same was.apart;
         }
 
-    pub begun_grown : {place : ℕ} (is : IsSound most new kept entry_start place)
+    pub begun_grown : {place : ℕ} (is : IsSoundMessage most new kept entry_start place)
         → state_of is.begun ≡ state_of was.begun
     begun_grown is = state_same was.begun is.begun (entry_stays grows) (held_stays kept same)
 
   -- octets are appended
   pub sound_appended : {limit : Option ℕ} {asks : Bool} {more new : List ℕ} (result : Result (Unit {0}) AppendError)
       → Appends limit asks result more octets new → length new ≤ 65535
-      → IsSound most new held entry_start data_start
+      → IsSoundMessage most new held entry_start data_start
   sound_appended result appends short =
       let grows = appended_grows result appends in
       sound_grown grows (before_all was.now.known) (message_grown was.now grows short)
@@ -214,7 +216,7 @@ module _ {most : ℕ} {octets : List ℕ} {held : List Target} {entry_start data
     pub all_held : before end held ≡ held
     all_held = ap (λ n. before n held) is ∙ before_all was.now.known
 
-    pub sound_begun : IsSound most octets held end 0
+    pub sound_begun : IsSoundMessage most octets held end 0
     sound_begun = record {
       now = was.now;
       begun = message_same was.now all_begun all_held;
@@ -232,7 +234,7 @@ module _ {most : ℕ} {octets : List ℕ} {held : List Target} {entry_start data
   still_held alike = ap (before entry_start) alike ∙ before_twice entry_start entry_start (omega arith) held
 
   pub sound_cut : {new : List ℕ} {kept : List Target} → new ≡ take entry_start octets → kept ≡ before entry_start held
-      → IsSound most new kept entry_start 0
+      → IsSoundMessage most new kept entry_start 0
   sound_cut {new = new} {kept = kept} same alike = record {
     now = message_same was.begun same alike;
     begun = message_same was.begun (still_begun same) (still_held alike);

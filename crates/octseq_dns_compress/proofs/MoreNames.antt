@@ -9,8 +9,9 @@ use Rattle.std.proofs.lemmas.List.Elements.{All-append, All-cons, All-drop, All-
 use Rattle.std.proofs.lemmas.List.Kept.{AllPairs-cons}
 use Rattle.std.specs.Ordering.{ordering_reverse}
 use Rattle.std.specs.declared.cmp.Ordering.{Ordering}
-use Rattle.octseq_dns_compress.proofs.Words.{label_at, digest_of, key_of, key_cmp, IsWhole, AreTargets, IsPosition}
-use Rattle.octseq_dns_compress.proofs.Words.{HasNoKey, key, Target, Agrees, IsOfName, HasTarget, place_of, target_of}
+use Rattle.octseq_dns_compress.proofs.Words.{label_at, digest_of, key_of, key_cmp, IsWholeLabel, AreTargets, IsPosition}
+use Rattle.octseq_dns_compress.proofs.Words.{HasNoKey, key, Target, TableMatches, IsOfName, HasTarget, place_of}
+use Rattle.octseq_dns_compress.proofs.Words.{target_of}
 use Rattle.octseq_dns_compress.proofs.Words.{labels_total, get_new, get_other, alike_there, some_or_none, place_there}
 use Rattle.octseq_dns_compress.proofs.Words.{put_cases, name_key, found, Names, Place, at_or_zero, is_there, prefixed}
 use Rattle.octseq_dns_compress.proofs.Keys.{key_there}
@@ -63,7 +64,7 @@ still_in targets position target index within inside = by (dec_le position index
   )
 
 module _ (octets : List ℕ) (targets : List Target) (target : Target) (position : ℕ)
-    (are : AreTargets octets targets) (whole : IsWhole octets target.at) (near : target.at ≤ 16383)
+    (are : AreTargets octets targets) (whole : IsWholeLabel octets target.at) (near : target.at ≤ 16383)
     (digested : target.digest ≡ digest_of (label_at octets target.at)) (few : target.pointers ≤ 126)
     (is : IsPosition octets targets (key_of octets target) position)
     (none : HasNoKey octets targets (key_of octets target)) where
@@ -79,7 +80,7 @@ module _ (octets : List ℕ) (targets : List Target) (target : Target) (position
 
   pub targets_added : AreTargets octets (insert targets position target)
   targets_added = record {
-    whole = all_insert (λ t. IsWhole octets t.at) position targets target are.whole whole;
+    whole = all_insert (λ t. IsWholeLabel octets t.at) position targets target are.whole whole;
     near = all_insert (λ t. t.at ≤ 16383) position targets target are.near near;
     digested = all_insert (λ t. t.digest ≡ digest_of (label_at octets t.at)) position targets target are.digested
         digested;
@@ -97,13 +98,13 @@ pub record MayBeKept (octets : List ℕ) (names : Names) (label : List ℕ) (res
   pub new : get names (label ∷ rest) ≡ None
   pub more : IsTrue (is_there names rest)
   pub label_is : label_at octets place.at ≡ length label ∷ label
-  pub whole : IsWhole octets place.at
+  pub whole : IsWholeLabel octets place.at
   pub after_header : 12 ≤ place.at
   pub near : place.at ≤ 16383
   pub few : place.pointers ≤ 126
   pub fresh : (labels : List (List ℕ)) (other : Place) → get names labels ≡ Some other → ¬ (other.at ≡ place.at)
 
-module _ (octets : List ℕ) (targets : List Target) (names : Names) (agrees : Agrees octets targets names)
+module _ (octets : List ℕ) (targets : List Target) (names : Names) (agrees : TableMatches octets targets names)
     (label : List ℕ) (rest : List (List ℕ)) (place : Place) (may : MayBeKept octets names label rest place) where
   abbrev all_names : Names
   all_names = put names (label ∷ rest) place
@@ -211,7 +212,7 @@ module _ (octets : List ℕ) (targets : List Target) (names : Names) (agrees : A
         by_name (inr found) (inl other) = absurd (may.fresh labels p found (at ∙ ap (λ x. x.at) other.1))
         by_name (inr one) (inr other) = agrees.once labels others p o one other at
 
-    pub agrees_added : Agrees octets (insert targets position (target_of names label rest place))
+    pub agrees_added : TableMatches octets (insert targets position (target_of names label rest place))
         (put names (label ∷ rest) place)
     agrees_added = record {
       targets_are = targets_added octets targets target position agrees.targets_are may.whole may.near

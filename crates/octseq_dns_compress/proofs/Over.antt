@@ -7,8 +7,8 @@ use Rattle.std.proofs.lemmas.List.{take-append-le, drop-take}
 use Rattle.std.proofs.lemmas.Slice.{drop-append-drop}
 use Rattle.std.proofs.Math.Logic.{∥∥₁_elim}
 use Rattle.std.specs.Coded.{le_prop}
-use Rattle.octseq_dns_compress.proofs.Words.{before, Composed, label_at, IsWhole, Target, Message, IsSound, composed}
-use Rattle.octseq_dns_compress.proofs.Words.{state_of, with_header}
+use Rattle.octseq_dns_compress.proofs.Words.{before, Composed, label_at, IsWholeLabel, Target, MessageWithTargets}
+use Rattle.octseq_dns_compress.proofs.Words.{composed, state_of, with_header, IsSoundMessage}
 use Rattle.octseq_dns_compress.proofs.Grown.{IsAlike, alike_stays, octet_stays}
 use Rattle.octseq_dns_compress.proofs.Messages.{message_alike, message_same, none_apart, sound_from, state_is}
 
@@ -53,14 +53,14 @@ module _ (octets put : List ℕ) (at : ℕ) (room : at + length put ≤ length o
       let apart : first ++ drop at octets ≡ octets = take-append-drop at octets in
       let octet = ap (λ o. slice_index_or o place 0) (sym apart)
       ∙ octet_stays first (drop at octets) place (omega (arith, before, front, room)) in
-      let whole : IsWhole first place = omega (arith, before, front, room, octet) in
+      let whole : IsWholeLabel first place = omega (arith, before, front, room, octet) in
       let old = rw apart at (alike_stays first (drop at octets) place whole) in
       let new = alike_stays first (put ++ drop (at + length put) octets) place whole in
       (new.0 ∙ sym old.0, new.1 ∙ sym old.1)
   over_alike place (inr after) = alike_back octets (put_over octets at put) place (over_drop place after)
 
 -- a message some of whose octets are overwritten, clear of the labels
-module _ {most : ℕ} {octets new : List ℕ} {held : List Target} (was : Message most octets held) (at : ℕ)
+module _ {most : ℕ} {octets new : List ℕ} {held : List Target} (was : MessageWithTargets most octets held) (at : ℕ)
     (put : List ℕ) (room : at + length put ≤ length octets) (new_is : new ≡ put_over octets at put)
     (clear : All (λ t. IsClear octets at (at + length put) t.at) held) where
   over_long : length new ≡ length octets
@@ -71,14 +71,15 @@ module _ {most : ℕ} {octets new : List ℕ} {held : List Target} (was : Messag
       let place = (slice_index_or held i d).at in
       rw new_is (over_alike octets put at room place (clear i d within))
 
-  abbrev message_over : Message most new held
+  abbrev message_over : MessageWithTargets most new held
   message_over =
       let long = over_long in
       message_alike was new (omega (arith, long)) (omega (arith, long, was.short)) stay_alike
 
   -- and so is what holds of it with an entry and data, if the part before the entry still is a message
-  sound_over : {entry_start data_start : ℕ} → IsSound most octets held entry_start data_start
-      → Message most (take entry_start new) (before entry_start held) → IsSound most new held entry_start data_start
+  sound_over : {entry_start data_start : ℕ} → IsSoundMessage most octets held entry_start data_start
+      → MessageWithTargets most (take entry_start new) (before entry_start held)
+      → IsSoundMessage most new held entry_start data_start
   sound_over sound begun =
       let long = over_long in
       let within = sound.within in
@@ -103,8 +104,8 @@ take_headed octets header start late =
     let both : start ≡ n + more = omega (arith, late) in
     rw (zero, both, take-append-add header (drop n octets) more, drop-take n more octets)
 
-module _ {most : ℕ} {octets new : List ℕ} {held : List Target} (was : Message most octets held) (header : List ℕ)
-    (twelve : length header ≡ 12) (new_is : new ≡ put_over octets 0 header) where
+module _ {most : ℕ} {octets new : List ℕ} {held : List Target} (was : MessageWithTargets most octets held)
+    (header : List ℕ) (twelve : length header ≡ 12) (new_is : new ≡ put_over octets 0 header) where
   room : 0 + length header ≤ length octets
   room = omega (arith, was.headed, twelve)
 
@@ -117,16 +118,16 @@ module _ {most : ℕ} {octets new : List ℕ} {held : List Target} (was : Messag
       omega (arith, (agrees.all is.label is.rest is.place is.there).after_header, ap (λ t. t.at) is.target_is)) in
       inr (omega (arith, after, twelve))
 
-  abbrev message_headed : Message most new held
+  abbrev message_headed : MessageWithTargets most new held
   message_headed = message_over was 0 header room new_is clear
 
-  pub state_headed : (now : Message most new held) → state_of now ≡ with_header (state_of was) header
+  pub state_headed : (now : MessageWithTargets most new held) → state_of now ≡ with_header (state_of was) header
   state_headed now =
       let end : 0 + length header ≡ 12 = omega (arith, twelve) in
       state_is now message_headed (new_is ∙ ap (λ n. header ++ drop n octets) end)
 
 module _ {most : ℕ} {octets new : List ℕ} {held : List Target} {entry_start data_start : ℕ}
-    (was : IsSound most octets held entry_start data_start) (header : List ℕ) (twelve : length header ≡ 12)
+    (was : IsSoundMessage most octets held entry_start data_start) (header : List ℕ) (twelve : length header ≡ 12)
     (new_is : new ≡ put_over octets 0 header) where
   pub begun_headed : take entry_start new ≡ put_over (take entry_start octets) 0 header
   begun_headed =
@@ -134,7 +135,7 @@ module _ {most : ℕ} {octets new : List ℕ} {held : List Target} {entry_start 
       let long = length-take entry_start octets in
       ap (take entry_start) new_is ∙ take_headed octets header entry_start (omega (arith, twelve, headed, long))
 
-  pub sound_headed : IsSound most new held entry_start data_start
+  pub sound_headed : IsSoundMessage most new held entry_start data_start
   sound_headed =
       sound_over was.now 0 header (room was.now header twelve new_is) new_is (clear was.now header twelve new_is) was
       (message_headed was.begun header twelve begun_headed)
@@ -142,8 +143,8 @@ module _ {most : ℕ} {octets new : List ℕ} {held : List Target} {entry_start 
 -- ---- the length of data
 
 -- data begins after its length, which is after where the entry begins
-pub count_late : {B T : Type 0} {b : B} {t : T} {view : Composed B T} {most : ℕ} {octets : List ℕ} {held : List Target}
-    {entry_start data_start : ℕ} (was : IsSound most octets held entry_start data_start) → composed b t was ≡ view
+pub count_late : {B T : Type 0} {b : B} {t : T} {view : Composed B T} {most : ℕ} {octets : List ℕ}
+    {held : List Target} {entry_start data_start : ℕ} (was : IsSoundMessage most octets held entry_start data_start) → composed b t was ≡ view
     → length view.begun.octets + 2 ≤ view.data_start → entry_start + 2 ≤ data_start
 count_late {octets = octets} {entry_start = entry_start} was is late =
     let begun = ap (λ v. length v.begun.octets) is in
@@ -158,7 +159,7 @@ take_before octets put at start late within =
     ∙ take-take start at octets late
 
 module _ {most : ℕ} {octets new : List ℕ} {held : List Target} {entry_start data_start : ℕ}
-    (was : IsSound most octets held entry_start data_start) (count : List ℕ) (two : length count ≡ 2)
+    (was : IsSoundMessage most octets held entry_start data_start) (count : List ℕ) (two : length count ≡ 2)
     (late : entry_start + 2 ≤ data_start) (new_is : new ≡ put_over octets (data_start - 2) count) where
   count_room : data_start - 2 + length count ≤ length octets
   count_room = omega (arith, was.data_within, late, two)
@@ -173,7 +174,7 @@ module _ {most : ℕ} {octets new : List ℕ} {held : List Target} {entry_start 
     by_test false is =
         let past = ltb-false (slice_index_or held i d).at data_start is in inr (omega (arith, past, two, late))
 
-  pub count_names : (now : Message most new held) → now.known.0 ≡ was.now.known.0
+  pub count_names : (now : MessageWithTargets most new held) → now.known.0 ≡ was.now.known.0
   count_names now = ap (λ s. s.names)
       (state_is now (message_over was.now (data_start - 2) count count_room new_is count_clear) refl)
 
@@ -182,7 +183,7 @@ module _ {most : ℕ} {octets new : List ℕ} {held : List Target} {entry_start 
       ap (take entry_start) new_is
       ∙ take_before octets count (data_start - 2) entry_start (omega (arith, late)) (omega (arith, was.data_within))
 
-  pub sound_counted : IsSound most new held entry_start 0
+  pub sound_counted : IsSoundMessage most new held entry_start 0
   sound_counted =
       sound_from (sound_over was.now (data_start - 2) count count_room new_is count_clear was
       (message_same was.begun count_begun refl)) 0 (omega arith) (none_apart new held)

@@ -6,7 +6,7 @@ use Rattle.std.specs.Option.{option_or}
 use Rattle.octseq.specs.Integer.{be}
 use Rattle.octseq.specs.Window.{Window, rest, next, past, at}
 use Rattle.octseq.proofs.WindowsAfter.{front_comes_next}
-use Rattle.octseq_dns_compress.specs.Names.{Names, Place, at_or_zero, ended, first_labels, last_place, unrooted}
+use Rattle.octseq_dns_compress.specs.Names.{Names, Place, at_or_zero, ended, first_labels, last_place, labels_wire}
 use Rattle.octseq_dns_compress.specs.Names.{name_octets, pointers_from}
 use Rattle.octseq_dns_name.specs.Name.{HasRoot, HasLabel, HasPointer, HasLabels, octet}
 use Rattle.octseq.proofs.Written.{be_one}
@@ -63,7 +63,7 @@ pointer_next start w n after late before is =
 
 -- the octets of a name, by the result of its lookup
 abbrev pub octets_by : Names → List ℕ → List (List ℕ) → Option Place → List ℕ
-octets_by names label labels found = unrooted (if is_some found then [] else label ∷ first_labels names labels)
+octets_by names label labels found = labels_wire (if is_some found then [] else label ∷ first_labels names labels)
     ++ ended (at_or_zero (option_or found (last_place names labels)))
 
 -- if it isn't there, its first label is written, followed by the other labels as a name
@@ -71,7 +71,7 @@ pub octets_new : (names : Names) (label : List ℕ) (labels : List (List ℕ))
     → octets_by names label labels None ≡ length label ∷ (label ++ name_octets names labels)
 octets_new names label labels =
     ap (λ octets. length label ∷ octets)
-    (append_assoc label (unrooted (first_labels names labels)) (ended (at_or_zero (last_place names labels))))
+    (append_assoc label (labels_wire (first_labels names labels)) (ended (at_or_zero (last_place names labels))))
 
 -- Each of the names is in the octets of a window, before a start.
 pub record AreBefore (names : Names) (start : ℕ) (w : Window) : Type 0 where

@@ -6,8 +6,8 @@ use Rattle.std.proofs.lemmas.List.{drop_more, flat_map_more, get_or-map, length-
 use Rattle.std.proofs.lemmas.List.{take_more_set}
 use Rattle.std.proofs.Math.Seq.{take-append_seam, drop-append_seam, get_or-append_seam}
 use Rattle.octseq_dns_name.specs.Name.{wire_length, HasLabel, octet}
-use Rattle.octseq_dns_compress.proofs.Words.{label_at, IsWhole, label_no, prefixed, unrooted, label_of, labels_at}
-use Rattle.octseq_dns_compress.proofs.Words.{AreWhole}
+use Rattle.octseq_dns_compress.proofs.Words.{label_at, IsWholeLabel, label_no, prefixed, labels_wire, label_of}
+use Rattle.octseq_dns_compress.proofs.Words.{labels_at, AreWhole}
 use Rattle.std.proofs.lemmas.List.Elements.{All-push}
 use Rattle.octseq.specs.declared.AsOctets.{Ghosts}
 use Rattle.octseq.specs.declared.parse.Parser.{Parser}
@@ -20,18 +20,18 @@ use Rattle.octseq_dns_name.specs.NextLabel.{NextLabel}
 
 -- the octets are those of the first labels, followed by those of the others
 pub front_and_rest : (index : ℕ) (labels : List (List ℕ))
-    → unrooted labels ≡ unrooted (take index labels) ++ unrooted (drop index labels)
+    → labels_wire labels ≡ labels_wire (take index labels) ++ labels_wire (drop index labels)
 front_and_rest zero labels = refl
 front_and_rest (suc index) [] = refl
 front_and_rest (suc index) (label ∷ labels) =
     ap (λ o. length label ∷ (label ++ o)) (front_and_rest index labels)
-    ∙ sym (append_assoc (length label ∷ label) (unrooted (take index labels)) (unrooted (drop index labels)))
+    ∙ sym (append_assoc (length label ∷ label) (labels_wire (take index labels)) (labels_wire (drop index labels)))
 
 -- the wire form has one more octet, the root
-pub wire_of_unrooted : (labels : List (List ℕ)) → wire_length labels ≡ 1 + length (unrooted labels)
+pub wire_of_unrooted : (labels : List (List ℕ)) → wire_length labels ≡ 1 + length (labels_wire labels)
 wire_of_unrooted [] = refl
 wire_of_unrooted (label ∷ labels) =
-    omega (arith, wire_of_unrooted labels, length-append label (unrooted labels))
+    omega (arith, wire_of_unrooted labels, length-append label (labels_wire labels))
 
 -- a label with its length octet, between others
 module _ (octets front label back : List ℕ) (at : ℕ) (is : octets ≡ front ++ (prefixed label ++ back))
@@ -39,7 +39,7 @@ module _ (octets front label back : List ℕ) (at : ℕ) (is : octets ≡ front 
   length_there : slice_index_or octets at 0 ≡ length label
   length_there = rw (here, is) (get_or-append_seam front (length label) (label ++ back) 0)
 
-  pub whole_there : IsWhole octets at
+  pub whole_there : IsWholeLabel octets at
   whole_there =
       let len = length_there in
       omega (arith, len, ap length is ∙ length-append front (prefixed label ++ back), length-append label back, here)
@@ -52,15 +52,15 @@ module _ (octets front label back : List ℕ) (at : ℕ) (is : octets ≡ front 
       ∙ rw (more, here, is, drop-append_seam front (prefixed label ++ back)) (take-append_seam (prefixed label) back)
 
 -- labels with their length octets have at least one octet each
-pub unrooted_longer : (labels : List (List ℕ)) → length labels ≤ length (unrooted labels)
+pub unrooted_longer : (labels : List (List ℕ)) → length labels ≤ length (labels_wire labels)
 unrooted_longer [] = omega arith
 unrooted_longer (label ∷ labels) =
-    omega (arith, unrooted_longer labels, length-append (length label ∷ label) (unrooted labels))
+    omega (arith, unrooted_longer labels, length-append (length label ∷ label) (labels_wire labels))
 
 -- ---- by index
 
 -- the octets of a whole label are its length octet and its own
-module _ (octets : List ℕ) (at : ℕ) (whole : IsWhole octets at) where
+module _ (octets : List ℕ) (at : ℕ) (whole : IsWholeLabel octets at) where
   label_taken : label_at octets at
       ≡ slice_index_or octets at 0 ∷ take (slice_index_or octets at 0) (drop (at + 1) octets)
   unfolding label_at
@@ -91,21 +91,21 @@ label_read octets starts index whole within =
 
 -- one more of the first labels adds its octets and its length octet
 one_label_more : (labels : List (List ℕ)) (count : ℕ) → count < length labels
-    → unrooted (take (count + 1) labels) ≡ unrooted (take count labels) ++ prefixed (label_no labels count)
+    → labels_wire (take (count + 1) labels) ≡ labels_wire (take count labels) ++ prefixed (label_no labels count)
 one_label_more labels count within =
-    ap (λ labels. unrooted labels) (take_more labels count [] within)
+    ap (λ labels. labels_wire labels) (take_more labels count [] within)
     ∙ sym (flat_map_more prefixed [] (take count labels) (label_no labels count))
 
 -- so the last of the first labels adds its own
 pub last_label : (labels : List (List ℕ)) (count : ℕ) (read : List ℕ) → 0 < count → count ≤ length labels
     → read ≡ prefixed (label_no labels (count - 1))
-    → length (unrooted (take count labels)) ≡ length (unrooted (take (count - 1) labels)) + length read
+    → length (labels_wire (take count labels)) ≡ length (labels_wire (take (count - 1) labels)) + length read
 last_label labels count read some within is =
     let same : count ≡ count - 1 + 1 = omega (arith, some) in
-    ap (λ n. length (unrooted (take n labels))) same
+    ap (λ n. length (labels_wire (take n labels))) same
     ∙ ap length (one_label_more labels (count - 1) (omega (arith, some, within)))
-    ∙ length-append (unrooted (take (count - 1) labels)) (prefixed (label_no labels (count - 1)))
-    ∙ ap (λ o. length (unrooted (take (count - 1) labels)) + length o) (sym is)
+    ∙ length-append (labels_wire (take (count - 1) labels)) (prefixed (label_no labels (count - 1)))
+    ∙ ap (λ o. length (labels_wire (take (count - 1) labels)) + length o) (sym is)
 
 -- what is left of a name from its last label on
 pub one_left : (labels : List (List ℕ)) (left : ℕ) → 0 < left → left ≤ length labels
@@ -116,12 +116,12 @@ one_left labels left some within =
 
 -- fewer of the first labels don't have more octets
 pub fewer_shorter : (labels : List (List ℕ)) (few many : ℕ) → few ≤ many
-    → length (unrooted (take few labels)) ≤ length (unrooted (take many labels))
+    → length (labels_wire (take few labels)) ≤ length (labels_wire (take many labels))
 fewer_shorter labels few many less =
     let both = front_and_rest few (take many labels) in
     let long = ap length both
-    ∙ length-append (unrooted (take few (take many labels))) (unrooted (drop few (take many labels))) in
-    omega (arith, long, ap (λ l. length (unrooted l)) (take-take few many labels less))
+    ∙ length-append (labels_wire (take few (take many labels))) (labels_wire (drop few (take many labels))) in
+    omega (arith, long, ap (λ l. length (labels_wire l)) (take-take few many labels less))
 
 -- ---- labels that lie one after another
 
@@ -141,8 +141,8 @@ module _ (octets starts : List ℕ) (start end index : ℕ) (front : List ℕ) (
       (rw (drop-drop (end - start) start octets, on))
 
   -- to those of the labels before it
-  pub run_more : unrooted (take index (labels_at octets starts)) ≡ front ++ take (end - start) (drop start octets)
-      → unrooted (take (index + 1) (labels_at octets starts))
+  pub run_more : labels_wire (take index (labels_at octets starts)) ≡ front ++ take (end - start) (drop start octets)
+      → labels_wire (take (index + 1) (labels_at octets starts))
       ≡ front ++ take (end + (1 + slice_index_or octets end 0) - start) (drop start octets)
   run_more is =
       rw (one_label_more (labels_at octets starts) index inside, is, append_assoc front, next_taken)
@@ -150,7 +150,7 @@ module _ (octets starts : List ℕ) (start end index : ℕ) (front : List ℕ) (
   -- it is whole
   pub run_inside : end + (1 + slice_index_or octets end 0) ≤ length octets
   run_inside =
-      subst (IsWhole octets) here (whole index 0 (omega (arith, inside, length-map starts (label_of octets))))
+      subst (IsWholeLabel octets) here (whole index 0 (omega (arith, inside, length-map starts (label_of octets))))
 
 -- ---- labels that are left of a name
 
@@ -159,7 +159,7 @@ pub record IsPlace (w place on : Window) : Type 0 where
   pub octets : on.octets ≡ w.octets
   pub end : on.end ≡ w.end
   pub after : 1 ≤ place.position
-  pub whole : IsWhole w.octets (place.position - 1)
+  pub whole : IsWholeLabel w.octets (place.position - 1)
   pub label_is : label_of w.octets (place.position - 1) ≡ rest place
   pub some : 1 ≤ length (rest place)
 
@@ -178,7 +178,7 @@ here_is w on l within has =
     let same : p + 1 - 1 ≡ p = omega arith in
     let room = has.room in
     let len = octet_is w (omega (arith, room, within)) in
-    let whole : IsWhole w.octets p = omega (arith, has.whole, len, within, room) in
+    let whole : IsWholeLabel w.octets p = omega (arith, has.whole, len, within, room) in
     let taken : p + 1 + octet w - (p + 1) ≡ slice_index_or w.octets p 0 = omega (arith, len) in
     let is : label_of w.octets p ≡ rest (part 1 w) =
     label_of_taken w.octets p whole ∙ ap (λ n. take n (drop (p + 1) w.octets)) (sym taken) in
@@ -187,7 +187,7 @@ here_is w on l within has =
       octets = ap (λ v. v.octets) has.after;
       end = ap (λ v. v.end) has.after;
       after = omega arith;
-      whole = subst (IsWhole w.octets) (sym same) whole;
+      whole = subst (IsWholeLabel w.octets) (sym same) whole;
       label_is = ap (label_of w.octets) same ∙ is;
       some = omega (arith, size, length-drop (p + 1) w.octets, taken, whole, len, has.some);
     }
@@ -207,9 +207,9 @@ module _ (octets starts : List ℕ) (count place : ℕ) (within : count < length
   more_set : take (count + 1) (slice_set starts count place) ≡ take count starts ++ place ∷ []
   more_set = take_more_set starts count place within
 
-  pub more_whole : AreWhole octets (take count starts) → IsWhole octets place
+  pub more_whole : AreWhole octets (take count starts) → IsWholeLabel octets place
       → AreWhole octets (take (count + 1) (slice_set starts count place))
-  more_whole all one = rw more_set (All-push (IsWhole octets) (take count starts) place all one)
+  more_whole all one = rw more_set (All-push (IsWholeLabel octets) (take count starts) place all one)
 
   pub more_labels : (label : List ℕ) (left all : List (List ℕ)) → label_of octets place ≡ label
       → labels_at octets (take count starts) ++ (label ∷ left) ≡ all

@@ -3,12 +3,13 @@ use Rattle.std.proofs.Common.{slice_index_or, IsTrue, ◌≡◌, ℕ, zero, suc,
 use Rattle.std.proofs.Common.{length, take, drop, refl, sym, ap, ◌∙◌, arith, is_some, true≢false, drop-drop}
 use Rattle.std.proofs.Common.{length-drop}
 use Rattle.std.specs.FinMap.{get}
-use Rattle.octseq_dns_compress.proofs.Words.{Agrees, Ends, place_there, none_found, key, HasKeyAt, HasNoKey, found}
+use Rattle.octseq_dns_compress.proofs.Words.{TableMatches, IsSuffixAt, place_there, none_found, key, HasKeyAt, HasNoKey}
+use Rattle.octseq_dns_compress.proofs.Words.{found}
 use Rattle.octseq_dns_compress.proofs.Words.{missing, Names, at_or_zero, is_there, first_labels, label_no, last_place}
 use Rattle.octseq_dns_compress.proofs.Words.{pointers_from, prefixed, Target}
 use Rattle.octseq_dns_compress.proofs.PlainLabels.{one_left}
 
-module _ {octets : List ℕ} {targets : List Target} (names : Names) (agrees : Agrees octets targets names) where
+module _ {octets : List ℕ} {targets : List Target} (names : Names) (agrees : TableMatches octets targets names) where
   -- labels whose suffix isn't there aren't there
   not_there : (labels : List (List ℕ)) (k : ℕ) → k < length labels → get names (drop k labels) ≡ None
       → get names labels ≡ None
@@ -45,13 +46,13 @@ module _ {octets : List ℕ} {targets : List Target} (names : Names) (agrees : A
 -- ---- by index
 
 -- the last label that is left, read with its length octet
-module _ (octets : List ℕ) (targets : List Target) (names : Names) (agrees : Agrees octets targets names)
+module _ (octets : List ℕ) (targets : List Target) (names : Names) (agrees : TableMatches octets targets names)
     (labels : List (List ℕ)) (written : ℕ) (read : List ℕ) (next pointers : ℕ) (some : 0 < written)
     (within : written ≤ length labels) (is : read ≡ prefixed (label_no labels (written - 1)))
-    (ends : Ends names (drop written labels) next pointers) where
+    (ends : IsSuffixAt names (drop written labels) next pointers) where
   -- it is there
   pub ends_at : (index : ℕ) (d : Target) → HasKeyAt octets targets (key next read) index
-      → Ends names (drop (written - 1) labels) (slice_index_or targets index d).at
+      → IsSuffixAt names (drop (written - 1) labels) (slice_index_or targets index d).at
       ((slice_index_or targets index d).pointers + 1)
   ends_at index d has =
       let it = found agrees (label_no labels (written - 1)) (drop written labels) index d ends.there

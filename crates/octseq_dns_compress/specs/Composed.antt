@@ -1,6 +1,6 @@
 -- A message that is being composed, as contracts see it.
 use Rattle.std.specs.Prelude.{◌≡◌, ℕ, Option, Some, None, List, length, min, nat_lt, Result, OnOk, filter}
-use Rattle.octseq.specs.Limit.{IsPast, IsWithin}
+use Rattle.octseq.specs.Limit.{ExceedsLimit, IsWithin}
 use Rattle.octseq.specs.Refusal.{IsShort, IsMemory, append_error}
 use Rattle.octseq.specs.declared.AppendError.{AppendError}
 use Rattle.octseq_dns_compress.specs.State.{State}
@@ -31,7 +31,7 @@ pub record Composes {B T : Type 0} (limit : Option ℕ) (Asks : Type 0) (result 
     (wanted : State) (old new : Composed B T) : Type 0 where
   pub ok : OnOk result (new.state ≡ wanted)
   pub within : OnOk result (IsWithin limit (length wanted.octets))
-  pub short : IsShort append_error result → IsPast limit (length wanted.octets)
+  pub short : IsShort append_error result → ExceedsLimit limit (length wanted.octets)
   pub memory : IsMemory append_error result → Asks
   pub begun : new.begun ≡ old.begun
   pub data_start : new.data_start ≡ old.data_start

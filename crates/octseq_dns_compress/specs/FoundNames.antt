@@ -8,6 +8,8 @@ use Rattle.std.specs.FinMap.{nat_cmp-IsAntisymmetric}
 use Rattle.std.specs.Ordering.{eq_by_cmp}
 use Rattle.octseq_dns_compress.specs.Names.{Names, Place, labels_cmp, is_there}
 
+-- ---- lemmas: proved below this line, so what the words mean is read above it
+
 pub labels_total : IsTotalOrder labels_cmp
 labels_total = lists_total nat_list_cmp_total
 

@@ -11,8 +11,8 @@ unfoldable pub label_at : List ℕ → ℕ → List ℕ
 label_at octets at = take (1 + slice_index_or octets at 0) (drop at octets)
 
 -- the label is whole
-abbrev pub IsWhole : List ℕ → ℕ → Type 0
-IsWhole octets at = at + (1 + slice_index_or octets at 0) ≤ length octets
+abbrev pub IsWholeLabel : List ℕ → ℕ → Type 0
+IsWholeLabel octets at = at + (1 + slice_index_or octets at 0) ≤ length octets
 
 -- a number of a label, given with its length octet: of its last three octets
 unfoldable pub digest_of : List ℕ → ℕ
@@ -41,7 +41,7 @@ key_cmp octets target key = slice_cmp nat_cmp (key_of octets target) key
 -- Each target has a whole label and its digest, at an offset that a pointer can express and from which at most 126
 -- pointers are followed, and comes before the targets after it.
 pub record AreTargets (octets : List ℕ) (targets : List Target) : Type 0 where
-  pub whole : (i : ℕ) (d : Target) → i < length targets → IsWhole octets (slice_index_or targets i d).at
+  pub whole : (i : ℕ) (d : Target) → i < length targets → IsWholeLabel octets (slice_index_or targets i d).at
   pub near : (i : ℕ) (d : Target) → i < length targets → (slice_index_or targets i d).at ≤ 16383
   pub digested : (i : ℕ) (d : Target) → i < length targets
       → (slice_index_or targets i d).digest ≡ digest_of (label_at octets (slice_index_or targets i d).at)

@@ -42,8 +42,8 @@ abbrev pub prefixed : List ℕ → List ℕ
 prefixed label = length label ∷ label
 
 -- labels with their length octets
-abbrev pub unrooted : List (List ℕ) → List ℕ
-unrooted labels = flat_map prefixed labels
+abbrev pub labels_wire : List (List ℕ) → List ℕ
+labels_wire labels = flat_map prefixed labels
 
 -- the offset of a place, or 0 if there is none
 abbrev pub at_or_zero : Option Place → ℕ
@@ -57,7 +57,7 @@ ended next = if next == 0 then 0 ∷ [] else (192 + next / 256) ∷ (next % 256)
 -- The octets of a name: its first labels, followed by a pointer to its longest suffix that is there, or by the root if
 -- there is none.
 abbrev pub name_octets : Names → List (List ℕ) → List ℕ
-name_octets names labels = unrooted (first_labels names labels) ++ ended (at_or_zero (last_place names labels))
+name_octets names labels = labels_wire (first_labels names labels) ++ ended (at_or_zero (last_place names labels))
 
 -- ---- the names that pointers may lead to after it is written
 

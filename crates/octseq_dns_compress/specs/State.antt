@@ -2,7 +2,7 @@
 use Rattle.std.specs.Prelude.{ℕ, ◌+◌, Option, Some, None, List, [], ◌∷◌, ◌++◌, length, drop, refl, sum_by}
 use Rattle.std.specs.Coded.{Coded, code_by, coded×, coded_list, coded_ℕ}
 use Rattle.octseq.specs.Part.{part_of}
-use Rattle.octseq_dns_compress.specs.Known.{names_code}
+use Rattle.octseq_dns_compress.specs.NamesOf.{names_code}
 use Rattle.octseq_dns_compress.specs.Names.{Names, name_octets, names_with}
 
 -- The octets of a message so far, and the names in it that pointers may lead to.

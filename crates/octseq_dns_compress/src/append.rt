@@ -6,12 +6,12 @@ ghost use Rattle.octseq.specs.Refusal.{IsMemory, append_error};
 ghost use Rattle.octseq_dns_compress.specs.Composed.{message_limit};
 ghost use Rattle.octseq_dns_compress.specs.Fits.{NameFits};
 ghost use Rattle.octseq_dns_compress.specs.Named.{AppendsName};
-ghost use Rattle.octseq_dns_compress.specs.Sound.{Message};
+ghost use Rattle.octseq_dns_compress.specs.Sound.{MessageWithTargets};
 ghost use Rattle.octseq_dns_name.specs.Read.{labels_of};
 
 use crate::encode::append_encoded;
-use crate::keep::keep;
-use crate::plain::{LABELS_FEW, PlainName, starts_of};
+use crate::plain::{LABELS_FEW, LabelOffsets, starts_of};
+use crate::remember::remember;
 use crate::search::search;
 use crate::table::Compressor;
 use octseq::builder::AsOctetsMut;
@@ -97,8 +97,8 @@ pub(crate) fn append_name<B: OctetsBuilder + Truncate, T: Compressor, R: AsOctet
     name: &ParsedName<R>,
     turns: &mut Turns,
 ) -> Result<(), AppendError>
-    requires message { Message T.most (B.content octets.old) (T.held table.old) }
-    ensures named { (old : Message T.most (B.content octets.old) (T.held table.old))
+    requires message { MessageWithTargets T.most (B.content octets.old) (T.held table.old) }
+    ensures named { (old : MessageWithTargets T.most (B.content octets.old) (T.held table.old))
         → AppendsName (message_limit B.limit) result (labels_of name.now) old (B.content octets.new)
         (T.held table.new) }
     ensures fits { NameFits (labels_of name.now) }
@@ -114,13 +114,13 @@ pub(crate) fn append_name<B: OctetsBuilder + Truncate, T: Compressor, R: AsOctet
     let (starts, len) = starts_of(&mut few, &mut many, name);
     let parser = name.parser();
     let source = parser.octets_ref();
-    let plain = PlainName::new(source.as_ref(), starts, len, name);
+    let plain = LabelOffsets::new(source.as_ref(), starts, len, name);
     let ending = search(octets.as_ref(), table.as_slice(), &plain, turns);
     let start = octets.len();
     if let Err(error) = append_encoded(octets, &plain, ending) {
         return Err(error);
     }
-    if let Err(AllocError) = keep(table, &plain, ending, start, turns) {
+    if let Err(AllocError) = remember(table, &plain, ending, start, turns) {
         octets.truncate(start);
         table.keep_before(start);
         return Err(AppendError::Memory);

@@ -1,9 +1,9 @@
 //! Messages composed of octets and of names, which are compressed.
 ghost use Rattle.std.specs.Prelude.{◌≡◌, ◌≤◌, ◌+◌, ◌*◌, ◌⊎◌, length, true, OnErr};
-ghost use Rattle.octseq.specs.Limit.{IsPast};
+ghost use Rattle.octseq.specs.Limit.{ExceedsLimit};
 ghost use Rattle.octseq.specs.Refusal.{IsShort, append_error};
 ghost use Rattle.octseq_dns_compress.specs.Composed.{message_limit, Composes};
-ghost use Rattle.octseq_dns_compress.specs.Sound.{IsSound, sound_once};
+ghost use Rattle.octseq_dns_compress.specs.Sound.{IsSoundMessage, sound_once};
 
 use crate::append::{append, append_name, append_value, write_over};
 use crate::table::Compressor;
@@ -26,14 +26,14 @@ pub struct Composer<B: AsOctets, T: Compressor> {
     table: T,
     entry_start: usize,
     data_start: usize,
-    ghost sound: { IsSound T.most (B.content octets) (T.held table) entry_start data_start } by { sound_once T.most
-        (B.content octets) (T.held table) entry_start data_start },
+    ghost sound: { IsSoundMessage T.most (B.content octets) (T.held table) entry_start data_start } by { sound_once
+        T.most (B.content octets) (T.held table) entry_start data_start },
 }
 
 impl<B: AsOctets, T: Compressor> Model for Composer<B, T> {
     ghost use Rattle.std.specs.Coded.{codes};
     ghost use Rattle.octseq_dns_compress.specs.Composed.{Composed};
-    ghost use Rattle.octseq_dns_compress.specs.Known.{names_code};
+    ghost use Rattle.octseq_dns_compress.specs.NamesOf.{names_code};
     ghost use Rattle.octseq_dns_compress.specs.Sound.{composed};
 
     ghost Value = { Composed B T };
@@ -72,7 +72,7 @@ impl<B: OctetsBuilder, T: Compressor> Composer<B, T> {
         ensures composed { Composes (message_limit B.limit) (B.asks ≡ true) result
             (with_octets self.old.state slice.now) self.old self.new }
         ensures err { OnErr result (self.new.state ≡ self.old.state) }
-        ensures past { IsPast (message_limit B.limit) (length self.old.state.octets + length slice.now)
+        ensures past { ExceedsLimit (message_limit B.limit) (length self.old.state.octets + length slice.now)
             → IsShort append_error result }
         ensures borrows { B.borrows self.new.octets ≡ B.borrows self.old.octets }
     {
@@ -102,7 +102,7 @@ impl<B: OctetsBuilder + Truncate, T: Compressor> Composer<B, T> {
         ensures composed { Composes (message_limit B.limit) (B.asks ≡ true) result
             (with_octets self.old.state (F.octets (F.says (F.found value.now)))) self.old self.new }
         ensures err { OnErr result (self.new.state ≡ self.old.state) }
-        ensures past { IsPast (message_limit B.limit)
+        ensures past { ExceedsLimit (message_limit B.limit)
             (length self.old.state.octets + length (F.octets (F.says (F.found value.now))))
             → IsShort append_error result }
         ensures borrows { B.borrows self.new.octets ≡ B.borrows self.old.octets }
@@ -118,7 +118,7 @@ impl<B: OctetsBuilder + Truncate, T: Compressor> Composer<B, T> {
     /// refused. The builder and the table are then dropped.
     pub fn from_builder(octets: B, table: T) -> Result<Composer<B, T>, AppendError>
         ensures state { IfOk result (λ c. c.state ≡ record { octets = replicate 12 0; names = empty }) }
-        ensures short { IsShort append_error result ↔ IsPast B.limit 12 }
+        ensures short { IsShort append_error result ↔ ExceedsLimit B.limit 12 }
         ensures memory { IsMemory append_error result → B.asks ≡ true }
         ensures borrows { IfOk result (λ c. B.borrows c.octets ≡ B.borrows octets) }
     {
@@ -149,7 +149,7 @@ impl<B: OctetsBuilder + Truncate, T: Compressor> Composer<B, T> {
         ensures composed { Composes (message_limit B.limit) ((B.asks ≡ true) ⊎ (T.asks ≡ true)) result
             (with_name T.most self.old.state (labels_of name.now)) self.old self.new }
         ensures err { OnErr result (self.new.state ≡ self.old.state) }
-        ensures past { IsPast (message_limit B.limit)
+        ensures past { ExceedsLimit (message_limit B.limit)
             (length (with_name T.most self.old.state (labels_of name.now)).octets) → IsShort append_error result }
         ensures fits { NameFits (labels_of name.now) }
         ensures borrows { B.borrows self.new.octets ≡ B.borrows self.old.octets }
@@ -173,7 +173,7 @@ impl<B: OctetsBuilder + Truncate, T: Compressor> Composer<B, T> {
     }
 
     /// Removes what was appended since the last entry began.
-    pub fn take_back(&mut self)
+    pub fn rollback(&mut self)
         ensures state { self.new.state ≡ self.old.begun }
         ensures begun { self.new.begun ≡ self.old.begun }
         ensures borrows { B.borrows self.new.octets ≡ B.borrows self.old.octets }
@@ -212,7 +212,7 @@ impl<B: OctetsBuilder + Truncate + AsOctetsMut, T: Compressor> Composer<B, T> {
         ensures data_start { OnOk result (self.new.data_start ≡ length self.new.state.octets) }
         ensures err { OnErr result (self.new.state ≡ self.old.state) }
         ensures short { IsShort append_error result
-            → IsPast (message_limit B.limit) (length self.old.state.octets + 2) }
+            → ExceedsLimit (message_limit B.limit) (length self.old.state.octets + 2) }
         ensures memory { IsMemory append_error result → B.asks ≡ true }
         ensures begun { self.new.begun ≡ self.old.begun }
         ensures before { length self.old.begun.octets ≤ length self.old.state.octets }

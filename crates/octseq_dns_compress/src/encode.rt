@@ -4,26 +4,26 @@ ghost use Rattle.octseq.specs.Appends.{Appends};
 ghost use Rattle.octseq.specs.Limit.{IsWithin};
 ghost use Rattle.octseq.specs.Refusal.{IsShort, IsMemory, append_error};
 ghost use Rattle.octseq_dns_compress.specs.Composed.{message_limit};
-ghost use Rattle.octseq_dns_compress.specs.Names.{ended, unrooted};
+ghost use Rattle.octseq_dns_compress.specs.Names.{ended, labels_wire};
 ghost use Rattle.octseq_dns_compress.specs.PlainNames.{plain_labels};
 
 use crate::append::has_room;
-use crate::plain::PlainName;
-use crate::search::Ending;
+use crate::plain::LabelOffsets;
+use crate::search::SuffixMatch;
 use octseq::{AppendError, AsOctets, OctetsBuilder, ShortBuf, Truncate};
 
 /// Appends the first labels of a name, as many at once as lie one after another. There must be room for them. If a
 /// request for memory is refused, some of them may have been appended.
 fn append_labels<B: OctetsBuilder>(
     octets: &mut B,
-    name: &PlainName<'_>,
+    name: &LabelOffsets<'_>,
     count: usize,
 ) -> Result<(), AppendError>
     requires count { count ≤ length (plain_labels name.now) }
     requires room { IsWithin B.limit (length (B.content octets.old)
-        + length (unrooted (take count (plain_labels name.now)))) }
+        + length (labels_wire (take count (plain_labels name.now)))) }
     ensures ok { OnOk result (B.content octets.new
-        ≡ B.content octets.old ++ unrooted (take count (plain_labels name.now))) }
+        ≡ B.content octets.old ++ labels_wire (take count (plain_labels name.now))) }
     ensures err { OnErr result ((more : List ℕ) × (B.content octets.new ≡ B.content octets.old ++ more)) }
     ensures short { ¬ IsShort append_error result }
     ensures memory { IsMemory append_error result → B.asks ≡ true }
@@ -66,16 +66,16 @@ fn end_len(next: u16) -> usize
 /// unchanged.
 pub(crate) fn append_encoded<B: OctetsBuilder + Truncate>(
     octets: &mut B,
-    name: &PlainName<'_>,
-    ending: Ending,
+    name: &LabelOffsets<'_>,
+    ending: SuffixMatch,
 ) -> Result<(), AppendError>
     requires written { ending.written ≤ length (plain_labels name.now) }
-    requires len { ending.len ≡ length (unrooted (take ending.written (plain_labels name.now))) }
+    requires len { ending.len ≡ length (labels_wire (take ending.written (plain_labels name.now))) }
     requires few { ending.len ≤ 254 }
     requires next { ending.next ≤ 16383 }
     requires short { length (B.content octets.old) ≤ 65535 }
     ensures appended { Appends (message_limit B.limit) B.asks result
-        (unrooted (take ending.written (plain_labels name.now)) ++ ended ending.next)
+        (labels_wire (take ending.written (plain_labels name.now)) ++ ended ending.next)
         (B.content octets.old) (B.content octets.new) }
     ensures most { length (B.content octets.new) ≤ 65535 }
     ensures within { OnOk result (IsWithin (message_limit B.limit) (length (B.content octets.new))) }

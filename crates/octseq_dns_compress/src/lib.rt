@@ -8,9 +8,9 @@
 mod append;
 pub mod compose;
 mod encode;
-mod keep;
 pub mod laws;
 mod plain;
+mod remember;
 mod search;
 pub mod table;
 

@@ -2,8 +2,8 @@
 ghost use Rattle.std.specs.Prelude.{◌≡◌, ◌≤◌, ◌<◌, ◌+◌, ◌++◌, length, take, IfSome, IsNone};
 ghost use Rattle.octseq_dns_name.specs.Name.{wire_length};
 ghost use Rattle.octseq_dns_name.specs.Read.{labels_of, place_of};
-ghost use Rattle.octseq_dns_compress.specs.Names.{unrooted};
-ghost use Rattle.octseq_dns_compress.specs.PlainName.{AreWhole, labels_at, whole_once};
+ghost use Rattle.octseq_dns_compress.specs.Names.{labels_wire};
+ghost use Rattle.octseq_dns_compress.specs.LabelOffsets.{AreWhole, labels_at, whole_once};
 
 use octseq::AsOctets;
 use octseq_dns_name::ParsedName;
@@ -19,16 +19,16 @@ const UNROOTED_MAX: usize = 254;
 
 /// The labels of a name, by their offsets in the octets that it was read from.
 #[derive(Drop)]
-pub(crate) struct PlainName<'a> {
+pub(crate) struct LabelOffsets<'a> {
     octets: &'a [u8],
     starts: &'a [usize],
     len: usize,
     ghost whole: { AreWhole octets.now starts.now } by { whole_once octets.now starts.now },
-    ghost measured: { len ≡ length (unrooted (labels_at octets.now starts.now)) },
+    ghost measured: { len ≡ length (labels_wire (labels_at octets.now starts.now)) },
     ghost short: { len ≤ 254 },
 }
 
-impl<'a> PlainName<'a> {
+impl<'a> LabelOffsets<'a> {
     ghost use Rattle.octseq_dns_compress.specs.Names.{label_no, prefixed};
     ghost use Rattle.octseq_dns_compress.specs.PlainNames.{plain_labels};
 
@@ -39,7 +39,7 @@ impl<'a> PlainName<'a> {
         starts: &'a [usize],
         len: usize,
         name: &ParsedName<R>,
-    ) -> PlainName<'a>
+    ) -> LabelOffsets<'a>
         requires source { octets.now ≡ (place_of name.now).octets }
         requires whole { AreWhole (place_of name.now).octets starts.now }
         requires labels { labels_at (place_of name.now).octets starts.now ≡ labels_of name.now }
@@ -51,7 +51,7 @@ impl<'a> PlainName<'a> {
             let _len = name.len();
             unreachable!();
         }
-        PlainName {
+        LabelOffsets {
             octets,
             starts,
             len,
@@ -67,7 +67,7 @@ impl<'a> PlainName<'a> {
 
     /// Returns the number of octets of its labels with their length octets.
     pub fn len(&self) -> usize
-        ensures len { result ≡ length (unrooted (plain_labels self.now)) }
+        ensures len { result ≡ length (labels_wire (plain_labels self.now)) }
         ensures most { result ≤ 254 }
     {
         self.len
@@ -89,8 +89,8 @@ impl<'a> PlainName<'a> {
     pub fn run(&self, from: usize, to: usize) -> (&[u8], usize)
         requires some { from < to }
         requires within { to ≤ length (plain_labels self.now) }
-        ensures run { unrooted (take result.1 (plain_labels self.now))
-            ≡ unrooted (take from (plain_labels self.now)) ++ result.0.now }
+        ensures run { labels_wire (take result.1 (plain_labels self.now))
+            ≡ labels_wire (take from (plain_labels self.now)) ++ result.0.now }
         ensures some { from < result.1 }
         ensures within { result.1 ≤ to }
     {
@@ -105,8 +105,8 @@ impl<'a> PlainName<'a> {
     }
 }
 
-/// Returns the offset of each label of a name, and the number of their octets with their length octets. Only a name with
-/// many labels needs the second array, which is made then.
+/// Returns the offset of each label of a name, and the number of their octets with their length octets. Only a name
+/// with many labels needs the second array, which is made then.
 pub(crate) fn starts_of<'a, R: AsOctets + Copy>(
     few: &'a mut [usize; LABELS_FEW],
     many: &'a mut Option<[usize; LABELS_MAX]>,
@@ -141,10 +141,12 @@ fn place_labels<const N: usize, R: AsOctets + Copy>(
     ensures none { IsNone result → N < 127 }
 {
     let parser = name.parser();
+    // Its window ends within the octets.
     let _end = parser.len();
     let (mut count, mut len) = (0, 0);
     'places: for label in name.labels() {
         if count == N {
+            // A name has at most 255 octets, so at most 127 labels.
             let _len = name.len();
             return None;
         }

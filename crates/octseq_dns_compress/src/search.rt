@@ -1,21 +1,29 @@
 //! Searching for a label among targets, which are in the order of their keys.
 ghost use Rattle.std.specs.Prelude.{◌≡◌, ◌≤◌, ◌+◌, ◌↔◌, length, take, IsTrue, IsErr, IfOk, IfErr};
 ghost use Rattle.std.specs.Prelude.{◌*◌, ◌-◌, ◌^◌};
-ghost use Rattle.octseq_dns_compress.specs.Agrees.{Agrees};
-ghost use Rattle.octseq_dns_compress.specs.Ending.{IsEnding};
-ghost use Rattle.octseq_dns_compress.specs.Names.{Names, unrooted};
+ghost use Rattle.octseq_dns_compress.specs.TableMatches.{TableMatches};
+ghost use Rattle.octseq_dns_compress.specs.SuffixMatch.{IsSuffixMatch};
+ghost use Rattle.octseq_dns_compress.specs.Names.{Names, labels_wire};
 ghost use Rattle.octseq_dns_compress.specs.PlainNames.{plain_labels};
-ghost use Rattle.octseq_dns_compress.specs.Key.{label_at, digest_of, key, IsWhole, key_cmp, AreTargets, IsPosition};
+ghost use Rattle.octseq_dns_compress.specs.Key.{
+  label_at,
+  digest_of,
+  key,
+  IsWholeLabel,
+  key_cmp,
+  AreTargets,
+  IsPosition,
+};
 ghost use Rattle.octseq_dns_compress.specs.Key.{HasKeyAt, HasNoKey};
 
-use crate::plain::PlainName;
+use crate::plain::LabelOffsets;
 use crate::table::Target;
 use octseq::Turns;
 use std::cmp::Ordering;
 
 /// How a name is written: its first labels, and a pointer to where the others are, or the root.
 #[derive(Clone, Copy)]
-pub(crate) struct Ending {
+pub(crate) struct SuffixMatch {
     /// The number of labels that are written.
     pub written: usize,
     /// The number of their octets, with their length octets.
@@ -32,15 +40,15 @@ pub(crate) struct Ending {
 pub(crate) fn search(
     octets: &[u8],
     targets: &[Target],
-    name: &PlainName<'_>,
+    name: &LabelOffsets<'_>,
     turns: &mut Turns,
-) -> Ending
+) -> SuffixMatch
     requires targets { AreTargets octets.now targets.now }
     requires few { length targets.now ≤ 16384 }
-    ensures ending { (names : Names) → Agrees octets.now targets.now names
-        → IsEnding octets.now targets.now names (plain_labels name.now) result }
+    ensures ending { (names : Names) → TableMatches octets.now targets.now names
+        → IsSuffixMatch octets.now targets.now names (plain_labels name.now) result }
     ensures written { result.written ≤ length (plain_labels name.now) }
-    ensures len { result.len ≡ length (unrooted (take result.written (plain_labels name.now))) }
+    ensures len { result.len ≡ length (labels_wire (take result.written (plain_labels name.now))) }
     ensures short { result.len ≤ 254 }
     ensures next { result.next ≤ 16383 }
     ensures pointers { result.pointers ≤ 127 }
@@ -48,7 +56,7 @@ pub(crate) fn search(
     ensures turns { turns.new ≤ turns.old + 16 * length (plain_labels name.now) }
     ensures least { turns.old + length (plain_labels name.now) ≤ turns.new + result.written }
 {
-    let mut ending = Ending {
+    let mut ending = SuffixMatch {
         written: name.label_count(),
         len: name.len(),
         next: 0,
@@ -86,7 +94,7 @@ pub(crate) fn search(
 
 /// Returns the label at an offset, with its length octet.
 fn label_at(octets: &[u8], at: u16) -> &[u8]
-    requires { IsWhole octets.now at }
+    requires { IsWholeLabel octets.now at }
     ensures { result.now ≡ label_at octets.now at }
 {
     let at = usize::from(at);
@@ -110,7 +118,7 @@ pub(crate) fn digest(label: &[u8]) -> u16
 /// Compares a target with a label, given with its length octet and its digest, that is followed by what is at `next`.
 #[inline(always)]
 fn compare(octets: &[u8], target: &Target, next: u16, digest: u16, label: &[u8]) -> Ordering
-    requires whole { IsWhole octets.now target.now.at }
+    requires whole { IsWholeLabel octets.now target.now.at }
     requires target { target.now.digest ≡ digest_of (label_at octets.now target.now.at) }
     requires digest { digest ≡ digest_of label.now }
     ensures { result ≡ key_cmp octets.now target.now (key next label.now) }

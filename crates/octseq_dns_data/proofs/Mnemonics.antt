@@ -14,29 +14,37 @@ use Rattle.std.specs.Fmt.{decimal}
 use Rattle.std.specs.Option.{SomeIff, is_some, unwrap_or}
 use Rattle.std.specs.Str.{str_eq_ignore_ascii_case, str_to_ascii_lowercase}
 use Rattle.std.specs.Str.Parse.{IsNumeral, digits_value}
-use Rattle.octseq_dns_data.specs.Mnemonic.{Names, name_in, name_or, number_in, Spells, IsNameOf, IsWordAndNumber}
-use Rattle.octseq_dns_data.specs.Mnemonic.{Reads, class_names}
+use Rattle.octseq_dns_data.specs.Mnemonic.{
+  Mnemonics,
+  name_in,
+  name_or,
+  number_in,
+  SpellsWord,
+  IsNameOf,
+  IsWordAndNumber,
+}
+use Rattle.octseq_dns_data.specs.Mnemonic.{IsMnemonicText, class_names}
 use Rattle.octseq_dns_data.specs.Rtype.{rtype_names}
 
 -- ---- a name among names
 
-first_among : (x : ℕ × List ℕ) (xs : Names) → IsAmong (x ∷ xs) x
+first_among : (x : ℕ × List ℕ) (xs : Mnemonics) → IsAmong (x ∷ xs) x
 first_among x xs = (0, (omega arith, refl))
 
-later_among : (x y : ℕ × List ℕ) (xs : Names) → IsAmong xs y → IsAmong (x ∷ xs) y
+later_among : (x y : ℕ × List ℕ) (xs : Mnemonics) → IsAmong xs y → IsAmong (x ∷ xs) y
 later_among x y xs is = (suc is.0, (omega (arith, is.1.0), is.1.1))
 
-first_or_later : (x y : ℕ × List ℕ) (xs : Names) → IsAmong (x ∷ xs) y → (y ≡ x) ⊎ IsAmong xs y
+first_or_later : (x y : ℕ × List ℕ) (xs : Mnemonics) → IsAmong (x ∷ xs) y → (y ≡ x) ⊎ IsAmong xs y
 first_or_later x y xs (zero, (less, is)) = inl is
 first_or_later x y xs (suc i, (less, is)) = inr (i, (omega (arith, less), is))
 
-spells : (text name : List ℕ) → Decides (str_eq_ignore_ascii_case text name) (Spells text name)
+spells : (text name : List ℕ) → Decides (str_eq_ignore_ascii_case text name) (SpellsWord text name)
 spells text name = bytes_eq-Decides (str_to_ascii_lowercase text) (str_to_ascii_lowercase name)
 
 -- ---- the number of a name
 
-this_or_later : (named : ℕ × List ℕ) (more : Names) (text : List ℕ) (n : ℕ) (same : Bool)
-    → (same ≡ true → Spells text named.1) → (if same then Some named.0 else number_in more text) ≡ Some n
+this_or_later : (named : ℕ × List ℕ) (more : Mnemonics) (text : List ℕ) (n : ℕ) (same : Bool)
+    → (same ≡ true → SpellsWord text named.1) → (if same then Some named.0 else number_in more text) ≡ Some n
     → (number_in more text ≡ Some n → IsNameOf more text n) → IsNameOf (named ∷ more) text n
 this_or_later named more text n true spelled is later =
     let number : named.0 ≡ n = cc in record {
@@ -51,41 +59,43 @@ this_or_later named more text n false spelled is later =
       spelled = further.spelled;
     }
 
-pub number_in_some : (names : Names) (text : List ℕ) (n : ℕ) → number_in names text ≡ Some n → IsNameOf names text n
+pub number_in_some : (names : Mnemonics) (text : List ℕ) (n : ℕ) → number_in names text ≡ Some n → IsNameOf names text n
 number_in_some [] text n is = absurd (cc)
 number_in_some (named ∷ more) text n is =
     this_or_later named more text n (str_eq_ignore_ascii_case text named.1) (spells text named.1).0 is
     (number_in_some more text n)
 
-none_here : (named : ℕ × List ℕ) (more : Names) (text : List ℕ) (same : Bool)
+none_here : (named : ℕ × List ℕ) (more : Mnemonics) (text : List ℕ) (same : Bool)
     → (if same then Some named.0 else number_in more text) ≡ None → (same ≡ false) × (number_in more text ≡ None)
 none_here named more text true is = absurd (cc)
 none_here named more text false is = (refl, is)
 
-not_among : (names : Names) (text name : List ℕ) (n : ℕ) → number_in names text ≡ None → Spells text name
+not_among : (names : Mnemonics) (text name : List ℕ) (n : ℕ) → number_in names text ≡ None → SpellsWord text name
     → IsAmong names (n, name) → ⊥
 not_among [] text name n is spelled among = omega (arith, among.1.0)
 not_among (named ∷ more) text name n is spelled among =
     let here = none_here named more text (str_eq_ignore_ascii_case text named.1) is in
     elim (first_or_later named (n, name) more among) [
       | inl same ↦
-          let reported = (spells text named.1).1 (subst (λ w. Spells text w) (ap (λ (x : ℕ × List ℕ). x.1) same) spelled) in
+          let reported = (spells text named.1).1
+          (subst (λ w. SpellsWord text w) (ap (λ (x : ℕ × List ℕ). x.1) same) spelled) in
           absurd (cc (reported, here.0))
       | inr later ↦ not_among more text name n here.1 spelled later
     ]
 
-pub number_in_none : (names : Names) (text : List ℕ) → number_in names text ≡ None → (n : ℕ) → IsNameOf names text n → ⊥
+pub number_in_none : (names : Mnemonics) (text : List ℕ) → number_in names text ≡ None → (n : ℕ)
+    → IsNameOf names text n → ⊥
 number_in_none names text is n named = not_among names text named.name n is named.spelled named.named
 
 -- ---- a number after a word
 
-spelled_length : (letters word : List ℕ) → Spells letters word → length letters ≡ length word
+spelled_length : (letters word : List ℕ) → SpellsWord letters word → length letters ≡ length word
 spelled_length letters word is =
     let same = ap length is in
     omega (arith, simp length-map at same)
 
 -- the word has as many octets as letters
-word_split : (word text letters digits : List ℕ) → text ≡ letters ++ digits → Spells letters word
+word_split : (word text letters digits : List ℕ) → text ≡ letters ++ digits → SpellsWord letters word
     → (letters ≡ take (length word) text) × (digits ≡ drop (length word) text)
 word_split word text letters digits parts spelled =
     let same = sym (spelled_length letters word spelled) in
@@ -94,7 +104,8 @@ word_split word text letters digits parts spelled =
 abbrev HasNumber : List ℕ → Option ℕ → Type 0
 HasNumber digits r = SomeIff r (IsNumeral 10 digits × (digits_value 10 digits < 65536)) (digits_value 10 digits)
 
-pub number_there : (word text letters digits : List ℕ) (r : Option ℕ) → text ≡ letters ++ digits → Spells letters word
+pub number_there : (word text letters digits : List ℕ) (r : Option ℕ) → text ≡ letters ++ digits
+    → SpellsWord letters word
     → HasNumber digits r → IfSome r (IsWordAndNumber word text)
 number_there word text letters digits None parts spelled is = tt
 number_there word text letters digits (Some n) parts spelled is = record {
@@ -109,15 +120,15 @@ number_there word text letters digits (Some n) parts spelled is = record {
 
 -- ---- either
 
-pub neither_there : (word text : List ℕ) (names : Names) (r : Option ℕ) → number_in names text ≡ None
-    → IfNone r ((n : ℕ) → IsWordAndNumber word text n → ⊥) → IfNone r ((n : ℕ) → Reads word names text n → ⊥)
+pub neither_there : (word text : List ℕ) (names : Mnemonics) (r : Option ℕ) → number_in names text ≡ None
+    → IfNone r ((n : ℕ) → IsWordAndNumber word text n → ⊥) → IfNone r ((n : ℕ) → IsMnemonicText word names text n → ⊥)
 neither_there word text names None none there = λ n reads.
     elim reads [ inl named ↦ number_in_none names text none n named | inr numbered ↦ there n numbered ]
 neither_there word text names (Some n) none there = tt
 
 -- ---- what is shown is read back
 
-name_there : (named : ℕ × List ℕ) (more : Names) (n : ℕ) (name : List ℕ) (same : Bool) → (same ≡ true → named.0 ≡ n)
+name_there : (named : ℕ × List ℕ) (more : Mnemonics) (n : ℕ) (name : List ℕ) (same : Bool) → (same ≡ true → named.0 ≡ n)
     → (if same then Some named.1 else name_in more n) ≡ Some name
     → (name_in more n ≡ Some name → IsAmong more (n, name))
     → IsAmong (named ∷ more) (n, name)
@@ -127,13 +138,13 @@ name_there named more n name true number is later =
     (subst (λ m. IsAmong (named ∷ more) (m, named.1)) (number refl) (first_among named more))
 name_there named more n name false number is later = later_among named (n, name) more (later is)
 
-name_among : (names : Names) (n : ℕ) (name : List ℕ) → name_in names n ≡ Some name → IsAmong names (n, name)
+name_among : (names : Mnemonics) (n : ℕ) (name : List ℕ) → name_in names n ≡ Some name → IsAmong names (n, name)
 name_among [] n name is = absurd (cc)
 name_among (named ∷ more) n name is =
     name_there named more n name (nat_eq named.0 n) (Decides-eqb named.0 n).0 is (name_among more n name)
 
-shown_or_numbered : (word : List ℕ) (names : Names) (n : ℕ) → n < 65536 → (found : Option (List ℕ))
-    → name_in names n ≡ found → Reads word names (unwrap_or found (word ++ decimal n)) n
+shown_or_numbered : (word : List ℕ) (names : Mnemonics) (n : ℕ) → n < 65536 → (found : Option (List ℕ))
+    → name_in names n ≡ found → IsMnemonicText word names (unwrap_or found (word ++ decimal n)) n
 shown_or_numbered word names n bits (Some name) is =
     inl (record { name = name; named = name_among names n name is; spelled = refl })
 shown_or_numbered word names n bits None is =
@@ -149,30 +160,31 @@ shown_or_numbered word names n bits None is =
     })
 
 -- the text of a number is read as that number
-pub reads_shown : (word : List ℕ) (names : Names) (n : ℕ) → n < 65536 → Reads word names (name_or word names n) n
+pub reads_shown : (word : List ℕ) (names : Mnemonics) (n : ℕ) → n < 65536
+    → IsMnemonicText word names (name_or word names n) n
 reads_shown word names n bits = shown_or_numbered word names n bits (name_in names n) refl
 
 -- ---- a text is read as at most one number
 
 -- no two names have the same letters
-abbrev distinct : Names → Bool
+abbrev distinct : Mnemonics → Bool
 distinct [] = true
 distinct (named ∷ more) = not (is_some (number_in more named.1)) && distinct more
 
 -- no name begins with the word
-abbrev apart : List ℕ → Names → Bool
+abbrev apart : List ℕ → Mnemonics → Bool
 apart word [] = true
 apart word (named ∷ more) =
     not (str_eq_ignore_ascii_case (take (length word) named.1) word) && apart word more
 
-pub is_unambiguous : List ℕ → Names → Bool
+pub is_unambiguous : List ℕ → Mnemonics → Bool
 is_unambiguous word names = distinct names && apart word names
 
 not_some : (found : Option ℕ) → is_some found ≡ false → found ≡ None
 not_some None is = refl
 not_some (Some n) is = absurd (cc)
 
-among_distinct : (names : Names) (text name : List ℕ) (n : ℕ) → distinct names ≡ true → Spells text name
+among_distinct : (names : Mnemonics) (text name : List ℕ) (n : ℕ) → distinct names ≡ true → SpellsWord text name
     → IsAmong names (n, name) → number_in names text ≡ Some n
 among_distinct [] text name n good spelled among = absurd (omega (arith, among.1.0))
 among_distinct (named ∷ more) text name n good spelled among =
@@ -180,7 +192,8 @@ among_distinct (named ∷ more) text name n good spelled among =
     let none = not_some (number_in more named.1) (not-true _ parts.0) in
     elim (first_or_later named (n, name) more among) [
       | inl same ↦
-          let reported = (spells text named.1).1 (subst (λ w. Spells text w) (ap (λ (x : ℕ × List ℕ). x.1) same) spelled) in
+          let reported = (spells text named.1).1
+          (subst (λ w. SpellsWord text w) (ap (λ (x : ℕ × List ℕ). x.1) same) spelled) in
           rw reported (ap (λ (x : ℕ × List ℕ). Some x.0) (sym same))
       | inr later ↦ elim (cases_Bool (str_eq_ignore_ascii_case text named.1)) [
         | inl reported ↦ absurd (number_in_none more named.1 none n (record {
@@ -192,33 +205,34 @@ among_distinct (named ∷ more) text name n good spelled among =
       ]
     ]
 
-number_of_name : (names : Names) (text : List ℕ) (n : ℕ) → distinct names ≡ true → IsNameOf names text n
+number_of_name : (names : Mnemonics) (text : List ℕ) (n : ℕ) → distinct names ≡ true → IsNameOf names text n
     → number_in names text ≡ Some n
 number_of_name names text n good named = among_distinct names text named.name n good named.spelled named.named
 
 -- a name that begins with the letters of the word
-begins_with : (word text name letters digits : List ℕ) → Spells text name → text ≡ letters ++ digits
-    → Spells letters word → Spells (take (length word) name) word
+begins_with : (word text name letters digits : List ℕ) → SpellsWord text name → text ≡ letters ++ digits
+    → SpellsWord letters word → SpellsWord (take (length word) name) word
 begins_with word text name letters digits named parts spelled =
     let front : take (length word) text ≡ letters = sym (word_split word text letters digits parts spelled).0 in
     sym (take-map to_ascii_lowercase (length word) name) ∙ ap (take (length word)) (sym named)
     ∙ take-map to_ascii_lowercase (length word) text ∙ ap (map to_ascii_lowercase) front ∙ spelled
 
-no_name_begins : (word : List ℕ) (names : Names) (name : List ℕ) (n : ℕ) → apart word names ≡ true
-    → IsAmong names (n, name) → Spells (take (length word) name) word → ⊥
+no_name_begins : (word : List ℕ) (names : Mnemonics) (name : List ℕ) (n : ℕ) → apart word names ≡ true
+    → IsAmong names (n, name) → SpellsWord (take (length word) name) word → ⊥
 no_name_begins word [] name n good among spelled = omega (arith, among.1.0)
 no_name_begins word (named ∷ more) name n good among spelled =
     let parts = and_parts (not (str_eq_ignore_ascii_case (take (length word) named.1) word)) (apart word more) good in
     elim (first_or_later named (n, name) more among) [
       | inl same ↦
-          let begins = subst (λ w. Spells (take (length word) w) word) (ap (λ (x : ℕ × List ℕ). x.1) same) spelled in
+          let begins = subst (λ w. SpellsWord (take (length word) w) word)
+          (ap (λ (x : ℕ × List ℕ). x.1) same) spelled in
           let reported = (spells (take (length word) named.1) word).1 begins in
           let unreported = not-true _ parts.0 in
           absurd (cc (reported, unreported))
       | inr later ↦ no_name_begins word more name n parts.1 later spelled
     ]
 
-never_both : (word : List ℕ) (names : Names) (text : List ℕ) (a b : ℕ) → apart word names ≡ true
+never_both : (word : List ℕ) (names : Mnemonics) (text : List ℕ) (a b : ℕ) → apart word names ≡ true
     → IsNameOf names text a → IsWordAndNumber word text b → ⊥
 never_both word names text a b good named numbered =
     no_name_begins word names named.name a good named.named
@@ -230,8 +244,8 @@ one_after word text a b one other =
     let there = (word_split word text other.letters other.digits other.parts other.spelled).1 in
     sym one.value ∙ ap (digits_value 10) (here ∙ sym there) ∙ other.value
 
-pub one_number : (word : List ℕ) (names : Names) → is_unambiguous word names ≡ true → (text : List ℕ) (a b : ℕ)
-    → Reads word names text a → Reads word names text b → a ≡ b
+pub one_number : (word : List ℕ) (names : Mnemonics) → is_unambiguous word names ≡ true → (text : List ℕ) (a b : ℕ)
+    → IsMnemonicText word names text a → IsMnemonicText word names text b → a ≡ b
 unfolding is_unambiguous
 one_number word names good text a b one other =
     let parts = and_parts (distinct names) (apart word names) good in

@@ -139,7 +139,8 @@ module _ {X S : Type 0} (split : Split X) (octets_of : X → List ℕ) (Check : 
 -- ---- the kinds of pieces
 
 -- a test and its result
-pub reported_some : {A : Type 0} (test : Bool) (a b : A) → (let given : Option A = if test then Some a else None in given)
+pub reported_some : {A : Type 0} (test : Bool) (a b : A)
+    → (let given : Option A = if test then Some a else None in given)
     ≡ Some b → (test ≡ true) × (a ≡ b)
 reported_some true a b is = (refl, same_Some a b is)
 reported_some false a b is = absurd (none-some b is)

@@ -5,10 +5,10 @@ use Rattle.std.proofs.Math.Bool.{true≢false}
 use Rattle.std.proofs.lemmas.Bool.{eqb-true, ne_eqb, or_cases}
 use mathlib.Core.Logic.{inl, inr}
 use Rattle.octseq.specs.Window.{Window}
-use Rattle.octseq_dns_data.specs.Data.{ParsedRdata, Mx, Soa, Srv, Naptr, HasRdata, HasOctets, HasStrings}
+use Rattle.octseq_dns_data.specs.Data.{ParsedRdata, Mx, Soa, Srv, Naptr, HasRdata, HasOctetCount, HasStrings}
 use Rattle.octseq_dns_data.specs.Data.{HasMx, HasSoa, HasSrv, HasNaptr, IsInMessage, IsTypedData, SaysData}
 use Rattle.octseq_dns_data.specs.Data.{is_in_message, naptr_form, naptr_parts, rtype_of}
-use Rattle.octseq_dns_data.specs.Local.{IsLocal, IsWhole, NoneLocal, form}
+use Rattle.octseq_dns_data.specs.Local.{IsLocal, TakesWindow, NoneLocal, form}
 use Rattle.octseq_dns_data.specs.Typed.{KnownType, has_number, known_in, known_types, pick, all_types, layout_of}
 use Rattle.octseq_dns_data.specs.Typed.{message_types}
 use Rattle.octseq_dns_data.specs.Typed.{reading_in, mx_form, mx_parts, soa_form, soa_parts, srv_form, srv_parts}
@@ -75,8 +75,8 @@ Made {A} make Has w rdata v = (one : A) × (rdata ≡ make one) × Has w one v
 
 -- the form of each type
 abbrev pub Shape : Kind → Relation ParsedRdata
-Shape Kind.of_a = Made ParsedRdata.a (HasOctets 4)
-Shape Kind.of_aaaa = Made ParsedRdata.aaaa (HasOctets 16)
+Shape Kind.of_a = Made ParsedRdata.a (HasOctetCount 4)
+Shape Kind.of_aaaa = Made ParsedRdata.aaaa (HasOctetCount 16)
 Shape Kind.of_ns = Made ParsedRdata.ns HasName
 Shape Kind.of_cname = Made ParsedRdata.cname HasName
 Shape Kind.of_ptr = Made ParsedRdata.ptr HasName
@@ -178,8 +178,8 @@ one_made make Has one = record {
 
 -- for any type but TXT
 one_shape : (k : Kind) → (number k ≡ 16 → ⊥) → IsOne (Shape k)
-one_shape Kind.of_a other_type = one_made ParsedRdata.a (HasOctets 4) (one_fixed 4 (λ octets. octets))
-one_shape Kind.of_aaaa other_type = one_made ParsedRdata.aaaa (HasOctets 16) (one_fixed 16 (λ octets. octets))
+one_shape Kind.of_a other_type = one_made ParsedRdata.a (HasOctetCount 4) (one_fixed 4 (λ octets. octets))
+one_shape Kind.of_aaaa other_type = one_made ParsedRdata.aaaa (HasOctetCount 16) (one_fixed 16 (λ octets. octets))
 one_shape Kind.of_ns other_type = one_made ParsedRdata.ns HasName one_named
 one_shape Kind.of_cname other_type = one_made ParsedRdata.cname HasName one_named
 one_shape Kind.of_ptr other_type = one_made ParsedRdata.ptr HasName one_named
@@ -292,9 +292,9 @@ kind_in_message Kind.of_naptr = refl
 
 -- at most one value of a form takes the whole window
 one_whole : (k l : ℕ) (a : (form k).Found) (b : (form l).Found) (w : Window) → k ≡ l
-    → IsWhole (form k).Is w a → IsWhole (form l).Is w b → ParsedRdata.local k a ≡ ParsedRdata.local l b
+    → TakesWindow (form k).Is w a → TakesWindow (form l).Is w b → ParsedRdata.local k a ≡ ParsedRdata.local l b
 one_whole k l a b w same here there =
-    subst (λ (l : ℕ). (b : (form l).Found) → IsWhole (form l).Is w b
+    subst (λ (l : ℕ). (b : (form l).Found) → TakesWindow (form l).Is w b
     → ParsedRdata.local k a ≡ ParsedRdata.local l b) same
     (λ b there. ap (ParsedRdata.local k) ((form k).one.same w a b _ _ here there).0) b there
 

@@ -223,7 +223,8 @@ not_none zero is = absurd (false≢true (sym is))
 not_none (suc size) is = omega arith
 
 some_size : (size : ℕ) → 1 ≤ size → size == 0 ≡ false
-some_size size some = false_from_ne_true (size == 0) (λ is. let none = (Decides-eqb size 0).0 is in omega (arith, some, none))
+some_size size some = false_from_ne_true (size == 0)
+    (λ is. let none = (Decides-eqb size 0).0 is in omega (arith, some, none))
 
 ascending : (rtypes : List ℕ) (number count : ℕ)
     → AscendFrom number (flat_map (window_blocks rtypes) (range_with_len number count))

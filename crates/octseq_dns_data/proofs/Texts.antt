@@ -19,7 +19,8 @@ zeros_at_front (zero ∷ xs) =
     let one_more : suc (zero_run xs) ≡ 1 + zero_run xs = omega arith in
     subst (λ n. take n (0 ∷ xs) ≡ replicate n 0) one_more (ap (λ zeros. 0 ∷ zeros) (zeros_at_front xs))
 zeros_at_front (suc x ∷ xs) =
-    let other = false_from_ne_true (suc x == 0) (λ reported. let is = (Decides-eqb (suc x) 0).0 reported in omega (arith, is)) in
+    let other = false_from_ne_true (suc x == 0)
+    (λ reported. let is = (Decides-eqb (suc x) 0).0 reported in omega (arith, is)) in
     subst (λ zero. take (if zero then 1 + zero_run xs else 0) (suc x ∷ xs)
     ≡ replicate (if zero then 1 + zero_run xs else 0) 0) (sym other) refl
 

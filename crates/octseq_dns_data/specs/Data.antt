@@ -11,8 +11,8 @@ pub use Rattle.octseq_dns_data.specs.Strings.{HasString, HasStrings}
 pub use Rattle.octseq_dns_data.specs.Typed.{ParsedRdata, Mx, Soa, Srv, Naptr, naptr_form, naptr_parts}
 
 -- the given number of octets
-abbrev pub HasOctets : ℕ → Window → List ℕ → Window → Type 0
-HasOctets n w octets v = (n ≤ left w) × (octets ≡ next n w) × (v ≡ past n w)
+abbrev pub HasOctetCount : ℕ → Window → List ℕ → Window → Type 0
+HasOctetCount n w octets v = (n ≤ left w) × (octets ≡ next n w) × (v ≡ past n w)
 
 abbrev pub HasMx : Window → Mx → Window → Type 0
 HasMx w mx v = mx_form.Is w (mx_parts mx) v
@@ -44,8 +44,8 @@ rtype_of (ParsedRdata.unknown rtype octets) = rtype
 -- Data of a type and a class is at a window's position. Addresses, service records and naming authority pointers are of
 -- class IN only.
 abbrev pub HasRdata : ℕ → ℕ → Window → ParsedRdata → Window → Type 0
-HasRdata rtype class w (ParsedRdata.a octets) v = (rtype ≡ types.a) × (class ≡ 1) × HasOctets 4 w octets v
-HasRdata rtype class w (ParsedRdata.aaaa octets) v = (rtype ≡ types.aaaa) × (class ≡ 1) × HasOctets 16 w octets v
+HasRdata rtype class w (ParsedRdata.a octets) v = (rtype ≡ types.a) × (class ≡ 1) × HasOctetCount 4 w octets v
+HasRdata rtype class w (ParsedRdata.aaaa octets) v = (rtype ≡ types.aaaa) × (class ≡ 1) × HasOctetCount 16 w octets v
 HasRdata rtype class w (ParsedRdata.ns name) v = (rtype ≡ types.ns) × HasName w name v
 HasRdata rtype class w (ParsedRdata.cname name) v = (rtype ≡ types.cname) × HasName w name v
 HasRdata rtype class w (ParsedRdata.ptr name) v = (rtype ≡ types.ptr) × HasName w name v

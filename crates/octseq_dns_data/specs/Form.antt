@@ -6,7 +6,7 @@ use Rattle.octseq.specs.Integer.{be, octets_be}
 use Rattle.octseq.specs.Window.{Window, rest}
 use Rattle.octseq_dns_data.specs.Formed.{IsFormed, FormedFits, one_formed, formed_read_back}
 use Rattle.octseq_dns_data.specs.Layout.{TextLayout, layout_value}
-use Rattle.octseq_dns_data.specs.PlainName.{HasPlainName, one_plain, delimited_plain}
+use Rattle.octseq_dns_data.specs.UncompressedName.{HasUncompressedName, one_plain, delimited_plain}
 use Rattle.octseq_dns_data.specs.declared.layout.Field.{Field}
 use Rattle.octseq_dns_data.specs.declared.layout.Field.TheVariants as field
 use Rattle.octseq_dns_data.specs.declared.layout.Tail.{Tail}
@@ -24,7 +24,7 @@ use Rattle.octseq_format.specs.Rest.{IsRest, one_rest, rest_read_back}
 
 -- A part that shows its own end: what is found, what it says wherever it is, the octets that say it, which values have
 -- octets, the least number of turns that reading it takes, its text, and the fields that its text is read as.
-pub record Part : Type 1 where
+pub record FormPart : Type 1 where
   pub Found : Type 0
   pub Said : Type 0
   pub Is : Relation Found
@@ -51,9 +51,7 @@ pub record Form : Type 1 where
   pub text : Found → List ℕ
   pub layout : TextLayout
 
--- a part, followed by a form: their texts are separated by a space (32)
-infixr 5 ◌followed_by◌
-abbrev pub ◌followed_by◌ : Part → Form → Form
+abbrev pub ◌followed_by◌ : FormPart → Form → Form
 first followed_by second = record {
   Found = first.Found × second.Found;
   Said = first.Said × second.Said;
@@ -68,15 +66,11 @@ first followed_by second = record {
   layout = layout_value (first.fields ++ second.layout.fields) second.layout.tail;
 }
 
--- the same, if the text of the form has a space before each item
-infixr 5 ◌then_each◌
-abbrev pub ◌then_each◌ : Part → Form → Form
+abbrev pub ◌then_each◌ : FormPart → Form → Form
 first then_each second =
     record (first followed_by second) { text = λ found. first.text found.0 ++ second.text found.1 }
 
--- a part, followed by another
-infixr 5 ◌and_then◌
-abbrev pub ◌and_then◌ : Part → Part → Part
+abbrev pub ◌and_then◌ : FormPart → FormPart → FormPart
 first and_then second = record {
   Found = first.Found × second.Found;
   Said = first.Said × second.Said;
@@ -92,7 +86,7 @@ first and_then second = record {
 }
 
 -- a part alone
-abbrev pub alone : Part → Form
+abbrev pub alone : FormPart → Form
 alone part = record {
   Found = part.Found;
   Said = part.Said;
@@ -128,7 +122,7 @@ abbrev pub number_field : ℕ → Field
 number_field k = if nat_eq k 1 then field.U8 else if nat_eq k 2 then field.U16 else field.U32
 
 -- a number of k octets, big-endian
-abbrev pub number : ℕ → Part
+abbrev pub number : ℕ → FormPart
 number k = record {
   Found = ℕ;
   Said = ℕ;
@@ -144,7 +138,7 @@ number k = record {
 }
 
 -- a name, which may have pointers when it is read, and has none when it is written
-abbrev pub domain_name : Part
+abbrev pub domain_name : FormPart
 domain_name = record {
   Found = Name;
   Said = List (List ℕ);
@@ -160,11 +154,11 @@ domain_name = record {
 }
 
 -- a name without pointers
-abbrev pub plain_name : Part
+abbrev pub plain_name : FormPart
 plain_name = record {
   Found = Name;
   Said = List (List ℕ);
-  Is = HasPlainName;
+  Is = HasUncompressedName;
   says = name_labels;
   octets = wire;
   Fits = NameFits;
@@ -176,7 +170,7 @@ plain_name = record {
 }
 
 -- octets of a form, after their length of one octet, with their text and what it is read as
-abbrev pub string : (List ℕ → Type 0) → (List ℕ → List ℕ) → Field → Part
+abbrev pub string : (List ℕ → Type 0) → (List ℕ → List ℕ) → Field → FormPart
 string HasForm text read_as = record {
   Found = Window;
   Said = List ℕ;
@@ -222,3 +216,12 @@ all_octets text read_as = record {
   text = λ place. text (rest place);
   layout = layout_value [] read_as;
 }
+
+-- ---- lemmas: proved below this line, so what the words mean is read above it
+
+-- a part, followed by a form: their texts are separated by a space (32)
+infixr 5 ◌followed_by◌
+-- the same, if the text of the form has a space before each item
+infixr 5 ◌then_each◌
+-- a part, followed by another
+infixr 5 ◌and_then◌

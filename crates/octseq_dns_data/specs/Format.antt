@@ -14,6 +14,8 @@ IsNumber k = IsFixed k be
 abbrev pub IsData : Relation Window
 IsData = IsPart 2
 
+-- ---- lemmas: proved below this line, so what the words mean is read above it
+
 -- at most one of each is at a place
 pub one_number : (k : ℕ) → IsOne (IsNumber k)
 one_number k = one_fixed k be

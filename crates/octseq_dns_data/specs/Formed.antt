@@ -13,16 +13,6 @@ IsFormed HasForm = IsWhere IsRest rest HasForm
 abbrev pub FormedFits : (List ℕ → Type 0) → List ℕ → Type 0
 FormedFits HasForm = WhereFits (λ _. Unit {0}) HasForm
 
-module _ (HasForm : List ℕ → Type 0) where
-  pub one_formed : IsOne (IsFormed HasForm)
-  one_formed = one_where IsRest rest HasForm one_rest
-
-  pub onward_formed : IsOnward 0 (IsFormed HasForm)
-  onward_formed = onward_where IsRest rest HasForm onward_rest
-
-  pub formed_read_back : IsReadBack (IsFormed HasForm) rest (λ octets. octets) (FormedFits HasForm)
-  formed_read_back = where_read_back IsRest rest HasForm (λ octets. octets) (λ _. Unit {0}) rest_read_back
-
 -- at most as many octets as a length of one octet can say
 abbrev pub IsString : List ℕ → Type 0
 IsString octets = length octets ≤ 255
@@ -34,3 +24,15 @@ IsSome octets = 1 ≤ length octets
 -- both
 abbrev pub IsSomeString : List ℕ → Type 0
 IsSomeString octets = IsSome octets × IsString octets
+
+-- ---- lemmas: proved below this line, so what the words mean is read above it
+
+module _ (HasForm : List ℕ → Type 0) where
+  pub one_formed : IsOne (IsFormed HasForm)
+  one_formed = one_where IsRest rest HasForm one_rest
+
+  pub onward_formed : IsOnward 0 (IsFormed HasForm)
+  onward_formed = onward_where IsRest rest HasForm onward_rest
+
+  pub formed_read_back : IsReadBack (IsFormed HasForm) rest (λ octets. octets) (FormedFits HasForm)
+  formed_read_back = where_read_back IsRest rest HasForm (λ octets. octets) (λ _. Unit {0}) rest_read_back

@@ -11,7 +11,7 @@ pub mod OneBitmap
 pub mod OneRow
 pub mod Pieces
 pub mod Places
-pub mod PlainName
+pub mod UncompressedName
 pub mod RdataText
 pub mod Rtype
 pub mod RtypeBitmap

@@ -12,6 +12,8 @@ use Rattle.octseq.proofs.Codes.{halves}
 abbrev made : ℕ → List ℕ → WindowBlock
 made number bitmap = record { number = number; bitmap = bitmap }
 
+-- ---- lemmas: proved below this line, so what the words mean is read above it
+
 -- octets begin with at most one window block
 pub one_block : (block other : WindowBlock) (rest more : List ℕ)
     → block_octets block ++ rest ≡ block_octets other ++ more

@@ -7,7 +7,7 @@ use Rattle.std.specs.Net.Text.{ipv4_text}
 use Rattle.octseq.specs.Integer.{be}
 use Rattle.octseq_dns_scan.specs.Base64.{base64_text}
 use Rattle.octseq.specs.OctetsText.{ipv6_address_text, string_octet_text}
-use Rattle.octseq_dns_data.specs.Mnemonic.{Names, name_or}
+use Rattle.octseq_dns_data.specs.Mnemonic.{Mnemonics, name_or}
 use Rattle.octseq_dns_data.specs.Pieces.{pieces, split_octets}
 use Rattle.octseq_dns_data.specs.SvcParams.{Param, ids_of, keys_of, params_of}
 
@@ -17,7 +17,7 @@ with_commas text [] = []
 with_commas text (x ∷ xs) = text x ++ flat_map (λ y. 44 ∷ text y) xs
 
 -- the names of keys: RFC 9460, 14.3.2
-abbrev pub key_names : Names
+abbrev pub key_names : Mnemonics
 key_names = (0, codes "mandatory") ∷ (1, codes "alpn") ∷ (2, codes "no-default-alpn") ∷ (3, codes "port")
     ∷ (4, codes "ipv4hint") ∷ (5, codes "ech") ∷ (6, codes "ipv6hint") ∷ []
 

@@ -34,11 +34,11 @@ abbrev pub string_octets : {R : Type 0} {g : Ghosts R} → CharStr R g → List 
 string_octets string = rest (string_place string)
 
 -- an iterator steps over a string: its octets are where its length says, and the next one is after them
-abbrev pub StepsOver : {R : Type 0} {g : Ghosts R} → Strings R g → Window → Strings R g → Type 0
-StepsOver before place after =
+abbrev pub StepsOverString : {R : Type 0} {g : Ghosts R} → Strings R g → Window → Strings R g → Type 0
+StepsOverString before place after =
     (place ≡ part 1 (strings_ahead before)) × (strings_ahead after ≡ past_part 1 (strings_ahead before))
 
 -- what `next` returns: the first string that is left, at its place; or none if none is left
 abbrev pub YieldsNextString : {R : Type 0} {g : Ghosts R} → Strings R g → Option (CharStr R g) → Strings R g → Type 0
 YieldsNextString before given after = YieldsFirstBy string_octets strings_left before given after
-    × IfSome given (λ string. StepsOver before (string_place string) after)
+    × IfSome given (λ string. StepsOverString before (string_place string) after)

@@ -6,7 +6,7 @@ use Rattle.octseq.specs.declared.AsOctets.{Ghosts}
 use Rattle.octseq.specs.OctetsText.{hex_text, string_text}
 use Rattle.octseq.specs.Parser.{window}
 use Rattle.octseq.specs.Window.{Window, rest}
-use Rattle.octseq_dns_data.specs.Form.{Part, Form, ◌and_then◌, ◌followed_by◌, ◌then_each◌, alone, no_form, number}
+use Rattle.octseq_dns_data.specs.Form.{FormPart, Form, ◌and_then◌, ◌followed_by◌, ◌then_each◌, alone, no_form, number}
 use Rattle.octseq_dns_data.specs.Form.{domain_name, plain_name, string, octets_of, all_octets}
 use Rattle.octseq_dns_data.specs.Formed.{IsString, IsSome, IsSomeString}
 use Rattle.octseq_dns_data.specs.Layout.{TextLayout, layout_value}
@@ -62,22 +62,22 @@ salt_text [] = 45 ∷ []
 salt_text (octet ∷ octets) = hexadecimal (octet ∷ octets)
 
 -- a character string, in quotation marks
-abbrev pub quoted : Part
+abbrev pub quoted : FormPart
 quoted = string IsString string_text field.String
 
 -- a salt, and the hash of an owner name
-abbrev pub salt : Part
+abbrev pub salt : FormPart
 salt = string IsString salt_text field.Salt
 
-abbrev pub owner_hash : Part
+abbrev pub owner_hash : FormPart
 owner_hash = string IsSomeString base32hex_text field.OwnerHash
 
 -- the number of a type, as its mnemonic
-abbrev pub rtype_number : Part
+abbrev pub rtype_number : FormPart
 rtype_number = record (number 2) { text = rtype_text; fields = field.Rtype ∷ [] }
 
 -- a time, which is shown as its number, and may be read as a date
-abbrev pub time : Part
+abbrev pub time : FormPart
 time = record (number 4) { fields = field.Time ∷ [] }
 
 -- one or more octets, in hexadecimal and in base 64
@@ -104,7 +104,7 @@ pub record Mx : Type 0 where
   pub preference : ℕ
   pub exchange : Name
 
-abbrev pub mx_form : Part
+abbrev pub mx_form : FormPart
 mx_form = number 2 and_then domain_name
 
 abbrev pub mx_parts : Mx → mx_form.Found
@@ -123,7 +123,7 @@ pub record Soa : Type 0 where
   pub expire : ℕ
   pub minimum : ℕ
 
-abbrev pub soa_form : Part
+abbrev pub soa_form : FormPart
 soa_form = domain_name and_then domain_name and_then number 4 and_then number 4 and_then number 4 and_then number 4
     and_then number 4
 
@@ -148,7 +148,7 @@ pub record Srv : Type 0 where
   pub port : ℕ
   pub target : Name
 
-abbrev pub srv_form : Part
+abbrev pub srv_form : FormPart
 srv_form = number 2 and_then number 2 and_then number 2 and_then domain_name
 
 abbrev pub srv_parts : Srv → srv_form.Found
@@ -166,7 +166,7 @@ pub record Naptr : Type 0 where
   pub regexp : Window
   pub replacement : Name
 
-abbrev pub naptr_form : Part
+abbrev pub naptr_form : FormPart
 naptr_form = number 2 and_then number 2 and_then quoted and_then quoted and_then quoted and_then domain_name
 
 abbrev pub naptr_parts : Naptr → naptr_form.Found
@@ -472,6 +472,6 @@ rdata_of (kind.Uri it) = ParsedRdata.local types.uri (uri_of it)
 rdata_of (kind.Unknown rtype octets) = ParsedRdata.unknown rtype (window octets)
 
 -- strings are at a window's position (a name says its place itself)
-abbrev pub IsAt : {R : Type 0} {g : Ghosts R} → Window → Data R g → Type 0
-IsAt w (kind.Txt it) = txt_place it ≡ w
-IsAt w _ = Unit {0}
+abbrev pub AreStringsAt : {R : Type 0} {g : Ghosts R} → Window → Data R g → Type 0
+AreStringsAt w (kind.Txt it) = txt_place it ≡ w
+AreStringsAt w _ = Unit {0}

@@ -6,7 +6,7 @@ ghost use Rattle.octseq.specs.Parser.{window};
 ghost use Rattle.octseq.specs.Window.{Window, left};
 ghost use Rattle.octseq_dns_data.specs.Data.{ParsedRdata, FitsForm, HasRdata, IsTypedData, SaysData, is_in_message};
 ghost use Rattle.octseq_dns_data.specs.Data.{form_octets, is_by_form, rtype_of};
-ghost use Rattle.octseq_dns_data.specs.Local.{Agrees, IsOfClass, IsWhole, NoneLocal};
+ghost use Rattle.octseq_dns_data.specs.Local.{HasNoData, IsOfClass, TakesWindow, NoneLocal};
 ghost use Rattle.octseq_dns_data.specs.RdataText.{rdata_text};
 ghost use Rattle.octseq_dns_data.specs.Layout.{layout_value};
 ghost use Rattle.octseq_dns_data.specs.Typed.{all_types, layout_of, rdata_of, reading_in};
@@ -21,7 +21,7 @@ use octseq::octets_text::{write_ipv4, write_ipv6, write_opaque};
 use octseq::{AppendError, AsOctets, Parser, Turns};
 use octseq_dns_name::name::a_name_has_labels;
 use octseq_dns_name::{DomainName, Malformed, ParsedName};
-use octseq_format::{Fields, Format, Octets, Of};
+use octseq_format::{Fields, Format, OctetArray, Of};
 use std::alloc::AllocError;
 use std::fmt;
 
@@ -37,13 +37,13 @@ mod keys;
 mod mx;
 mod naptr;
 mod openpgpkey;
-mod plain_name;
 mod soa;
 mod some_octets;
 mod srv;
 mod string;
 mod svcb;
 mod txt;
+mod uncompressed_name;
 mod uri;
 
 pub use crate::data::caa::Caa;
@@ -57,12 +57,12 @@ pub use crate::data::keys::{Sshfp, Tlsa};
 pub use crate::data::mx::Mx;
 pub use crate::data::naptr::Naptr;
 pub use crate::data::openpgpkey::Openpgpkey;
-pub use crate::data::plain_name::PlainName;
 pub use crate::data::soa::Soa;
 pub use crate::data::some_octets::{CaaTag, OwnerHash, SomeOctets};
 pub use crate::data::srv::Srv;
 pub use crate::data::svcb::Svcb;
 pub use crate::data::txt::{CharStr, Strings, Txt};
+pub use crate::data::uncompressed_name::UncompressedName;
 pub use crate::data::uri::Uri;
 
 /// Data says at most one thing.
@@ -190,7 +190,7 @@ impl<R: AsOctets + Copy> Clone for Data<R> {
 }
 
 impl<R: AsOctets + Copy> Data<R> {
-    ghost use Rattle.octseq_dns_data.specs.Typed.{IsAt};
+    ghost use Rattle.octseq_dns_data.specs.Typed.{AreStringsAt};
 
     /// Returns the type of the record.
     pub fn rtype(&self) -> Rtype
@@ -241,6 +241,7 @@ impl<R: AsOctets + Copy> Data<R> {
         match self {
             Data::Naptr(naptr) => {
                 drop(naptr.to_fields());
+                // A name has at most 255 octets: its length tells it, here and below.
                 let _len = naptr.replacement.len();
                 a_name_has_labels(&naptr.replacement);
             }
@@ -301,7 +302,7 @@ impl<R: AsOctets + Copy> Data<R> {
         match self {
             Data::Naptr(naptr) => W::write::<Of<Naptr<R>>>(target, naptr),
             Data::Hinfo(hinfo) => W::write::<Of<Hinfo<R>>>(target, hinfo),
-            Data::Dname(name) => W::write::<PlainName>(target, name),
+            Data::Dname(name) => W::write::<UncompressedName>(target, name),
             Data::Ds(ds) => W::write::<Of<Ds<R>>>(target, ds),
             Data::Sshfp(sshfp) => W::write::<Of<Sshfp<R>>>(target, sshfp),
             Data::Rrsig(sig) => W::write::<Of<Rrsig<R>>>(target, sig),
@@ -339,7 +340,7 @@ impl<R: AsOctets + Copy> Data<R> {
     ) -> Result<Data<R>, Malformed>
         ensures rdata { IfOk result (λ found.
             IsTypedData rtype class (window message) (window inside) (rdata_of found)) }
-        ensures place { IfOk result (IsAt (window message)) }
+        ensures place { IfOk result (AreStringsAt (window message)) }
         ensures malformed { IsErr result → (rdata : ParsedRdata)
             → ¬ IsTypedData rtype class (window message) (window inside) rdata }
         ensures some { turns.old ≤ turns.new }
@@ -369,7 +370,7 @@ impl<R: AsOctets + Copy> Data<R> {
     ) -> Result<Data<R>, Malformed>
         ensures rdata { IfOk result (λ found.
             HasRdata rtype class (window parser.old) (rdata_of found) (window parser.new)) }
-        ensures place { IfOk result (IsAt (window parser.old)) }
+        ensures place { IfOk result (AreStringsAt (window parser.old)) }
         ensures ends { OnOk result ((window parser.new).position ≡ end) }
         ensures malformed { IsErr result → (rdata : ParsedRdata) (v : Window)
             → HasRdata rtype class (window parser.old) rdata v → ¬ (v.position ≡ end) }
@@ -397,7 +398,7 @@ impl<R: AsOctets + Copy> Data<R> {
     ) -> Result<Data<R>, Malformed>
         ensures rdata { IfOk result (λ found.
             HasRdata rtype class (window parser.old) (rdata_of found) (window parser.new)) }
-        ensures place { IfOk result (IsAt (window parser.old)) }
+        ensures place { IfOk result (AreStringsAt (window parser.old)) }
         ensures malformed { IsErr result → rtype ≢ 16 → (rdata : ParsedRdata) (v : Window)
             → ¬ HasRdata rtype class (window parser.old) rdata v }
         ensures some { turns.old ≤ turns.new }
@@ -423,10 +424,10 @@ impl<R: AsOctets + Copy> Data<R> {
             return Err(Malformed);
         }
         if rtype == Rtype::A {
-            return Ok(Data::A(Octets::<4>::parse(parser)?));
+            return Ok(Data::A(OctetArray::<4>::parse(parser)?));
         }
         if rtype == Rtype::AAAA {
-            return Ok(Data::Aaaa(Octets::<16>::parse(parser)?));
+            return Ok(Data::Aaaa(OctetArray::<16>::parse(parser)?));
         }
         if rtype == Rtype::SRV {
             return Ok(Data::Srv(Of::<Srv<R>>::parse_counted(parser, turns)?));
@@ -446,7 +447,7 @@ impl<R: AsOctets + Copy> Data<R> {
     ) -> Result<Data<R>, Malformed>
         ensures rdata { IfOk result (λ found. (w : Window)
             → IsTypedData rtype class w (window inside) (rdata_of found)) }
-        ensures place { IfOk result (λ found. (w : Window) → IsAt w found) }
+        ensures place { IfOk result (λ found. (w : Window) → AreStringsAt w found) }
         ensures malformed { IsErr result → NoneLocal rtype class (window inside) }
         ensures some { turns.old ≤ turns.new }
         ensures least { IfOk result (λ found. turns.old + rdata_turns (rdata_of found) ≤ turns.new) }
@@ -454,7 +455,11 @@ impl<R: AsOctets + Copy> Data<R> {
     {
         match rtype {
             Rtype::HINFO => Ok(Data::Hinfo(record(Rtype::HINFO, inside, turns)?)),
-            Rtype::DNAME => Ok(Data::Dname(typed::<R, PlainName>(Rtype::DNAME, inside, turns)?)),
+            Rtype::DNAME => Ok(Data::Dname(typed::<R, UncompressedName>(
+                Rtype::DNAME,
+                inside,
+                turns,
+            )?)),
             Rtype::DS => Ok(Data::Ds(record(Rtype::DS, inside, turns)?)),
             Rtype::SSHFP => Ok(Data::Sshfp(record(Rtype::SSHFP, inside, turns)?)),
             Rtype::RRSIG => Ok(Data::Rrsig(record(Rtype::RRSIG, inside, turns)?)),
@@ -587,11 +592,11 @@ fn record_in<R: AsOctets + Copy, S: Fields<R>>(
     class: Class,
     turns: &mut Turns,
 ) -> Result<S, Malformed>
-    requires agrees { Agrees rtype S.Format.is_at }
+    requires agrees { HasNoData rtype S.Format.is_at }
     requires only { (other : ℕ) → IsOfClass rtype other → other ≡ 1 }
     ensures class { OnOk result (class ≡ 1) }
     ensures value { IfOk result (λ value.
-        IsWhole S.Format.is_at (window inside) (S.Format.found (S.fields value))) }
+        TakesWindow S.Format.is_at (window inside) (S.Format.found (S.fields value))) }
     ensures malformed { IsErr result → NoneLocal rtype class (window inside) }
     ensures least { IfOk result (λ value. turns.old + S.Format.turns_of (S.Format.found (S.fields value))
         ≤ turns.new) }
@@ -600,8 +605,7 @@ fn record_in<R: AsOctets + Copy, S: Fields<R>>(
     if class != Class::IN {
         return Err(Malformed);
     }
-    let value = record(rtype, inside, turns)?;
-    Ok(value)
+    record(rtype, inside, turns)
 }
 
 /// Reads the record of a type from its own window.
@@ -610,9 +614,9 @@ fn record<R: AsOctets + Copy, S: Fields<R>>(
     inside: Parser<R>,
     turns: &mut Turns,
 ) -> Result<S, Malformed>
-    requires agrees { Agrees rtype S.Format.is_at }
+    requires agrees { HasNoData rtype S.Format.is_at }
     ensures value { IfOk result (λ value.
-        IsWhole S.Format.is_at (window inside) (S.Format.found (S.fields value))) }
+        TakesWindow S.Format.is_at (window inside) (S.Format.found (S.fields value))) }
     ensures malformed { IsErr result → (class : ℕ) → NoneLocal rtype class (window inside) }
     ensures least { IfOk result (λ value. turns.old + S.Format.turns_of (S.Format.found (S.fields value))
         ≤ turns.new) }
@@ -627,8 +631,8 @@ fn typed<R: AsOctets + Copy, F: Format<R>>(
     inside: Parser<R>,
     turns: &mut Turns,
 ) -> Result<F::Value, Malformed>
-    requires agrees { Agrees rtype F.is_at }
-    ensures value { IfOk result (λ value. IsWhole F.is_at (window inside) (F.found value)) }
+    requires agrees { HasNoData rtype F.is_at }
+    ensures value { IfOk result (λ value. TakesWindow F.is_at (window inside) (F.found value)) }
     ensures malformed { IsErr result → (class : ℕ) → NoneLocal rtype class (window inside) }
     ensures least { IfOk result (λ value. turns.old + F.turns_of (F.found value) ≤ turns.new) }
     ensures turns { TakesTurns F.base F.rate (left (window inside)) turns.old turns.new }
@@ -641,8 +645,8 @@ fn whole<R: AsOctets + Copy, F: Format<R>>(
     inside: Parser<R>,
     turns: &mut Turns,
 ) -> Result<F::Value, Malformed>
-    ensures value { IfOk result (λ value. IsWhole F.is_at (window inside) (F.found value)) }
-    ensures malformed { IsErr result → (other : F.Found) → ¬ IsWhole F.is_at (window inside) other }
+    ensures value { IfOk result (λ value. TakesWindow F.is_at (window inside) (F.found value)) }
+    ensures malformed { IsErr result → (other : F.Found) → ¬ TakesWindow F.is_at (window inside) other }
     ensures least { IfOk result (λ value. turns.old + F.turns_of (F.found value) ≤ turns.new) }
     ensures turns { TakesTurns F.base F.rate (left (window inside)) turns.old turns.new }
 {

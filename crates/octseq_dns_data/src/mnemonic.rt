@@ -4,7 +4,7 @@ ghost use Rattle.std.specs.Fmt.{WritesOnOk};
 ghost use Rattle.std.specs.Option.{SomeIff};
 ghost use Rattle.std.specs.Str.{str_eq_ignore_ascii_case};
 ghost use Rattle.std.specs.Str.Parse.{IsNumeral, digits_value};
-ghost use Rattle.octseq_dns_data.specs.Mnemonic.{name_in, name_or, number_in, Reads, IsWordAndNumber};
+ghost use Rattle.octseq_dns_data.specs.Mnemonic.{name_in, name_or, number_in, IsMnemonicText, IsWordAndNumber};
 
 use std::{fmt, str};
 
@@ -39,9 +39,9 @@ fn name_of(mut names: &[(u16, &'static str)], number: u16) -> Option<&'static st
 
 /// Returns the number whose name the text is, or the number that follows the word in it. Letters are of either case.
 pub(crate) fn read_number(names: &[(u16, &'static str)], word: &str, text: &str) -> Option<u16>
-    ensures some { IfSome result (Reads word.now (map (λ named. (named.0, named.1.now)) names.now) text.now) }
+    ensures some { IfSome result (IsMnemonicText word.now (map (λ named. (named.0, named.1.now)) names.now) text.now) }
     ensures none { IfNone result ((number : ℕ)
-        → ¬ Reads word.now (map (λ named. (named.0, named.1.now)) names.now) text.now number) }
+        → ¬ IsMnemonicText word.now (map (λ named. (named.0, named.1.now)) names.now) text.now number) }
 {
     match number_of(names, text) {
         Some(number) => Some(number),

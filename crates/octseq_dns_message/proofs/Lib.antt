@@ -11,6 +11,6 @@ pub mod MessageTexts
 pub mod Messages
 pub mod OptionData
 pub mod Options
-pub mod Places
+pub mod Offsets
 pub mod RecordData
 pub mod Stops

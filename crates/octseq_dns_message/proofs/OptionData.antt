@@ -6,7 +6,7 @@ use Rattle.std.proofs.lemmas.List.{append_cancel_right}
 use Rattle.octseq.specs.Integer.{be}
 use Rattle.octseq.specs.Window.{Window, rest}
 use Rattle.octseq.proofs.Written.{be_cons, be_nil}
-use Rattle.octseq_dns_data.specs.Data.{HasOctets}
+use Rattle.octseq_dns_data.specs.Data.{HasOctetCount}
 use Rattle.octseq_dns_data.specs.Format.{IsNumber, one_number}
 use Rattle.octseq_dns_message.specs.Opt.{EdnsOption}
 use Rattle.octseq_dns_message.specs.OptionData.{ClientSubnet, Cookie, ExtendedError, OptionData}
@@ -43,7 +43,7 @@ cookie_from : List ℕ × Window → Cookie
 cookie_from parts = record { client = parts.0; server = parts.1 }
 
 -- a cookie has the parts that were found
-pub cookie_is : (w v : Window) (a b : Cookie) → (HasOctets 8 then IsRest) w (a.client, a.server) v → IsCookie w b
+pub cookie_is : (w v : Window) (a b : Cookie) → (HasOctetCount 8 then IsRest) w (a.client, a.server) v → IsCookie w b
     → b ≡ a
 unfolding cookie_from
 cookie_is w v a b is y =

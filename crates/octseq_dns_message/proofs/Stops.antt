@@ -1,4 +1,4 @@
--- Reading stops at one place.
+-- Reading stops at one offset.
 use Rattle.std.proofs.Common.{◌≡◌, ◌∙◌, ◌+◌, ℕ, zero, suc, List, inl, inr, refl, sym, subst, arith}
 use Rattle.octseq.specs.Window.{Window, whole}
 use Rattle.octseq_dns_message.proofs.Headers.{one_header}
@@ -9,9 +9,9 @@ use Rattle.octseq_dns_message.specs.declared.header.HeaderCounts.{HeaderCounts}
 use Rattle.octseq_dns_message.specs.Stop.{IsStop, QuestionsStop, RecordsStop}
 
 -- one more record was skipped
-pub record_step : (left count place : ℕ) (w v : Window) (r : Record) → left ≡ suc count → IsRecord w r v
-    → RecordsStop count v place → RecordsStop left w place
-record_step left count place w v r e is stop = subst (λ n. RecordsStop n w place) (sym e) (inl (r, v, is, stop))
+pub record_step : (left count offset : ℕ) (w v : Window) (r : Record) → left ≡ suc count → IsRecord w r v
+    → RecordsStop count v offset → RecordsStop left w offset
+record_step left count offset w v r e is stop = subst (λ n. RecordsStop n w offset) (sym e) (inl (r, v, is, stop))
 
 -- no record is there
 pub record_stop : (left count : ℕ) (w : Window) → left ≡ suc count → ((r : Record) (v : Window) → ¬ IsRecord w r v)
@@ -19,10 +19,10 @@ pub record_stop : (left count : ℕ) (w : Window) → left ≡ suc count → ((r
 record_stop left count w e none = subst (λ n. RecordsStop n w w.position) (sym e) (inr (none, refl))
 
 -- one more question was skipped
-pub question_step : (left count records place : ℕ) (w v : Window) (q : Question) → left ≡ suc count → IsQuestion w q v
-    → QuestionsStop count records v place → QuestionsStop left records w place
-question_step left count records place w v q e is stop =
-    subst (λ n. QuestionsStop n records w place) (sym e) (inl (q, v, is, stop))
+pub question_step : (left count records offset : ℕ) (w v : Window) (q : Question) → left ≡ suc count → IsQuestion w q v
+    → QuestionsStop count records v offset → QuestionsStop left records w offset
+question_step left count records offset w v q e is stop =
+    subst (λ n. QuestionsStop n records w offset) (sym e) (inl (q, v, is, stop))
 
 -- no question is there
 pub question_stop : (left count records : ℕ) (w : Window) → left ≡ suc count
@@ -49,7 +49,7 @@ one_questions (suc count) records w x y (inl (r, v, is, p)) (inr (none, e)) = ab
 one_questions (suc count) records w x y (inr (none, e)) (inl (r, v, is, p)) = absurd (none r v is)
 one_questions (suc count) records w x y (inr (none, e)) (inr (also, f)) = e ∙ sym f
 
--- reading stops at one place
+-- reading stops at one offset
 pub one_stop : (octets : List ℕ) (x y : ℕ) → IsStop octets x → IsStop octets y → x ≡ y
 one_stop octets x y (inl (long, e)) (inl (also, f)) = e ∙ sym f
 one_stop octets x y (inl (long, e)) (inr (inl (few, none, f))) = absurd (omega arith)

@@ -2,13 +2,13 @@
 -- each alias one for the root and one for each label. Each pointer takes one more.
 use Rattle.std.specs.Prelude.{ℕ, zero, suc, ◌+◌, List, [], ◌∷◌, length}
 use mathlib.Core.Logic.{inl, inr}
-use Rattle.octseq_dns_message.specs.Canonical.{LeadsTo, Chain, IsCanonical}
+use Rattle.octseq_dns_message.specs.Canonical.{IsAliasOf, Chain, IsCanonicalName}
 use Rattle.octseq_dns_message.specs.Entry.{Question, Record}
 use Rattle.octseq_dns_name.specs.Name.{Name}
 use Rattle.octseq_dns_name.specs.NameFormat.{least_turns}
 
 -- the records up to the first one that makes the name an alias, and its target
-abbrev pub alias_turns : (class : ℕ) (records : List Record) (name target : Name) → LeadsTo class records name target
+abbrev pub alias_turns : (class : ℕ) (records : List Record) (name target : Name) → IsAliasOf class records name target
     → ℕ
 alias_turns class [] name target is = 0
 alias_turns class (r ∷ records) name target (inl is) = 1 + least_turns target
@@ -23,6 +23,6 @@ chain_turns class records (suc n) name last is =
 
 -- those from the qname of the first question to the canonical name
 abbrev pub canonical_turns : (questions : List Question) (answers : List Record) (last : Name)
-    → IsCanonical questions answers last → ℕ
+    → IsCanonicalName questions answers last → ℕ
 canonical_turns [] answers last is = 0
 canonical_turns (q ∷ questions) answers last is = chain_turns q.qclass answers is.0 q.qname last is.2

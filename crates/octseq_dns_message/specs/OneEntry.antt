@@ -24,13 +24,6 @@ record_parts r = (r.owner, (r.rtype, (r.class, (r.ttl, r.rdata))))
 abbrev record_from : Name × (ℕ × (ℕ × (ℕ × Window))) → Record
 record_from r = record { owner = r.0; rtype = r.1.0; class = r.1.1.0; ttl = r.1.1.1.0; rdata = r.1.1.1.1 }
 
-pub one_question : IsOne IsQuestion
-one_question = one_by question_parts question_from (λ _. refl) (one_named one_then one_number 2 one_then one_number 2)
-
-pub one_record : IsOne IsRecord
-one_record = one_by record_parts record_from (λ _. refl)
-    (one_named one_then one_number 2 one_then one_number 2 one_then one_number 4 one_then one_data)
-
 -- codes of entries, so that lists of them are equal in at most one way
 abbrev pub question_code : Coded Question
 question_code = code_by (Name × (ℕ × ℕ)) (coded× name_code (coded× coded_ℕ coded_ℕ))
@@ -42,6 +35,15 @@ record_code = code_by (Name × (ℕ × (ℕ × (ℕ × Window))))
     (coded× name_code (coded× coded_ℕ (coded× coded_ℕ (coded× coded_ℕ window_code))))
     (λ r. (r.owner, (r.rtype, (r.class, (r.ttl, r.rdata)))))
     (λ c. record { owner = c.0; rtype = c.1.0; class = c.1.1.0; ttl = c.1.1.1.0; rdata = c.1.1.1.1 }) (λ _. refl)
+
+-- ---- lemmas: proved below this line, so what the words mean is read above it
+
+pub one_question : IsOne IsQuestion
+one_question = one_by question_parts question_from (λ _. refl) (one_named one_then one_number 2 one_then one_number 2)
+
+pub one_record : IsOne IsRecord
+one_record = one_by record_parts record_from (λ _. refl)
+    (one_named one_then one_number 2 one_then one_number 2 one_then one_number 4 one_then one_data)
 
 pub questions_once : (w : Window) (count : ℕ) → IsProp (Holds IsQuestion w count)
 questions_once = held_once question_code IsQuestion one_question

@@ -4,7 +4,7 @@ use Rattle.std.specs.Prelude.{◌≡◌, ℕ, ◌+◌, ◌-◌, ◌*◌, ◌/◌
 use Rattle.std.specs.Str.{IsUtf8}
 use Rattle.octseq.specs.Integer.{be}
 use Rattle.octseq.specs.Window.{Window, left, rest}
-use Rattle.octseq_dns_data.specs.Data.{HasOctets}
+use Rattle.octseq_dns_data.specs.Data.{HasOctetCount}
 use Rattle.octseq_dns_data.specs.Format.{IsNumber}
 use Rattle.octseq_dns_message.specs.Opt.{EdnsOption}
 use Rattle.octseq_format.specs.Pair.{◌then◌}
@@ -27,7 +27,7 @@ abbrev pub HoldsBits : ℕ → List ℕ → Type 0
 HoldsBits bits octets = (length octets ≡ (bits + 7) / 8) × (be octets % 2 ^ (8 * length octets - bits) ≡ 0)
 
 -- Neither prefix is longer than an address of the family, and the address holds the bits of the source prefix.
-pub record IsPrefix (it : ClientSubnet) : Type 0 where
+pub record IsSubnet (it : ClientSubnet) : Type 0 where
   pub bits : ℕ
   pub family : HasAddressesOf it.family bits
   pub source : it.source_prefix_len ≤ bits
@@ -39,7 +39,7 @@ pub record IsClientSubnet (w : Window) (it : ClientSubnet) : Type 0 where
   pub end : Window
   pub parts : (IsNumber 2 then IsNumber 1 then IsNumber 1 then IsRest) w
       (it.family, (it.source_prefix_len, (it.scope_prefix_len, it.address))) end
-  pub prefix : IsPrefix it
+  pub prefix : IsSubnet it
 
 -- A cookie: that of the client, and that of the server, which may be empty.
 pub record Cookie : Type 0 where
@@ -49,7 +49,7 @@ pub record Cookie : Type 0 where
 -- it has 8 octets of the client, and none or 8 to 32 of the server
 pub record IsCookie (w : Window) (it : Cookie) : Type 0 where
   pub end : Window
-  pub parts : (HasOctets 8 then IsRest) w (it.client, it.server) end
+  pub parts : (HasOctetCount 8 then IsRest) w (it.client, it.server) end
   pub server : (left it.server ≡ 0) ⊎ (8 ≤ left it.server) × (left it.server ≤ 32)
 
 -- An extended error: its code, and an extra text.

@@ -11,7 +11,7 @@ ghost use Rattle.octseq_dns_message.specs.declared.header.HeaderCounts.{HeaderCo
 ghost use Rattle.octseq_format.specs.Row.{Holds, Many};
 
 use crate::header::{Header, HeaderCounts, Numbers};
-use crate::message::sections::{pass_questions, pass_records};
+use crate::message::sections::{read_questions, read_records};
 use octseq::builder::infallible;
 use octseq::{AsOctets, Parser, Turns};
 use octseq_dns_name::Malformed;
@@ -22,7 +22,7 @@ mod canonical;
 mod collect;
 mod edns;
 mod limited;
-mod place;
+mod offset;
 mod question;
 mod record;
 mod records;
@@ -34,7 +34,7 @@ pub use crate::message::asked::NotOneQuestion;
 pub use crate::message::canonical::{ALIAS_MAX, one_canonical_name};
 pub use crate::message::collect::Sections;
 pub use crate::message::limited::RecordsOfType;
-pub use crate::message::place::{one_place_of_a_fault, place_of_fault};
+pub use crate::message::offset::{fault_offset, one_offset_of_a_fault};
 pub use crate::message::question::Question;
 pub use crate::message::record::Record;
 pub use crate::message::records::{AllRecords, Section};
@@ -159,13 +159,13 @@ impl<R: AsOctets + Copy> Message<R> {
         }
         let header = Numbers::parse(&mut parser)?;
         let questions = parser.pos() as u16;
-        pass_questions(&mut parser, header.counts.qdcount, turns)?;
+        read_questions(&mut parser, header.counts.qdcount, turns)?;
         let answers = parser.pos() as u16;
-        pass_records(&mut parser, header.counts.ancount, turns)?;
+        read_records(&mut parser, header.counts.ancount, turns)?;
         let authorities = parser.pos() as u16;
-        pass_records(&mut parser, header.counts.nscount, turns)?;
+        read_records(&mut parser, header.counts.nscount, turns)?;
         let additionals = parser.pos() as u16;
-        pass_records(&mut parser, header.counts.arcount, turns)?;
+        read_records(&mut parser, header.counts.arcount, turns)?;
         if parser.remaining() > 0 {
             return Err(Malformed);
         }

@@ -27,7 +27,8 @@ Something start w = (labels : List (List ℕ)) × (pointers : ℕ) × (end : Win
 -- A step to the next piece succeeds if it is only refused when there is none, and what is known leads there.
 pub ok_where_known : {T E : Type 0} (result : Result T E) (first : ℕ) (w : Window) (start : ℕ) (v : Window)
     → Ahead first w
-    → ((labels : List (List ℕ)) (pointers : ℕ) (end : Window) → HasLabels first w labels pointers end → Something start v)
+    → ((labels : List (List ℕ)) (pointers : ℕ) (end : Window) → HasLabels first w labels pointers end
+    → Something start v)
     → (IsErr result → (p : Piece) (u : Window) → HasPiece start v p u → ⊥) → IsOk result
 ok_where_known result first w start v known leads refused = ok_unless result (λ err.
     ∥∥₁_elim known.1 (λ a b. absurd a) (λ x.

@@ -9,7 +9,7 @@ use Rattle.octseq_dns_name.specs.Name.{HasRoot, HasLabel, HasPointer, HasLabels,
 use Rattle.octseq_dns_name.specs.NameFormat.{has_labels_takes}
 use Rattle.octseq_dns_name.specs.OneName.{at_label, at_pointer, one_has_labels, one_labels, one_name, Named, Ahead}
 use Rattle.octseq_dns_name.specs.OneName.{ahead_once}
-use Rattle.octseq_dns_name.specs.Pass.{LeadsTo, Reading}
+use Rattle.octseq_dns_name.specs.Pass.{LeadsTo, NameReading}
 use Rattle.octseq_dns_name.specs.Piece.{Piece, HasPiece, end_of}
 
 -- ---- what is ahead
@@ -121,13 +121,14 @@ name_takes w v labels name = has_labels_takes w.position w v labels name.pointer
 -- ---- the reader
 
 -- a reading begins with no labels, whose wire form is the root's one octet, with no pointer and no turn
-pub begun : (w : Window) (old : ℕ) → Reading w w.position w 1 0 None old old
+pub begun : (w : Window) (old : ℕ) → NameReading w w.position w 1 0 None old old
 begun w old = record { labels = []; read = leads_none w.position w; size_is = refl; counted = omega arith }
 
 -- the reading goes on after a label, whose octets and the one of its length are counted
 pub with_label : (w : Window) (start : ℕ) (v u : Window) (size made pointers : ℕ) (after : Option Window) (l : List ℕ)
-    (old before new : ℕ) → Reading w start v size pointers after old before
-    → HasLabel v l u → made ≡ size + (1 + length l) → new ≡ before + 1 → Reading w start u made pointers after old new
+    (old before new : ℕ) → NameReading w start v size pointers after old before
+    → HasLabel v l u → made ≡ size + (1 + length l) → new ≡ before + 1
+    → NameReading w start u made pointers after old new
 with_label w start v u size made pointers after l old before new so_far has is tick = record {
   labels = so_far.labels ++ l ∷ [];
   read = leads_past_label w.position w start v u so_far.labels pointers l after so_far.read has;
@@ -138,9 +139,9 @@ with_label w start v u size made pointers after l old before new so_far has is t
 
 -- the reading goes on where a pointer leads, with one more pointer and no more octets
 pub with_pointer : (w : Window) (start : ℕ) (v u : Window) (size pointers : ℕ) (after : Option Window) (to : ℕ)
-    (old before new : ℕ) → Reading w start v size pointers after old before
+    (old before new : ℕ) → NameReading w start v size pointers after old before
     → HasPointer start v to u → new ≡ before + 1
-    → Reading w to (at to v) size (pointers + 1) (Some (end_of after u)) old new
+    → NameReading w to (at to v) size (pointers + 1) (Some (end_of after u)) old new
 with_pointer w start v u size pointers after to old before new so_far has tick = record {
   labels = so_far.labels;
   read = leads_past_pointer w.position w start v u so_far.labels pointers to after so_far.read has;

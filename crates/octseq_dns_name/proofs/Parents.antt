@@ -44,7 +44,8 @@ name_after w place began on end l labels next takes ordered name =
     let taken = takes labels name.pointers end name.has_labels in
     let size = ap wire_length taken.3 in
     let short = name.short in
-    let few = few_after w.position w place began on end taken.2 labels taken.0 name.pointers taken.1 next name.has_labels
+    let few = few_after w.position w place began on end taken.2 labels taken.0 name.pointers taken.1 next
+    name.has_labels
     taken.4 in
     let most = name.few in (
       taken.0,

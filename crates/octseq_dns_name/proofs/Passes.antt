@@ -1,6 +1,7 @@
 -- How a name is passed by its octets.
 use Rattle.std.proofs.Common.{◌≡◌, ℕ, ◌+◌, ◌-◌, ◌*◌, ◌<◌, ◌≤◌, List, ◌++◌, length, take, drop, get_or}
-use Rattle.std.proofs.Common.{inl, inr, min, None, Option, Some, refl, sym, ap, ◌∙◌, subst, arith, length-append, length-take}
+use Rattle.std.proofs.Common.{inl, inr, min, None, Option, Some, refl, sym, ap, ◌∙◌, subst, arith, length-append}
+use Rattle.std.proofs.Common.{length-take}
 use Rattle.std.proofs.Common.{length-drop}
 use Rattle.std.proofs.lemmas.Bool.{cases_lt}
 use Rattle.std.proofs.lemmas.List.{drop_more}
@@ -10,7 +11,17 @@ use Rattle.octseq_dns_name.specs.Name.{HasRoot, HasLabel, HasPointer, IsName, oc
 use Rattle.octseq.proofs.Written.{be_one}
 use Rattle.octseq_dns_name.specs.NameTurns.{name_turns}
 use Rattle.octseq_dns_name.specs.OneName.{one_has_labels}
-use Rattle.octseq_dns_name.specs.Pass.{window_at, place_in, NoName, NoRest, LeadsTo, Reading, PassesLabels, Rests, Ends}
+use Rattle.octseq_dns_name.specs.Pass.{
+  window_at,
+  place_in,
+  NoName,
+  NoRest,
+  LeadsTo,
+  NameReading,
+  PassesLabels,
+  Rests,
+  NameEnds,
+}
 use Rattle.octseq_dns_name.specs.Piece.{Piece, HasPiece, end_of}
 use Rattle.octseq_dns_name.proofs.Names.{begun, no_piece, leads_past_pointer, leads_to_root, with_label}
 use Rattle.octseq_dns_name.proofs.Names.{with_pointer, wire_append, wire_some}
@@ -131,7 +142,7 @@ none_at_end start w none (Piece.pointer to) v has = let room = has.room in omega
 
 -- labels that are too long are not a name, whatever follows
 too_long : (w : Window) (start : ℕ) (v : Window) (size pointers : ℕ) (after : Option Window) (old new : ℕ)
-    → Reading w start v size pointers after old new → 255 < size → NoName w
+    → NameReading w start v size pointers after old new → 255 < size → NoName w
 too_long w start v size pointers after old new so_far long labels end name =
     let on = so_far.read.backward labels name.pointers end name.has_labels in
     let both = wire_append so_far.labels on.more in
@@ -143,7 +154,7 @@ too_long w start v size pointers after old new so_far long labels end name =
 
 -- nor is what has no next piece
 no_next : (w : Window) (start : ℕ) (v : Window) (size pointers : ℕ) (after : Option Window) (old new : ℕ)
-    → Reading w start v size pointers after old new
+    → NameReading w start v size pointers after old new
     → ((p : Piece) (u : Window) → HasPiece start v p u → ⊥) → NoName w
 no_next w start v size pointers after old new so_far none labels end name =
     let on = so_far.read.backward labels name.pointers end name.has_labels in
@@ -152,13 +163,13 @@ no_next w start v size pointers after old new so_far none labels end name =
 -- labels lead from a place to another
 abbrev pub ReadsTo : List ℕ → ℕ → ℕ → ℕ → ℕ → ℕ → Type 0
 ReadsTo octets place end to old new =
-    Reading (window_at octets place end) place (window_at octets to end) (to + 1 - place) 0 None old new
+    NameReading (window_at octets place end) place (window_at octets to end) (to + 1 - place) 0 None old new
 
 -- no label was read yet
 pub reads_none : (octets : List ℕ) (place end old : ℕ) → ReadsTo octets place end place old old
 reads_none octets place end old =
     let w = window_at octets place end in
-    subst (λ size. Reading w place w size 0 None old old) (omega arith) (begun w old)
+    subst (λ size. NameReading w place w size 0 None old old) (omega arith) (begun w old)
 
 module _ (octets : List ℕ) (place end to size old before new : ℕ) (within : end ≤ length octets) (ordered : place ≤ to)
     (room : to < end) (is : get_or octets to 0 ≡ size) (some : 1 ≤ size) (short : size ≤ 63)
@@ -175,7 +186,8 @@ module _ (octets : List ℕ) (place end to size old before new : ℕ) (within : 
 
     -- and no name, if it isn't
     pub cuts_label : end < to + (1 + size) → NoName (window_at octets place end)
-    cuts_label cut = no_next (window_at octets place end) place (window_at octets to end) (to + 1 - place) 0 None old before
+    cuts_label cut = no_next (window_at octets place end) place (window_at octets to end)
+        (to + 1 - place) 0 None old before
         so_far
         (none_whole octets to end size within room is place some short cut)
 
@@ -200,13 +212,14 @@ no_more octets place end to old new ordered over inside outside =
 -- labels and pointers lead from the place of the rest to another; what is before the rest is counted too
 abbrev pub RestsTo : List ℕ → ℕ → ℕ → ℕ → ℕ → ℕ → ℕ → ℕ → ℕ → ℕ → Type 0
 RestsTo octets on end start to before len pointers old new = (after : Option Window)
-    × Reading (window_at octets on end) start (window_at octets to end) (len + 1 - before) (pointers - 1) after old new
+    × NameReading (window_at octets on end) start (window_at octets to end) (len + 1 - before)
+    (pointers - 1) after old new
 
 -- nothing was read yet
 pub rests_none : (octets : List ℕ) (on end before old : ℕ) → RestsTo octets on end on on before before 1 old old
 rests_none octets on end before old =
     let w = window_at octets on end in
-    (None, subst (λ size. Reading w on w size 0 None old old) (omega arith) (begun w old))
+    (None, subst (λ size. NameReading w on w size 0 None old old) (omega arith) (begun w old))
 
 module _ (octets : List ℕ) (on end start to before len pointers old between : ℕ)
     (so_far : RestsTo octets on end start to before len pointers old between) (fewer : before ≤ len)
@@ -243,9 +256,10 @@ module _ (octets : List ℕ) (on end start to before len pointers old between : 
         let u = window_at octets (to + 2) end in
         let same : pointers - 1 + 1 ≡ pointers + 1 - 1 = omega (arith, some) in (
           Some (end_of so_far.0 u),
-          subst (λ n. Reading (window_at octets on end) next (window_at octets next end)
+          subst (λ n. NameReading (window_at octets on end) next (window_at octets next end)
               (len + 1 - before) n (Some (end_of so_far.0 u)) old new) same
-              (with_pointer (window_at octets on end) start (window_at octets to end) u (len + 1 - before) (pointers - 1)
+              (with_pointer (window_at octets on end) start (window_at octets to end) u (len + 1 - before)
+              (pointers - 1)
               so_far.0 next old between new so_far.1 has tick),
         )
 
@@ -258,7 +272,8 @@ module _ (octets : List ℕ) (on end start to before len pointers old between : 
           let long = has.1 in (
             so_far.0,
             with_label (window_at octets on end) start (window_at octets to end)
-                (window_at octets (to + (1 + size)) end) (len + 1 - before) (len + (1 + size) + 1 - before) (pointers - 1)
+                (window_at octets (to + (1 + size)) end) (len + 1 - before) (len + (1 + size) + 1 - before)
+                (pointers - 1)
                 so_far.0 has.0 old between new so_far.1 has.2 (omega (arith, long, fewer)) tick,
           )
 
@@ -290,7 +305,8 @@ module _ (octets : List ℕ) (place end to old before between : ℕ) (within : e
     (passes : PassesLabels (window_at octets place end) to before between) (tick : before ≡ old + 1)
   where
     -- the labels end with the root
-    pub ends_plain : get_or octets to 0 ≡ 0 → Ends (window_at octets place end) (to + 1) (to - place + 1) old between
+    pub ends_plain : get_or octets to 0 ≡ 0
+        → NameEnds (window_at octets place end) (to + 1) (to - place + 1) old between
     ends_plain zero =
         let so_far = passes.reading in
         let ordered = passes.ordered in
@@ -336,7 +352,7 @@ module _ (octets : List ℕ) (place end to old before between : ℕ) (within : e
 
         -- the rest is where the pointer leads
         pub ends_pointed : (len new : ℕ) → Rests (window_at octets on end) (to - place + 1) len later new
-            → Ends (window_at octets place end) (to + 2) len old new
+            → NameEnds (window_at octets place end) (to + 2) len old new
         ends_pointed len new rests =
             let so_far = passes.reading in
             let ordered = passes.ordered in
@@ -410,7 +426,7 @@ pub own_window : (w : Window) (octets : List ℕ) (place end : ℕ) → octets �
 own_window w octets place end same begins ends i = record { octets = same i; position = begins i; end = ends i }
 
 -- a name has the same turns however it is read
-pub ends_counted : (w : Window) (place len old new : ℕ) → Ends w place len old new → (labels : List (List ℕ))
+pub ends_counted : (w : Window) (place len old new : ℕ) → NameEnds w place len old new → (labels : List (List ℕ))
     (end : Window) (name : IsName w labels end) → new ≡ old + name_turns name
 ends_counted w place len old new ends labels end name =
     let same = one_has_labels w.position w (at place w) end ends.labels labels ends.name.pointers name.pointers

@@ -2,7 +2,7 @@
 use Rattle.std.proofs.Common.{◌≡◌, ℕ, ◌+◌, ◌-◌, ◌<◌, ◌≤◌, List, [], ◌∷◌, ◌++◌, length, refl, sym, ap, ◌∙◌}
 use Rattle.std.proofs.Common.{append_assoc, arith}
 use Rattle.octseq_dns_name.specs.Name.{wire_length}
-use Rattle.octseq_dns_name.specs.Refused.{Reads, SpellsNone}
+use Rattle.octseq_dns_name.specs.Refused.{ReadsLabelPart, SpellsNone}
 use Rattle.octseq_dns_name.specs.Spelling.{SpellsLabel, SpellsLabels}
 use Rattle.octseq_dns_name.specs.Wire.{AreLabels}
 use Rattle.octseq_dns_name.proofs.Names.{wire_some}
@@ -48,13 +48,14 @@ at_full_stop label rest few = (omega (arith, few), λ _. none_at 46 rest refl (�
 
 -- After labels of a wire length no whole label follows that fits.
 pub record Ends (most total : ℕ) (ahead label rest : List ℕ) : Type 0 where
-  pub reads : Reads ahead label rest
+  pub reads : ReadsLabelPart ahead label rest
   pub stopped : IsStopped 64 label rest
   pub long : (more : List ℕ) → rest ≡ 46 ∷ more → 1 ≤ length label → length label ≤ 63
       → most < total + 1 + length label
 
 none_follows : (most total : ℕ) (ahead label rest other more : List ℕ) → Ends most total ahead label rest
-    → Reads ahead other (46 ∷ more) → 1 ≤ length other → length other ≤ 63 → total + 1 + length other ≤ most → ⊥
+    → ReadsLabelPart ahead other (46 ∷ more) → 1 ≤ length other → length other ≤ 63 → total + 1 + length other ≤ most
+    → ⊥
 none_follows most total ahead label rest other more end read some few fits =
     let same = one_run 64 label other end.reads.0 read.0 rest (46 ∷ more) end.reads.2 read.2
     (sym end.reads.1 ∙ read.1) end.stopped (at_full_stop other more few) in
@@ -64,7 +65,7 @@ none_follows most total ahead label rest other more end read some few fits =
 
 -- the label that comes next in a text
 next_reads : (label : List ℕ) (labels : List (List ℕ)) (s xs : List ℕ) (one : SpellsLabels (label ∷ labels) s)
-    (text : List ℕ) → text ≡ s ++ xs → Reads text label (46 ∷ (one.1 ++ xs))
+    (text : List ℕ) → text ≡ s ++ xs → ReadsLabelPart text label (46 ∷ (one.1 ++ xs))
 next_reads label labels s xs one text is =
     (one.0, is ∙ ap (λ l. l ++ xs) one.2 ∙ append_assoc one.0 (46 ∷ one.1) xs, one.3)
 
@@ -117,6 +118,7 @@ pub stops_once : (most : ℕ) (text : List ℕ) (labels others : List (List ℕ)
     → StopsAt most text labels label rest → StopsAt most text others other more
     → (labels ≡ others) × (label ≡ other) × (rest ≡ more)
 stops_once most text labels others label other rest more here there =
-    one_place most 0 (wire_length labels) (wire_length others) labels others here.first there.first here.ahead there.ahead
+    one_place most 0 (wire_length labels)
+    (wire_length others) labels others here.first there.first here.ahead there.ahead
     label other rest more here.spells there.spells (sym here.text_is ∙ there.text_is) here.each there.each
     (omega arith) (omega arith) here.fits there.fits here.ends there.ends

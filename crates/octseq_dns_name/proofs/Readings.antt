@@ -6,7 +6,7 @@ use Rattle.std.proofs.lemmas.Bool.{le-leb, lt-leb}
 use Rattle.std.proofs.lemmas.List.{append-nil}
 use Rattle.octseq_dns_name.specs.Name.{wire_length}
 use Rattle.octseq_dns_name.specs.Origin.{SpellsRelative, SpellsWithOrigin, IsLongWithOrigin, IsRefusedWithOrigin}
-use Rattle.octseq_dns_name.specs.Refused.{Reads, ReadsLabels, SpellsNone, IsFault, IsRefused}
+use Rattle.octseq_dns_name.specs.Refused.{ReadsLabelPart, ReadsLabels, SpellsNone, IsLabelFault, IsNameRefused}
 use Rattle.octseq_dns_name.specs.Spelling.{SpellsName}
 use Rattle.octseq_dns_name.specs.Wire.{AreLabels}
 use Rattle.octseq_dns_name.specs.declared.error.FromTextError.{FromTextError}
@@ -69,7 +69,8 @@ short_given late labels label rest few =
 abbrev NoStop : List ℕ → Type 0
 NoStop rest = (more : List ℕ) → ¬ (rest ≡ 46 ∷ more)
 
-stop_ends : (most total : ℕ) (ahead label rest : List ℕ) → Reads ahead label rest → length label ≤ 63 → SpellsNone rest
+stop_ends : (most total : ℕ) (ahead label rest : List ℕ) → ReadsLabelPart ahead label rest → length label ≤ 63
+    → SpellsNone rest
     → NoStop rest → Ends most total ahead label rest
 stop_ends most total ahead label rest read few none no_stop = record {
   reads = read;
@@ -105,7 +106,7 @@ ends_soon late labels [] soon (inr some) = absurd (omega (arith, some))
 
 fault_at : (late : Late) (fault : FromTextError) (labels : List (List ℕ)) (ahead : List ℕ) → ((label : List ℕ)
     → fault ≡ FromTextError.UnexpectedEnd → 1 ≤ length label → late labels label ≡ Given.refused fault)
-    → IsFault fault labels ahead → FaultAt late fault labels ahead
+    → IsLabelFault fault labels ahead → FaultAt late fault labels ahead
 fault_at late FromTextError.UnexpectedEnd labels ahead soon (label, read, few, why) = (
   label,
   [],
@@ -177,7 +178,7 @@ stops_at text labels ahead label rest read ends = record {
 
 refused_gives : (late : Late) (fault : FromTextError) (text : List ℕ) → ((labels : List (List ℕ)) (label : List ℕ)
     → fault ≡ FromTextError.UnexpectedEnd → 1 ≤ length label → late labels label ≡ Given.refused fault)
-    → IsRefused fault text → Gives 255 late text (Given.refused fault)
+    → IsNameRefused fault text → Gives 255 late text (Given.refused fault)
 refused_gives late fault text soon (root, labels, ahead, read, is) =
     let at = fault_at late fault labels ahead (soon labels) is in
     (labels, at.0, at.1, stops_at text labels ahead at.0 at.1 read at.2, at.3)
@@ -186,7 +187,7 @@ refused_gives late fault text soon (root, labels, ahead, read, is) =
 abbrev too_soon : Late
 too_soon labels label = Given.refused FromTextError.UnexpectedEnd
 
-plain_gives : (fault : FromTextError) (text : List ℕ) → IsRefused fault text
+plain_gives : (fault : FromTextError) (text : List ℕ) → IsNameRefused fault text
     → Gives 255 too_soon text (Given.refused fault)
 plain_gives fault text = refused_gives too_soon fault text (λ _ _ is _. ap Given.refused (sym is))
 
@@ -222,7 +223,7 @@ late_gives : (most : ℕ) (late : Late) (labels : List (List ℕ)) (label text :
     → Gives most late text (late labels label)
 late_gives most late labels [] text each fits few (first, last, is, spells, one, some) = absurd (omega (arith, some))
 late_gives most late labels (octet ∷ label) text each fits few (first, last, is, spells, one, some) =
-    let read : Reads last (octet ∷ label) [] = (last, sym (append-nil last), one) in (
+    let read : ReadsLabelPart last (octet ∷ label) [] = (last, sym (append-nil last), one) in (
       labels,
       octet ∷ label,
       [],
@@ -296,7 +297,8 @@ name_gives most late (x ∷ labels) text each fits spells = (
       spells = spells;
       each = each;
       fits = fits;
-      ends = stop_ends most (wire_length (x ∷ labels)) [] [] [] ([], refl, refl) (omega arith) none_at_end no_stop_at_end;
+      ends = stop_ends most (wire_length (x ∷ labels)) [] [] [] ([], refl, refl)
+          (omega arith) none_at_end no_stop_at_end;
     },
     refl,
   ),
@@ -330,7 +332,8 @@ spelled_gives most origin labels text each fits (inr (inr (own, label, spells, i
     let both = wire_append own (label ∷ origin) in
     let some = wire_some (label ∷ origin) in (
       with_origin most origin own label,
-      late_gives most (with_origin most origin) own label text own_are.0 (omega (arith, all, both, some, fits)) own_are.1
+      late_gives most (with_origin most origin) own label text own_are.0
+          (omega (arith, all, both, some, fits)) own_are.1
           spells,
       inl (inl (ap (λ b. if b then Given.named (own ++ label ∷ origin) else Given.refused FromTextError.LongName)
           (le-leb (wire_length (own ++ label ∷ origin)) most (omega (arith, all, fits)))
@@ -375,7 +378,7 @@ name_once labels others text are others_are one two =
     (inl one) (inl two)
 
 -- a text is refused for one fault
-pub one_reason : (fault other : FromTextError) (text : List ℕ) → IsRefused fault text → IsRefused other text
+pub one_reason : (fault other : FromTextError) (text : List ℕ) → IsNameRefused fault text → IsNameRefused other text
     → fault ≡ other
 one_reason fault other text one two =
     let same = gives_once 255 too_soon text (Given.refused fault) (Given.refused other) (plain_gives fault text one)
@@ -395,7 +398,7 @@ not_whole : (fault : FromTextError) (labels : List (List ℕ)) (text : List ℕ)
 not_whole fault labels text it same root (inl is) = let e = same ∙ is in cc
 not_whole fault labels text it same root (inr is) = let e = same ∙ is.0 in root (cc) is.1
 
-pub no_name : (fault : FromTextError) (text : List ℕ) → IsRefused fault text → (labels : List (List ℕ))
+pub no_name : (fault : FromTextError) (text : List ℕ) → IsNameRefused fault text → (labels : List (List ℕ))
     → AreLabels labels → wire_length labels ≤ 255 → ¬ SpellsName labels text
 no_name fault text is labels are short spells =
     let read = name_gives 255 too_soon labels text are short spells in

@@ -6,7 +6,15 @@ use Rattle.std.proofs.lemmas.List.{append-nil}
 use Rattle.octseq_dns_name.specs.Name.{wire_length}
 use Rattle.octseq_dns_name.specs.NameFormat.{bodies, wire_more}
 use Rattle.octseq_dns_name.specs.Origin.{SpellsWithOrigin, IsRefusedWithOrigin}
-use Rattle.octseq_dns_name.specs.Refused.{Reads, ReadsLabels, ReadsAll, SpellsNone, IsIllegal, IsFault, IsRefused}
+use Rattle.octseq_dns_name.specs.Refused.{
+  ReadsLabelPart,
+  ReadsLabels,
+  ReadsAll,
+  SpellsNone,
+  IsIllegal,
+  IsLabelFault,
+  IsNameRefused,
+}
 use Rattle.octseq_dns_name.specs.Spelling.{SpellsOctet, SpellsLabel, SpellsLabels, SpellsName}
 use Rattle.octseq_dns_name.specs.Wire.{wire, AreLabels, IsWireOf}
 use Rattle.octseq_dns_name.specs.declared.error.FromTextError.{FromTextError}
@@ -34,8 +42,8 @@ octet_more (x ∷ label) first octet s so_far one = (
 )
 
 -- one more octet
-pub read_octet : (text label ahead s rest : List ℕ) (octet : ℕ) → Reads text label ahead → ahead ≡ s ++ rest
-    → SpellsOctet octet s → Reads text (label ++ octet ∷ []) rest
+pub read_octet : (text label ahead s rest : List ℕ) (octet : ℕ) → ReadsLabelPart text label ahead → ahead ≡ s ++ rest
+    → SpellsOctet octet s → ReadsLabelPart text (label ++ octet ∷ []) rest
 read_octet text label ahead s rest octet so_far here one = (
   so_far.0 ++ s,
   so_far.1 ∙ ap (λ l. so_far.0 ++ l) here ∙ sym (append_assoc so_far.0 s rest),
@@ -44,11 +52,11 @@ read_octet text label ahead s rest octet so_far here one = (
 
 -- no octet comes next
 pub octet_fault : (fault : FromTextError) (labels : List (List ℕ)) (text label : List ℕ) (octet : ℕ) (rest : List ℕ)
-    → Reads text label (octet ∷ rest) → length label ≤ 63 → ¬ (octet ≡ 46) → SpellsNone (octet ∷ rest)
-    → IsIllegal fault octet → IsFault fault labels text
+    → ReadsLabelPart text label (octet ∷ rest) → length label ≤ 63 → ¬ (octet ≡ 46) → SpellsNone (octet ∷ rest)
+    → IsIllegal fault octet → IsLabelFault fault labels text
 octet_fault FromTextError.IllegalEscape labels text label octet rest so_far short no_stop none is =
     let same = ap (λ o. o ∷ rest) is in
-    (label, rest, subst (Reads text label) same so_far, short, subst SpellsNone same none)
+    (label, rest, subst (ReadsLabelPart text label) same so_far, short, subst SpellsNone same none)
 octet_fault FromTextError.IllegalOctet labels text label octet rest so_far short no_stop none is =
     (octet, label, rest, so_far, short, no_stop, is, none)
 octet_fault FromTextError.UnexpectedEnd labels text label octet rest so_far short no_stop none is = absurd is
@@ -75,7 +83,8 @@ labels_more (x ∷ labels) first label s so_far one = (
 
 -- one more label
 pub read_label : (text : List ℕ) (labels : List (List ℕ)) (ahead label rest : List ℕ) → ReadsLabels text labels ahead
-    → Reads ahead label (46 ∷ rest) → 1 ≤ length label → length label ≤ 63 → wire_length (labels ++ label ∷ []) ≤ 255
+    → ReadsLabelPart ahead label (46 ∷ rest) → 1 ≤ length label → length label ≤ 63
+    → wire_length (labels ++ label ∷ []) ≤ 255
     → ReadsLabels text (labels ++ label ∷ []) rest
 read_label text labels ahead label rest so_far one some short fits = (
   so_far.0 ++ (one.0 ++ 46 ∷ []),
@@ -93,12 +102,12 @@ no_bodies [] none = refl
 no_bodies (label ∷ labels) none = let e = ap length none in absurd (omega (arith, e))
 
 -- the text is over where no octets of a label are
-over_at : (rest last : List ℕ) → Reads rest last [] → last ≡ [] → rest ≡ []
+over_at : (rest last : List ℕ) → ReadsLabelPart rest last [] → last ≡ [] → rest ≡ []
 over_at rest last one none = one.1 ∙ ap (λ l. l ++ []) (subst (λ l. SpellsLabel l one.0) none one.2)
 
 -- the text ends too soon: the last label isn't finished
 pub unfinished : (labels : List (List ℕ)) (text last : List ℕ) → ReadsAll text labels last → ¬ (last ≡ [])
-    → ¬ (text ≡ 46 ∷ []) → IsRefused FromTextError.UnexpectedEnd text
+    → ¬ (text ≡ 46 ∷ []) → IsNameRefused FromTextError.UnexpectedEnd text
 unfinished labels text last (rest, read, one, few) some root =
     (root, labels, rest, read, (last, one, few, inr (some_long last some)))
 
@@ -109,7 +118,7 @@ nothing_there content labels text last appended (rest, read, one, few) none over
     let first = subst (λ l. SpellsLabels l read.0) (no_bodies labels (sym appended ∙ none)) read.2 in
     read.1 ∙ ap (λ l. l ++ rest) first ∙ over_at rest last one over
 
-pub nothing_refused : (text : List ℕ) → text ≡ [] → ¬ (text ≡ 46 ∷ []) → IsRefused FromTextError.UnexpectedEnd text
+pub nothing_refused : (text : List ℕ) → text ≡ [] → ¬ (text ≡ 46 ∷ []) → IsNameRefused FromTextError.UnexpectedEnd text
 nothing_refused text is root = (root, [], text, read_no_label text, ([], ([], is, refl), omega arith, inl refl))
 
 -- all of it is whole labels

@@ -4,7 +4,7 @@ use Rattle.std.proofs.Common.{Bor, map, get_or, take, drop, sym, ap, ◌∙◌, 
 use Rattle.std.proofs.Math.Dec.{leb}
 use Rattle.std.proofs.lemmas.Bool.{le-leb, lt-leb}
 use Rattle.std.proofs.lemmas.List.{append-nil, take_more, drop_more, take-append-drop, map-append}
-use Rattle.octseq.specs.Limit.{IsPast}
+use Rattle.octseq.specs.Limit.{ExceedsLimit}
 use Rattle.octseq_dns_name.specs.Name.{wire_length}
 use Rattle.octseq_dns_name.specs.Unfit.{IsWrong, HasWrong, AreUnfit}
 use Rattle.octseq_dns_name.specs.Wire.{AreLabels}
@@ -98,11 +98,14 @@ none_wrong fault labels are fits is =
     let e : Some fault ≡ None = sym (wrong_first fault labels is) ∙ all_right labels are fits in cc
 
 pub none_unfit : (limit : Option ℕ) (labels : List (List ℕ)) → AreLabels labels → wire_length labels ≤ 255
-    → ¬ IsPast limit (wire_length labels) → (fault : FromLabelsError) → ¬ AreUnfit limit fault labels
+    → ¬ ExceedsLimit limit (wire_length labels) → (fault : FromLabelsError) → ¬ AreUnfit limit fault labels
 none_unfit limit labels are fits within FromLabelsError.Short is = within is.2
-none_unfit limit labels are fits within FromLabelsError.EmptyLabel is = none_wrong FromLabelsError.EmptyLabel labels are fits is
-none_unfit limit labels are fits within FromLabelsError.LongLabel is = none_wrong FromLabelsError.LongLabel labels are fits is
-none_unfit limit labels are fits within FromLabelsError.LongName is = none_wrong FromLabelsError.LongName labels are fits is
+none_unfit limit labels are fits within FromLabelsError.EmptyLabel is = none_wrong FromLabelsError.EmptyLabel labels
+    are fits is
+none_unfit limit labels are fits within FromLabelsError.LongLabel is = none_wrong FromLabelsError.LongLabel labels are
+    fits is
+none_unfit limit labels are fits within FromLabelsError.LongName is = none_wrong FromLabelsError.LongName labels are
+    fits is
 none_unfit limit labels are fits within FromLabelsError.Memory is = none_wrong FromLabelsError.Memory labels are fits is
 
 -- ---- slices of octets

@@ -2,7 +2,7 @@
 use Rattle.std.proofs.Common.{◌≡◌, ℕ, ◌+◌, ◌≤◌, Option, List, [], ◌∷◌, ◌++◌, length, refl, sym, ap, ◌∙◌}
 use Rattle.std.proofs.Common.{append_assoc, arith}
 use Rattle.std.proofs.lemmas.List.{append-nil, length-append, flat_map_more}
-use Rattle.octseq.specs.Limit.{IsPast}
+use Rattle.octseq.specs.Limit.{ExceedsLimit}
 use Rattle.octseq.specs.Window.{Window, past, rest, whole}
 use Rattle.octseq.proofs.Codes.{rest_whole}
 use Rattle.octseq.proofs.Limits.{past_more}
@@ -50,7 +50,8 @@ one_more (first ∷ labels) label are some short = (are.0, are.1, one_more label
 -- There is room for octets of what is ahead, after the labels that were appended.
 pub room_ahead : (limit : Option ℕ) (content before : List ℕ) (labels done ahead : List (List ℕ)) (n : ℕ)
     → content ≡ before ++ bodies done → labels ≡ done ++ ahead
-    → n ≤ wire_length ahead → ¬ IsPast limit (length before + wire_length labels) → ¬ IsPast limit (length content + n)
+    → n ≤ wire_length ahead → ¬ ExceedsLimit limit (length before + wire_length labels)
+    → ¬ ExceedsLimit limit (length content + n)
 room_ahead limit content before labels done ahead n appended labels_are few room past =
     let all = ap wire_length labels_are in
     let both = wire_append done ahead in

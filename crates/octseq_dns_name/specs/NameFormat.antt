@@ -27,6 +27,26 @@ pub record NameFits (labels : List (List ℕ)) : Type 0 where
 abbrev pub least_turns : Name → ℕ
 least_turns name = 1 + length name.labels
 
+-- names are equal in at most one way
+abbrev pub name_code : Coded Name
+name_code = code_by (Window × List (List ℕ)) (coded× window_code (coded_list (coded_list coded_ℕ)))
+    (λ n. (n.place, n.labels))
+    (λ c. record { place = c.0; labels = c.1 }) (λ _. refl)
+
+-- ---- what is past a name
+
+-- a window is another one at some position
+abbrev pub IsOf : Window → Window → Type 0
+IsOf w v = (v.octets ≡ w.octets) × (v.end ≡ w.end)
+
+-- ---- its octets
+
+-- labels, each after its length
+abbrev pub bodies : List (List ℕ) → List ℕ
+bodies = flat_map (λ label. length label ∷ label)
+
+-- ---- lemmas: proved below this line, so what the words mean is read above it
+
 -- ---- one name
 
 -- the name with a place and labels
@@ -41,18 +61,6 @@ one_named = record {
       (ap (λ place. name_from place a.labels) (is.0 ∙ sym other.0) ∙ ap (name_from b.place) labels.0, labels.1);
 }
 
--- names are equal in at most one way
-abbrev pub name_code : Coded Name
-name_code = code_by (Window × List (List ℕ)) (coded× window_code (coded_list (coded_list coded_ℕ)))
-    (λ n. (n.place, n.labels))
-    (λ c. record { place = c.0; labels = c.1 }) (λ _. refl)
-
--- ---- what is past a name
-
--- a window is another one at some position
-abbrev pub IsOf : Window → Window → Type 0
-IsOf w v = (v.octets ≡ w.octets) × (v.end ≡ w.end)
-
 -- the window past labels is of the same octets, with the same end
 has_labels_of : (start : ℕ) (w v : Window) (labels : List (List ℕ)) (pointers : ℕ) → HasLabels start w labels pointers v
     → IsOf w v
@@ -64,7 +72,8 @@ has_labels_of start w v labels pointers (HasLabels.pointer has rest) =
     (ap (λ v. v.octets) has.after, ap (λ v. v.end) has.after)
 
 -- and within that end
-has_labels_within : (start : ℕ) (w v : Window) (labels : List (List ℕ)) (pointers : ℕ) → HasLabels start w labels pointers v
+has_labels_within : (start : ℕ) (w v : Window) (labels : List (List ℕ)) (pointers : ℕ)
+    → HasLabels start w labels pointers v
     → v.position ≤ v.end
 has_labels_within start w v labels pointers (HasLabels.root has) =
     let position = ap (λ v. v.position) has.after in
@@ -80,7 +89,8 @@ has_labels_within start w v labels pointers (HasLabels.pointer has rest) =
     omega (arith, position, end, room)
 
 -- a name takes at least one octet
-pub has_labels_takes : (start : ℕ) (w v : Window) (labels : List (List ℕ)) (pointers : ℕ) → HasLabels start w labels pointers v
+pub has_labels_takes : (start : ℕ) (w v : Window) (labels : List (List ℕ)) (pointers : ℕ)
+    → HasLabels start w labels pointers v
     → left v + 1 ≤ left w
 has_labels_takes start w v labels pointers (HasLabels.root has) = let room = has.room in let is = ap left has.after in
     omega (arith, room, is)
@@ -89,7 +99,8 @@ has_labels_takes start w v labels pointers (HasLabels.label {u = u} {labels = mo
     let is = ap left has.after in
     let less = has_labels_takes start u v more pointers rest in
     omega (arith, room, is, less)
-has_labels_takes start w v labels pointers (HasLabels.pointer has rest) = let room = has.room in let is = ap left has.after in
+has_labels_takes start w v labels pointers
+    (HasLabels.pointer has rest) = let room = has.room in let is = ap left has.after in
     omega (arith, room, is)
 
 -- the window past a name is of the same octets, with the same end
@@ -106,12 +117,6 @@ onward_name = record {
       (of.0, of.1, omega (arith, ordered, within, less, end), within);
   less = λ w name v is. has_labels_takes w.position w v name.labels is.1.pointers is.1.has_labels;
 }
-
--- ---- its octets
-
--- labels, each after its length
-abbrev pub bodies : List (List ℕ) → List ℕ
-bodies = flat_map (λ label. length label ∷ label)
 
 -- a label's length and octets, followed by the wire form of others
 pub wire_more : (label : List ℕ) (labels : List (List ℕ))

@@ -24,10 +24,10 @@ abbrev pub ahead_of : {R : Type 0} {g : Ghosts R} → Labels R g → Window
 ahead_of labels = window labels.parser
 
 -- an iterator's step over a label
-abbrev pub StepsOver : {R : Type 0} {g : Ghosts R} → Labels R g → Window → Labels R g → Type 0
-StepsOver before place after = NextLabel before.start (ahead_of before) place after.start (ahead_of after)
+abbrev pub StepsOverLabel : {R : Type 0} {g : Ghosts R} → Labels R g → Window → Labels R g → Type 0
+StepsOverLabel before place after = NextLabel before.start (ahead_of before) place after.start (ahead_of after)
 
 -- what `next` returns: the first label that is left, at its place; or none if none is left
 abbrev pub YieldsNextLabel : {R : Type 0} {g : Ghosts R} → Labels R g → Option (Label R g) → Labels R g → Type 0
 YieldsNextLabel before given after = YieldsFirstBy label_octets labels_left before given after
-    × IfSome given (λ label. StepsOver before (label_place label) after)
+    × IfSome given (λ label. StepsOverLabel before (label_place label) after)

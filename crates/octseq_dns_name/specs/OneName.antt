@@ -7,6 +7,17 @@ use mathlib.Core.HLevel.{Σ_prop_path}
 use Rattle.octseq.specs.Window.{Window, at}
 use Rattle.octseq_dns_name.specs.Name.{HasRoot, HasLabel, HasPointer, HasLabels, IsName}
 
+-- the labels of the name that is at a window's position
+abbrev pub Named : Window → Type 0
+Named w = (labels : List (List ℕ)) × ∥ ((end : Window) × IsName w labels end) ∥₁
+
+-- the labels at a window's position, in a part of a name that began at `start`
+abbrev pub Ahead : ℕ → Window → Type 0
+Ahead start w = (labels : List (List ℕ))
+    × ∥ ((pointers : ℕ) × (end : Window) × HasLabels start w labels pointers end) ∥₁
+
+-- ---- lemmas: proved below this line, so what the words mean is read above it
+
 -- the octet decides which of the three is there
 pub no_label_at_root : {w u v : Window} {l : List ℕ} → HasRoot w u → HasLabel w l v → ⊥
 no_label_at_root here other = let zero = here.zero in let some = other.some in omega (arith, zero, some)
@@ -57,7 +68,8 @@ pub one_has_labels : (start : ℕ) (w u v : Window) (labels others : List (List 
     → (labels ≡ others) × (pointers ≡ count) × (u ≡ v)
 one_has_labels start w u v labels others pointers count (HasLabels.root has) other =
     let root = at_root start w u v others count has other in (sym root.0, sym root.1, sym root.2)
-one_has_labels start w u v labels others pointers count (HasLabels.label {u = x} {l = l} {labels = more} has rest) other =
+one_has_labels start w u v labels others pointers count
+    (HasLabels.label {u = x} {l = l} {labels = more} has rest) other =
     let on = at_label start w x v l others count has other in
     let same = one_has_labels start x u v more on.0 pointers count rest on.2 in
     (ap (λ more. l ∷ more) same.0 ∙ sym on.1, same.1, same.2)
@@ -71,26 +83,19 @@ one_has_labels start w u v labels others pointers count
 pub one_name : (w u v : Window) (labels others : List (List ℕ)) → IsName w labels u → IsName w others v
     → (labels ≡ others) × (u ≡ v)
 one_name w u v labels others name other =
-    let same = one_has_labels w.position w u v labels others name.pointers other.pointers name.has_labels other.has_labels in
+    let same = one_has_labels w.position w u v labels others name.pointers other.pointers name.has_labels
+    other.has_labels in
     (same.0, same.2)
 
 -- labels are equal in at most one way
 pub one_labels : (labels others : List (List ℕ)) → IsProp (labels ≡ others)
 one_labels = Coded-set (coded_list (coded_list coded_ℕ))
 
--- the labels of the name that is at a window's position
-abbrev pub Named : Window → Type 0
-Named w = (labels : List (List ℕ)) × ∥ ((end : Window) × IsName w labels end) ∥₁
-
 -- they are a fact
 pub named_once : (w : Window) → IsProp (Named w)
 named_once w a b = Σ_prop_path (λ labels. ∥∥₁_prop)
     (∥∥₁_elim a.1 (one_labels a.0 b.0) (λ x. ∥∥₁_elim b.1 (one_labels a.0 b.0) (λ y.
     (one_name w x.0 y.0 a.0 b.0 x.1 y.1).0)))
-
--- the labels at a window's position, in a part of a name that began at `start`
-abbrev pub Ahead : ℕ → Window → Type 0
-Ahead start w = (labels : List (List ℕ)) × ∥ ((pointers : ℕ) × (end : Window) × HasLabels start w labels pointers end) ∥₁
 
 -- they are a fact too
 pub ahead_once : (start : ℕ) (w : Window) → IsProp (Ahead start w)

@@ -12,6 +12,8 @@ use Rattle.std.specs.Ordering.{nat_cmp, is_eq}
 use Rattle.octseq_dns_name.specs.Order.{canonical, lower_label, lower_labels, label_eq, label_writes, name_eq, name_cmp}
 use Rattle.octseq_dns_name.specs.Order.{name_writes}
 
+-- ---- lemmas: proved below this line, so what the words mean is read above it
+
 -- the test of equal labels decides whether lists are equal
 labels_decide : (xs ys : List (List ℕ)) → Decides (pointwise (pointwise nat_eq) xs ys) (xs ≡ ys)
 labels_decide = pointwise_decides bytes_decides
@@ -57,4 +59,5 @@ names_alike labels others reported =
     ∙ sym (writes_lower others))
 
 pub labels_alike : (label other : List ℕ) → IsTrue (label_eq label other) → label_writes label ≡ label_writes other
-labels_alike label other reported = ap (fed.slice fed.u8) ((bytes_decides (lower_label label) (lower_label other)).0 reported)
+labels_alike label other reported = ap (fed.slice fed.u8)
+    ((bytes_decides (lower_label label) (lower_label other)).0 reported)

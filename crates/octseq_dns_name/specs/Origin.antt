@@ -1,7 +1,7 @@
 -- How a name may be spelled in text with an origin: RFC 1035, 5.1.
 use Rattle.std.specs.Prelude.{◌≡◌, ◌⊎◌, ℕ, ◌<◌, ◌≤◌, List, [], ◌∷◌, ◌++◌, length}
 use Rattle.octseq_dns_name.specs.Name.{wire_length}
-use Rattle.octseq_dns_name.specs.Refused.{Reads, ReadsLabels, IsRefused}
+use Rattle.octseq_dns_name.specs.Refused.{ReadsLabelPart, ReadsLabels, IsNameRefused}
 use Rattle.octseq_dns_name.specs.Spelling.{SpellsLabel, SpellsLabels, SpellsName}
 use Rattle.octseq_dns_name.specs.declared.error.FromTextError.{FromTextError}
 
@@ -21,7 +21,7 @@ SpellsWithOrigin origin labels text =
 -- octets.
 abbrev pub IsLongWithOrigin : List (List ℕ) → List ℕ → Type 0
 IsLongWithOrigin origin text =
-    (labels : List (List ℕ)) × (rest label : List ℕ) × ReadsLabels text labels rest × Reads rest label []
+    (labels : List (List ℕ)) × (rest label : List ℕ) × ReadsLabels text labels rest × ReadsLabelPart rest label []
     × (1 ≤ length label) × (length label ≤ 63) × (255 < wire_length (labels ++ label ∷ origin))
 
 -- Why a text is refused: as without an origin, except that only an empty text ends too soon, that a relative name may
@@ -29,7 +29,7 @@ IsLongWithOrigin origin text =
 abbrev pub IsRefusedWithOrigin : List (List ℕ) → FromTextError → List ℕ → Type 0
 IsRefusedWithOrigin origin FromTextError.UnexpectedEnd text = text ≡ []
 IsRefusedWithOrigin origin FromTextError.LongName text =
-    IsRefused FromTextError.LongName text ⊎ IsLongWithOrigin origin text
+    IsNameRefused FromTextError.LongName text ⊎ IsLongWithOrigin origin text
 IsRefusedWithOrigin origin FromTextError.IllegalOctet text =
-    ¬ (text ≡ 64 ∷ []) × IsRefused FromTextError.IllegalOctet text
-IsRefusedWithOrigin origin fault text = IsRefused fault text
+    ¬ (text ≡ 64 ∷ []) × IsNameRefused FromTextError.IllegalOctet text
+IsRefusedWithOrigin origin fault text = IsNameRefused fault text

@@ -39,7 +39,7 @@ pub record LeadsTo (first : ℕ) (w : Window) (start : ℕ) (v : Window) (labels
 
 -- What was read so far of the name at a window: its labels, their wire length, and the number of pointers. There was a
 -- turn for each.
-pub record Reading (w : Window) (start : ℕ) (v : Window) (size pointers : ℕ) (after : Option Window) (old new : ℕ)
+pub record NameReading (w : Window) (start : ℕ) (v : Window) (size pointers : ℕ) (after : Option Window) (old new : ℕ)
     : Type 0 where
   pub labels : List (List ℕ)
   pub read : LeadsTo w.position w start v labels pointers after
@@ -48,7 +48,7 @@ pub record Reading (w : Window) (start : ℕ) (v : Window) (size pointers : ℕ)
 
 -- The labels at a window's position were passed, up to an octet that isn't a label's length. They are short enough.
 pub record PassesLabels (w : Window) (place old new : ℕ) : Type 0 where
-  pub reading : Reading w w.position (at place w) (place + 1 - w.position) 0 None old new
+  pub reading : NameReading w w.position (at place w) (place + 1 - w.position) 0 None old new
   pub ordered : w.position ≤ place
   pub room : place < w.end
   pub near : place < w.position + 255
@@ -73,7 +73,7 @@ NoRest w before = (labels : List (List ℕ)) (pointers : ℕ) (end : Window) →
     → before + wire_length labels ≤ 256 → pointers ≤ 126 → ⊥
 
 -- The name at a window's position ends at `place`, and has `len` octets in wire form. A count rose by its turns.
-pub record Ends (w : Window) (place len old new : ℕ) : Type 0 where
+pub record NameEnds (w : Window) (place len old new : ℕ) : Type 0 where
   pub labels : List (List ℕ)
   pub name : IsName w labels (at place w)
   pub within : place ≤ w.end

@@ -28,12 +28,12 @@ piece (step.Label l) = Piece.label (rest (window l))
 piece (step.Pointer to) = Piece.pointer to
 
 -- a window of 1 to 63 octets
-abbrev pub IsShort : {R : Type 0} {g : Ghosts R} → Parser R g → Type 0
-IsShort parser = (1 ≤ left (window parser)) × (left (window parser) ≤ 63)
+abbrev pub IsLabelPiece : {R : Type 0} {g : Ghosts R} → Parser R g → Type 0
+IsLabelPiece parser = (1 ≤ left (window parser)) × (left (window parser) ≤ 63)
 
 -- a label that was taken has 1 to 63 octets
 abbrev pub IsShortLabel : {R : Type 0} {g : Ghosts R} → Step R g → Type 0
-IsShortLabel (step.Label l) = IsShort l
+IsShortLabel (step.Label l) = IsLabelPiece l
 IsShortLabel _ = Unit {0}
 
 -- a label that was taken is where its octets are: after its length

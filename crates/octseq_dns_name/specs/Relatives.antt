@@ -6,11 +6,11 @@ use Rattle.octseq_dns_name.specs.NextLabel.{NextLabel}
 use Rattle.octseq_dns_name.specs.Order.{lower_labels}
 
 -- The last labels of a name are those of another, or its first ones are. ASCII case is ignored: RFC 4343.
-abbrev pub EndsWith : List (List ℕ) → List (List ℕ) → Type 0
-EndsWith labels others = (front : List (List ℕ)) × (lower_labels labels ≡ front ++ lower_labels others)
+abbrev pub NameEndsWith : List (List ℕ) → List (List ℕ) → Type 0
+NameEndsWith labels others = (front : List (List ℕ)) × (lower_labels labels ≡ front ++ lower_labels others)
 
-abbrev pub StartsWith : List (List ℕ) → List (List ℕ) → Type 0
-StartsWith labels others = (rest : List (List ℕ)) × (lower_labels labels ≡ lower_labels others ++ rest)
+abbrev pub NameStartsWith : List (List ℕ) → List (List ℕ) → Type 0
+NameStartsWith labels others = (rest : List (List ℕ)) × (lower_labels labels ≡ lower_labels others ++ rest)
 
 -- the labels of a name, those of its parent, and so on to the root, which has none
 abbrev pub suffixes : List (List ℕ) → List (List (List ℕ))

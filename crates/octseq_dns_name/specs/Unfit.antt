@@ -1,6 +1,6 @@
 -- Why labels don't make a name. They are checked in order, and the first fault decides.
 use Rattle.std.specs.Prelude.{◌≡◌, Option, ℕ, ◌<◌, ◌≤◌, List, [], ◌∷◌, ◌++◌, length}
-use Rattle.octseq.specs.Limit.{IsPast}
+use Rattle.octseq.specs.Limit.{ExceedsLimit}
 use Rattle.octseq_dns_name.specs.Name.{wire_length}
 use Rattle.octseq_dns_name.specs.Wire.{AreLabels}
 use Rattle.octseq_dns_name.specs.declared.error.FromLabelsError.{FromLabelsError}
@@ -22,5 +22,5 @@ HasWrong fault labels = (before : List (List ℕ)) × (label : List ℕ) × (mor
 -- a label is wrong, or none is and the name with all of them passes a limit
 abbrev pub AreUnfit : Option ℕ → FromLabelsError → List (List ℕ) → Type 0
 AreUnfit limit FromLabelsError.Short labels =
-    AreLabels labels × (wire_length labels ≤ 255) × IsPast limit (wire_length labels)
+    AreLabels labels × (wire_length labels ≤ 255) × ExceedsLimit limit (wire_length labels)
 AreUnfit limit fault labels = HasWrong fault labels

@@ -1,6 +1,6 @@
 //! Domain names: in a message, as values that own their octets, and as text.
 //!
-//! A name of a message is its place there, compression pointers included. Octets are copied only into a name that owns
+//! A name of a message is its offset there, compression pointers included. Octets are copied only into a name that owns
 //! them.
 #![tactic(auto)]
 

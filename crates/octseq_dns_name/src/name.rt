@@ -8,7 +8,7 @@ ghost use Rattle.octseq_dns_name.specs.OneName.{Named, named_once};
 
 use crate::error::Malformed;
 use crate::name::pass::name_end;
-use crate::name::step::pass_known;
+use crate::name::step::skip_known;
 use crate::name::wire::wire_len;
 use octseq::builder::infallible;
 use octseq::{AsOctets, Parser, Turns};
@@ -40,7 +40,7 @@ pub const NAME_MAX: usize = 255;
 /// The maximum number of pointers of a name. No RFC sets one; a name without pointers has at most 127 labels.
 pub const POINTER_MAX: usize = 127;
 
-/// At most one name is at a place, with one end.
+/// At most one name is at an offset, with one end.
 ///
 /// It does nothing. Calling it brings the law into the caller's proof.
 pub fn one_name_at_a_place()
@@ -48,7 +48,7 @@ pub fn one_name_at_a_place()
         → (labels ≡ others) × (end ≡ last) }
 {}
 
-/// A name in a message: a parser of the message at the name's place. No octet is copied.
+/// A name in a message: a parser of the message at the name's offset. No octet is copied.
 #[derive(Debug)]
 pub struct ParsedName<R: AsOctets> {
     parser: Parser<R>,
@@ -151,11 +151,11 @@ impl<R: AsOctets + Copy> ParsedName<R> {
             parser: *parser,
             len: None,
         };
-        pass_known(parser);
+        skip_known(parser);
         name
     }
 
-    /// Returns a parser of the message, at the name's place.
+    /// Returns a parser of the message, at the name's offset.
     pub fn parser(&self) -> Parser<R>
         ensures { window result ≡ place_of self.now }
     {

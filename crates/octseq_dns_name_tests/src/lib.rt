@@ -1,4 +1,4 @@
-//! Tests of domain names: what no proof covers.
+//! Tests of domain names, compressed ones too: what no proof covers.
 #![tactic(auto)]
 
 #[cfg(test)]

@@ -38,5 +38,6 @@ fn labels_text(rt: &(impl Abort + AllocGlobal), lengths: &[usize]) -> String {
     text
 }
 
+mod compressed;
 mod name_relatives;
 mod names;

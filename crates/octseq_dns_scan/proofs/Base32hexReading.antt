@@ -5,7 +5,7 @@ use Rattle.std.proofs.lemmas.List.{append-nil, map-append}
 use Rattle.std.specs.Char.{digit_char, to_ascii_lowercase}
 use Rattle.octseq.proofs.WrittenBack.{AreOctets}
 use Rattle.octseq_dns_scan.specs.Base32hex.{quintets, base32hex_text, IsBase32hexText}
-use Rattle.octseq_dns_scan.specs.Base32hexPlace.{AreGroups, EndsAt, bits_end}
+use Rattle.octseq_dns_scan.specs.Base32hexPlace.{AreGroupsOfFive, EndsAtBits, bits_end}
 use Rattle.octseq_dns_scan.specs.TextReader.{NoText}
 use Rattle.octseq_dns_scan.specs.declared.base32hex.Place.{Place}
 use Rattle.octseq_dns_scan.specs.declared.base32hex.Place.TheVariants.{Whole, One, Two, Three, Four, Five, Six, Seven}
@@ -17,7 +17,7 @@ at place text = get_or text place 0
 
 -- ---- whole groups, and what follows them
 
-groups_then : (front rest : List ℕ) → AreGroups front
+groups_then : (front rest : List ℕ) → AreGroupsOfFive front
     → base32hex_text (front ++ rest) ≡ base32hex_text front ++ base32hex_text rest
 groups_then [] rest are = refl
 groups_then (a ∷ []) rest are = absurd (omega (arith, are))
@@ -25,11 +25,11 @@ groups_then (a ∷ b ∷ []) rest are = absurd (omega (arith, are))
 groups_then (a ∷ b ∷ c ∷ []) rest are = absurd (omega (arith, are))
 groups_then (a ∷ b ∷ c ∷ d ∷ []) rest are = absurd (omega (arith, are))
 groups_then (a ∷ b ∷ c ∷ d ∷ e ∷ front) rest are =
-    let whole : AreGroups front = omega (arith, are) in
+    let whole : AreGroupsOfFive front = omega (arith, are) in
     ap (λ t. map digit_char (quintets (a ∷ b ∷ c ∷ d ∷ e ∷ [])) ++ t) (groups_then front rest whole)
 
 -- a text that begins with that of whole groups goes on with a text
-groups_before : (front rest all : List ℕ) → AreGroups front → base32hex_text all ≡ base32hex_text front ++ rest
+groups_before : (front rest all : List ℕ) → AreGroupsOfFive front → base32hex_text all ≡ base32hex_text front ++ rest
     → (later : List ℕ) × (base32hex_text later ≡ rest)
 groups_before [] rest all are is = (all, is)
 groups_before (a ∷ []) rest all are is = absurd (omega (arith, are))
@@ -47,7 +47,7 @@ groups_before (a ∷ b ∷ c ∷ d ∷ e ∷ front) rest (x ∷ y ∷ z ∷ v �
 -- ---- an octet that is read
 
 abbrev Read : Place → ℕ → List ℕ → List ℕ → Type 0
-Read place bits text octets = AreOctets octets × EndsAt place bits text octets
+Read place bits text octets = AreOctets octets × EndsAtBits place bits text octets
 
 octets_then : (octets : List ℕ) (a : ℕ) → AreOctets octets → a < 256 → AreOctets (octets ++ a ∷ [])
 octets_then [] a are small = (small, tt)
@@ -428,7 +428,7 @@ open_place place bits text octets other (inr (inr same)) read is =
     open_six bits text octets other (moved Six place bits bits text octets (sym same) refl read) is
 
 -- the text is whole if no bits are left after these
-whole_at : (groups part octets text : List ℕ) → AreGroups groups → octets ≡ groups ++ part
+whole_at : (groups part octets text : List ℕ) → AreGroupsOfFive groups → octets ≡ groups ++ part
     → text ≡ base32hex_text groups ++ base32hex_text part → text ≡ base32hex_text octets
 whole_at groups part octets text whole same front =
     front ∙ sym (groups_then groups part whole) ∙ ap base32hex_text (sym same)
@@ -462,7 +462,7 @@ parts [] part each = (tt, each)
 parts (x ∷ groups) part each = let rest = parts groups part each.1 in ((each.0, rest.0), rest.1)
 
 -- the digits of a whole group follow, zeros or not
-goes_on_by : (groups last text : List ℕ) (n : ℕ) (more : List ℕ) → AreGroups groups → AreOctets (groups ++ last)
+goes_on_by : (groups last text : List ℕ) (n : ℕ) (more : List ℕ) → AreGroupsOfFive groups → AreOctets (groups ++ last)
     → text ≡ base32hex_text groups ++ map digit_char (take n (quintets last)) → map to_ascii_lowercase more ≡ more
     → map digit_char (take n (quintets last)) ++ more ≡ base32hex_text last
     → (more all : List ℕ) × AreOctets all × (text ++ map to_ascii_lowercase more ≡ base32hex_text all)

@@ -6,7 +6,7 @@ use Rattle.std.proofs.lemmas.List.{append-nil}
 use Rattle.std.specs.List.{AllByRecursion}
 use Rattle.octseq.proofs.WrittenBack.{AreOctets}
 use Rattle.octseq_dns_scan.specs.Base64.{base64_digit, base64_text, IsBase64Text}
-use Rattle.octseq_dns_scan.specs.Base64Place.{AreGroups, EndsAt, bits_end}
+use Rattle.octseq_dns_scan.specs.Base64Place.{AreGroupsOfThree, EndsAtDigit, bits_end}
 use Rattle.octseq_dns_scan.specs.TextReader.{NoText}
 use Rattle.octseq_dns_scan.specs.declared.base64.Place.{Place}
 use Rattle.octseq_dns_scan.specs.declared.base64.Place.TheVariants.{Whole, One, Two, Three, Mark, End}
@@ -18,18 +18,18 @@ at place text = get_or text place 0
 
 -- ---- whole groups, and what follows them
 
-groups_then : (front rest : List ℕ) → AreGroups front → base64_text (front ++ rest) ≡ base64_text front
+groups_then : (front rest : List ℕ) → AreGroupsOfThree front → base64_text (front ++ rest) ≡ base64_text front
     ++ base64_text rest
 groups_then [] rest are = refl
 groups_then (a ∷ []) rest are = absurd (omega (arith, are))
 groups_then (a ∷ b ∷ []) rest are = absurd (omega (arith, are))
 groups_then (a ∷ b ∷ c ∷ front) rest are =
-    let whole : AreGroups front = omega (arith, are) in
+    let whole : AreGroupsOfThree front = omega (arith, are) in
     ap (λ t. map base64_digit (a / 4 ∷ (a % 4 * 16 + b / 16) ∷ (b % 16 * 4 + c / 64) ∷ c % 64 ∷ []) ++ t)
     (groups_then front rest whole)
 
 -- a text that begins with that of whole groups goes on with a text
-groups_before : (front rest all : List ℕ) → AreGroups front → AreOctets all → base64_text all ≡ base64_text front
+groups_before : (front rest all : List ℕ) → AreGroupsOfThree front → AreOctets all → base64_text all ≡ base64_text front
     ++ rest
     → (later : List ℕ) × AreOctets later × (base64_text later ≡ rest)
 groups_before [] rest all are each is = (all, each, is)
@@ -117,10 +117,10 @@ digit_after_mark (x ∷ y ∷ z ∷ later) u v w more each small is =
 
 -- what is read before an octet that no text goes on with
 abbrev Read : Place → ℕ → List ℕ → List ℕ → Type 0
-Read place bits text octets = AreOctets octets × EndsAt place bits text octets
+Read place bits text octets = AreOctets octets × EndsAtDigit place bits text octets
 
 -- the text after whole groups, if a text goes on with an octet
-after_groups : (groups part text : List ℕ) (c : ℕ) (all more : List ℕ) → AreGroups groups → AreOctets all
+after_groups : (groups part text : List ℕ) (c : ℕ) (all more : List ℕ) → AreGroupsOfThree groups → AreOctets all
     → text ≡ base64_text groups ++ part → IsBase64Text ((text ++ c ∷ []) ++ more) all
     → (later : List ℕ) × AreOctets later × (base64_text later ≡ part ++ c ∷ more)
 after_groups groups part text c all more whole each front is =
@@ -317,11 +317,11 @@ read_mark text octets (each, (groups, a, whole, same, front)) =
       ),
     )
 
-odd_one : (groups octets : List ℕ) (a : ℕ) → AreGroups groups → octets ≡ groups ++ a ∷ [] → length octets % 3 ≢ 0
+odd_one : (groups octets : List ℕ) (a : ℕ) → AreGroupsOfThree groups → octets ≡ groups ++ a ∷ [] → length octets % 3 ≢ 0
 odd_one groups octets a whole same is =
     absurd (omega (arith, ap length same, length-append groups (a ∷ []), whole, is))
 
-odd_two : (groups octets : List ℕ) (a b : ℕ) → AreGroups groups → octets ≡ groups ++ (a ∷ b ∷ [])
+odd_two : (groups octets : List ℕ) (a b : ℕ) → AreGroupsOfThree groups → octets ≡ groups ++ (a ∷ b ∷ [])
     → length octets % 3 ≢ 0
 odd_two groups octets a b whole same is =
     absurd (omega (arith, ap length same, length-append groups (a ∷ b ∷ []), whole, is))
@@ -449,7 +449,7 @@ open_text place bits text octets other (inr (inr (inr same))) read is =
 -- ---- what was read goes on to a text
 
 -- whole groups, and the octets of a last one
-goes_on_by : (groups last part text more : List ℕ) → AreGroups groups → AreOctets (groups ++ last)
+goes_on_by : (groups last part text more : List ℕ) → AreGroupsOfThree groups → AreOctets (groups ++ last)
     → text ≡ base64_text groups ++ part → part ++ more ≡ base64_text last
     → (more all : List ℕ) × AreOctets all × IsBase64Text (text ++ more) all
 goes_on_by groups last part text more whole each front same = (

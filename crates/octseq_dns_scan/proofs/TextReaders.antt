@@ -6,19 +6,21 @@ use Rattle.std.proofs.lemmas.List.{append-nil, take_more, drop_more, take-append
 use Rattle.octseq.specs.Appends.{Appends}
 use Rattle.octseq.specs.Composer.{refusal_of}
 use Rattle.octseq.specs.Error.{write_error_of}
-use Rattle.octseq.specs.Limit.{IsPast}
+use Rattle.octseq.specs.Limit.{ExceedsLimit}
 use Rattle.octseq.specs.Refusal.{Refusal, Is, write_error}
 use Rattle.octseq.specs.declared.error.WriteError.{WriteError}
 use Rattle.octseq.specs.declared.AppendError.{AppendError}
-use Rattle.octseq_dns_scan.specs.TextReader.{NoText, Reads, Feeds}
+use Rattle.octseq_dns_scan.specs.TextReader.{NoText, ReadsSoFar, Feeds}
 
-pub reads_none : {S : Type 0} (HasRead : S → List ℕ → List ℕ → Type 0) (reader : S) → Reads HasRead reader reader [] []
+pub reads_none : {S : Type 0} (HasRead : S → List ℕ → List ℕ → Type 0) (reader : S)
+    → ReadsSoFar HasRead reader reader [] []
 reads_none HasRead reader text octets read =
     subst (λ t. HasRead reader t (octets ++ [])) (sym (append-nil text))
     (subst (λ o. HasRead reader text o) (sym (append-nil octets)) read)
 
 pub reads_more : {S : Type 0} (HasRead : S → List ℕ → List ℕ → Type 0) (a b c : S) (front more run made : List ℕ)
-    → Reads HasRead a b front more → Reads HasRead b c run made → Reads HasRead a c (front ++ run) (more ++ made)
+    → ReadsSoFar HasRead a b front more → ReadsSoFar HasRead b c run made
+    → ReadsSoFar HasRead a c (front ++ run) (more ++ made)
 reads_more HasRead a b c front more run made first then text octets read =
     let both = then (text ++ front) (octets ++ more) (first text octets read) in
     subst (λ t. HasRead c t (octets ++ (more ++ made))) (append_assoc text front run)
@@ -26,10 +28,10 @@ reads_more HasRead a b c front more run made first then text octets read =
 
 -- the next octet of a run is read after those before it
 pub reads_next : {S : Type 0} (HasRead : S → List ℕ → List ℕ → Type 0) (a b c : S) (run : List ℕ) (i : ℕ)
-    (more made : List ℕ) → i < length run → Reads HasRead a b (take i run) more
-    → Reads HasRead b c (get_or run i 0 ∷ []) made → Reads HasRead a c (take (i + 1) run) (more ++ made)
+    (more made : List ℕ) → i < length run → ReadsSoFar HasRead a b (take i run) more
+    → ReadsSoFar HasRead b c (get_or run i 0 ∷ []) made → ReadsSoFar HasRead a c (take (i + 1) run) (more ++ made)
 reads_next HasRead a b c run i more made ahead first then =
-    subst (λ front. Reads HasRead a c front (more ++ made)) (sym (take_more run i 0 ahead))
+    subst (λ front. ReadsSoFar HasRead a c front (more ++ made)) (sym (take_more run i 0 ahead))
     (reads_more HasRead a b c (take i run) more (get_or run i 0 ∷ []) made first then)
 
 split_at : (run : List ℕ) (i : ℕ) → i < length run → run ≡ take i run ++ (get_or run i 0 ∷ drop (i + 1) run)
@@ -37,7 +39,7 @@ split_at run i ahead = sym (ap (λ rest. take i run ++ rest) (sym (drop_more run
 
 -- no text goes on with a run if none goes on with an octet of it
 pub stuck : {S : Type 0} (Is : List ℕ → List ℕ → Type 0) (HasRead : S → List ℕ → List ℕ → Type 0) (a b : S)
-    (run : List ℕ) (i : ℕ) (more : List ℕ) → i < length run → Reads HasRead a b (take i run) more
+    (run : List ℕ) (i : ℕ) (more : List ℕ) → i < length run → ReadsSoFar HasRead a b (take i run) more
     → ((text octets : List ℕ) → HasRead b text octets → NoText Is (text ++ get_or run i 0 ∷ []))
     → (text octets : List ℕ) → HasRead a text octets → NoText Is (text ++ run)
 stuck Is HasRead a b run i more ahead reads refused text octets read all rest are is =
@@ -52,7 +54,7 @@ stuck Is HasRead a b run i more ahead reads refused text octets read all rest ar
 
 -- what an append that was refused leaves
 pub record Spared (limit : Option ℕ) (asks : Bool) (e : WriteError) (octets old new : List ℕ) : Type 0 where
-  pub short : Is Refusal.short (write_error e) → IsPast limit (length old + length octets)
+  pub short : Is Refusal.short (write_error e) → ExceedsLimit limit (length old + length octets)
   pub memory : Is Refusal.memory (write_error e) → asks ≡ true
   pub formed : ¬ (Is Refusal.malformed (write_error e))
   pub kept : new ≡ old
@@ -75,9 +77,10 @@ spared limit asks AppendError.Memory octets old new a = record {
 -- an octet that was made is past the limit
 pub one_past : {S : Type 0} (HasRead : S → List ℕ → List ℕ → Type 0) (limit : Option ℕ) (reader next : S)
     (octet : ℕ) (made : Option ℕ) (value : ℕ) (old : List ℕ) → made ≡ Some value
-    → Reads HasRead reader next (octet ∷ []) (option_to_list made) → IsPast limit (length old + 1)
-    → (front rest more : List ℕ) × (after : S) × (octet ∷ [] ≡ front ++ rest) × Reads HasRead reader after front more
-    × IsPast limit (length old + length more)
+    → ReadsSoFar HasRead reader next (octet ∷ []) (option_to_list made) → ExceedsLimit limit (length old + 1)
+    → (front rest more : List ℕ) × (after : S) × (octet ∷ [] ≡ front ++ rest)
+    × ReadsSoFar HasRead reader after front more
+    × ExceedsLimit limit (length old + length more)
 one_past HasRead limit reader next octet made value old is reads past = (
   octet ∷ [],
   [],
@@ -85,13 +88,13 @@ one_past HasRead limit reader next octet made value old is reads past = (
   next,
   refl,
   reads,
-  subst (λ o. IsPast limit (length old + length (option_to_list o))) (sym is) past,
+  subst (λ o. ExceedsLimit limit (length old + length (option_to_list o))) (sym is) past,
 )
 
 -- an octet of a run is refused after those before it were read
 pub refused_in : {S : Type 0} (Is : List ℕ → List ℕ → Type 0) (HasRead : S → List ℕ → List ℕ → Type 0)
     (limit : Option ℕ) (asks : Bool) (w : WriteError) (a b : S) (run : List ℕ) (i : ℕ) (more old middle new : List ℕ)
-    → i < length run → middle ≡ old ++ more → Reads HasRead a b (take i run) more
+    → i < length run → middle ≡ old ++ more → ReadsSoFar HasRead a b (take i run) more
     → Feeds Is HasRead limit asks (Err w) b (get_or run i 0 ∷ []) middle new
     → Feeds Is HasRead limit asks (Err w) a run old new
 refused_in Is HasRead limit asks w a b run i more old middle new ahead grown reads one = record {
@@ -107,7 +110,7 @@ refused_in Is HasRead limit asks w a b run i more old middle new ahead grown rea
         past.3,
         split_at run i ahead ∙ ap (λ one. take i run ++ (one ++ drop (i + 1) run)) past.4 ∙ simp append_assoc,
         reads_more HasRead a b past.3 (take i run) more past.0 past.2 reads past.5,
-        subst (IsPast limit) counted past.6,
+        subst (ExceedsLimit limit) counted past.6,
       );
   memory = one.memory;
   kept = (more ++ one.kept.0, one.kept.1 ∙ ap (λ o. o ++ one.kept.0) grown ∙ append_assoc old more one.kept.0);

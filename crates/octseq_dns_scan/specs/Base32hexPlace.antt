@@ -17,30 +17,30 @@ bits_end Six = 64
 bits_end Seven = 8
 
 -- whole groups of five octets
-abbrev pub AreGroups : List ℕ → Type 0
-AreGroups octets = length octets % 5 ≡ 0
+abbrev pub AreGroupsOfFive : List ℕ → Type 0
+AreGroupsOfFive octets = length octets % 5 ≡ 0
 
 -- The text, in lower case, of whole groups, and then the first digits of one more: those of its octets so far, and of
 -- the bits that are left.
-abbrev pub EndsAt : Place → ℕ → List ℕ → List ℕ → Type 0
-EndsAt Whole bits text octets = AreGroups octets × (text ≡ base32hex_text octets)
-EndsAt One bits text octets = AreGroups octets × (text ≡ base32hex_text octets
+abbrev pub EndsAtBits : Place → ℕ → List ℕ → List ℕ → Type 0
+EndsAtBits Whole bits text octets = AreGroupsOfFive octets × (text ≡ base32hex_text octets)
+EndsAtBits One bits text octets = AreGroupsOfFive octets × (text ≡ base32hex_text octets
     ++ map digit_char (take 1 (quintets (bits * 8 ∷ 0 ∷ 0 ∷ 0 ∷ 0 ∷ []))))
-EndsAt Two bits text octets = (groups : List ℕ) × (a : ℕ) × AreGroups groups
+EndsAtBits Two bits text octets = (groups : List ℕ) × (a : ℕ) × AreGroupsOfFive groups
     × (octets ≡ groups ++ (a ∷ []))
     × (text ≡ base32hex_text groups ++ map digit_char (take 2 (quintets (a ∷ bits * 64 ∷ 0 ∷ 0 ∷ 0 ∷ []))))
-EndsAt Three bits text octets = (groups : List ℕ) × (a : ℕ) × AreGroups groups
+EndsAtBits Three bits text octets = (groups : List ℕ) × (a : ℕ) × AreGroupsOfFive groups
     × (octets ≡ groups ++ (a ∷ []))
     × (text ≡ base32hex_text groups ++ map digit_char (take 3 (quintets (a ∷ bits * 2 ∷ 0 ∷ 0 ∷ 0 ∷ []))))
-EndsAt Four bits text octets = (groups : List ℕ) × (a : ℕ) × (b : ℕ) × AreGroups groups
+EndsAtBits Four bits text octets = (groups : List ℕ) × (a : ℕ) × (b : ℕ) × AreGroupsOfFive groups
     × (octets ≡ groups ++ (a ∷ b ∷ []))
     × (text ≡ base32hex_text groups ++ map digit_char (take 4 (quintets (a ∷ b ∷ bits * 16 ∷ 0 ∷ 0 ∷ []))))
-EndsAt Five bits text octets = (groups : List ℕ) × (a : ℕ) × (b : ℕ) × (c : ℕ) × AreGroups groups
+EndsAtBits Five bits text octets = (groups : List ℕ) × (a : ℕ) × (b : ℕ) × (c : ℕ) × AreGroupsOfFive groups
     × (octets ≡ groups ++ (a ∷ b ∷ c ∷ []))
     × (text ≡ base32hex_text groups ++ map digit_char (take 5 (quintets (a ∷ b ∷ c ∷ bits * 128 ∷ 0 ∷ []))))
-EndsAt Six bits text octets = (groups : List ℕ) × (a : ℕ) × (b : ℕ) × (c : ℕ) × AreGroups groups
+EndsAtBits Six bits text octets = (groups : List ℕ) × (a : ℕ) × (b : ℕ) × (c : ℕ) × AreGroupsOfFive groups
     × (octets ≡ groups ++ (a ∷ b ∷ c ∷ []))
     × (text ≡ base32hex_text groups ++ map digit_char (take 6 (quintets (a ∷ b ∷ c ∷ bits * 4 ∷ 0 ∷ []))))
-EndsAt Seven bits text octets = (groups : List ℕ) × (a : ℕ) × (b : ℕ) × (c : ℕ) × (d : ℕ) × AreGroups groups
+EndsAtBits Seven bits text octets = (groups : List ℕ) × (a : ℕ) × (b : ℕ) × (c : ℕ) × (d : ℕ) × AreGroupsOfFive groups
     × (octets ≡ groups ++ (a ∷ b ∷ c ∷ d ∷ []))
     × (text ≡ base32hex_text groups ++ map digit_char (take 7 (quintets (a ∷ b ∷ c ∷ d ∷ bits * 32 ∷ []))))

@@ -2,7 +2,7 @@
 use Rattle.std.specs.Prelude.{◌≡◌, ℕ, ◌+◌, ◌<◌, ◌≤◌, ◌==◌, Bool, true, false, ◌||◌, Option, List, [], ◌∷◌, ◌++◌}
 use Rattle.std.specs.Prelude.{length, codes}
 use Rattle.std.specs.Char.{is_ascii_digit}
-use Rattle.octseq.specs.Limit.{IsWithin, IsPast}
+use Rattle.octseq.specs.Limit.{IsWithin, ExceedsLimit}
 use Rattle.octseq.specs.OctetsText.{three_digits}
 use Rattle.octseq_dns_scan.specs.Word.{is_special, is_special_in_quotes}
 use Rattle.octseq_dns_scan.specs.declared.string.StringError.{StringError}
@@ -40,9 +40,9 @@ SpellsWithin max octets word = SpellsString octets word × IsWithin max (length 
 abbrev pub IsUnscanned : StringError → Option ℕ → Option ℕ → Bool → List ℕ → List ℕ → Type 0
 IsUnscanned StringError.Malformed max limit asks word old = (octets : List ℕ) → ¬ SpellsString octets word
 IsUnscanned StringError.TooLong max limit asks word old =
-    (octets : List ℕ) × SpellsString octets word × IsPast max (length octets)
+    (octets : List ℕ) × SpellsString octets word × ExceedsLimit max (length octets)
 IsUnscanned StringError.Short max limit asks word old =
-    (octets : List ℕ) × SpellsWithin max octets word × IsPast limit (length old + length octets)
+    (octets : List ℕ) × SpellsWithin max octets word × ExceedsLimit limit (length old + length octets)
 IsUnscanned StringError.Memory max limit asks word old =
     (octets : List ℕ) × SpellsWithin max octets word × IsWithin limit (length old + length octets) × (asks ≡ true)
 

@@ -4,7 +4,7 @@ ghost use Rattle.std.specs.Fmt.{WritesOnOk};
 ghost use Rattle.octseq.proofs.WrittenBack.{AreOctets};
 ghost use Rattle.octseq_dns_scan.specs.Base64.{sextets, base64_digit, base64_text, IsBase64Text};
 ghost use Rattle.octseq_dns_scan.specs.Base64Place.{bits_end};
-ghost use Rattle.octseq_dns_scan.specs.TextReader.{Takes, Feeds};
+ghost use Rattle.octseq_dns_scan.specs.TextReader.{TakesOctet, Feeds};
 
 use crate::digits::{self, DigitReader};
 use octseq::{Malformed, OctetsBuilder, WriteError};
@@ -101,7 +101,7 @@ impl Base64Reader {
     /// Reads a digit, which stands for this number of six bits.
     fn take_digit(self, value: u8) -> Option<(Base64Reader, Option<u8>)>
         requires { value < 64 }
-        ensures { Takes IsBase64Text HasReadBase64 self (base64_digit value) result }
+        ensures { TakesOctet IsBase64Text HasReadBase64 self (base64_digit value) result }
     {
         match self.place {
             Place::Whole => Some((Base64Reader::at(Place::One, value), None)),
@@ -123,7 +123,7 @@ impl Base64Reader {
 
     /// Reads an `=`, which may follow two or three digits whose last bits are zero.
     fn take_mark(self) -> Option<(Base64Reader, Option<u8>)>
-        ensures { Takes IsBase64Text HasReadBase64 self 61 result }
+        ensures { TakesOctet IsBase64Text HasReadBase64 self 61 result }
     {
         if self.bits != 0 {
             return None;

@@ -1,6 +1,6 @@
 //! Text of octets that comes in runs, read octet by octet.
 ghost use Rattle.std.specs.Prelude.{ℕ, List, [], ◌∷◌};
-ghost use Rattle.octseq_dns_scan.specs.TextReader.{Takes, Feeds};
+ghost use Rattle.octseq_dns_scan.specs.TextReader.{TakesOctet, Feeds};
 
 use octseq::{OctetsBuilder, WriteError};
 
@@ -14,7 +14,7 @@ pub(crate) trait DigitReader: Copy {
 
     /// Reads one octet of the text: the reader after it, and the octet that it makes whole.
     fn take(self, octet: u8) -> Option<(Self, Option<u8>)>
-        ensures { Takes is_text has_read self octet result };
+        ensures { TakesOctet is_text has_read self octet result };
 }
 
 /// Reads a run, and appends the octets that it makes whole.

@@ -3,10 +3,10 @@ use Rattle.std.proofs.Common.{◌≡◌, ℕ, ◌+◌, ◌<◌, ◌↔◌, Bool,
 use Rattle.std.proofs.Common.{subst}
 use Rattle.std.proofs.Common.{append_assoc, length-append, Option, Some, None, arith}
 use Rattle.std.proofs.lemmas.List.{append-nil}
-use Rattle.octseq.specs.Limit.{IsPast}
-use Rattle.octseq_dns_text.specs.Output.{Holds, Adds, Grows}
+use Rattle.octseq.specs.Limit.{ExceedsLimit}
+use Rattle.octseq_dns_text.specs.Output.{HoldsOutput, Adds, Grows}
 
-pub past_more : (limit : Option ℕ) (n m k : ℕ) → m ≡ n + k → IsPast limit n → IsPast limit m
+pub past_more : (limit : Option ℕ) (n m k : ℕ) → m ≡ n + k → ExceedsLimit limit n → ExceedsLimit limit m
 past_more (Some most) n m k same past = omega arith
 past_more None n m k same past = past
 
@@ -20,7 +20,7 @@ adds_none limit full content base made held = record {
 pub adds_more : (limit : Option ℕ) (a b c : Bool) (old middle new front rest : List ℕ) → Adds limit a old b middle front
     → Adds limit b middle c new rest → Adds limit a old c new (front ++ rest)
 adds_more limit a b c old middle new front rest first then base made held =
-    subst (λ all. Holds limit base all c new) (append_assoc made front rest)
+    subst (λ all. HoldsOutput limit base all c new) (append_assoc made front rest)
     (then base (made ++ front) (first base made held))
 
 -- they fit
@@ -36,13 +36,13 @@ adds_fit limit full old new octets same base made held = record {
 }
 
 -- they don't
-pub adds_past : (limit : Option ℕ) (full : Bool) (old octets : List ℕ) → IsPast limit (length old + length octets)
+pub adds_past : (limit : Option ℕ) (full : Bool) (old octets : List ℕ) → ExceedsLimit limit (length old + length octets)
     → Adds limit full old true old octets
 adds_past limit false old octets past base made held = record {
   fits = λ not_full. absurd (cc);
   past = λ is_full.
       let lengths = ap length (held.fits refl) in
-      subst (IsPast limit) (omega (arith, lengths, length-append base made, length-append made octets)) past;
+      subst (ExceedsLimit limit) (omega (arith, lengths, length-append base made, length-append made octets)) past;
 }
 adds_past limit true old octets past base made held = record {
   fits = λ not_full. absurd (cc);

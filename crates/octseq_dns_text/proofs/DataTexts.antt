@@ -14,7 +14,7 @@ use Rattle.octseq_dns_text.specs.DataText.{IsSizedText, opaque_word, IsOpaqueTex
 use Rattle.octseq_dns_text.specs.Layouts.{TextLayout, layout_of, IsLayoutText}
 use Rattle.octseq_dns_text.specs.Reached.{ReadsText}
 use Rattle.octseq_dns_text.specs.Runs.{AreRuns}
-use Rattle.octseq_dns_text.specs.Scans.{Goes, BeginsWithWords, IsFault}
+use Rattle.octseq_dns_text.specs.Scans.{Goes, BeginsWithWords, IsWordFault}
 use Rattle.octseq_dns_text.specs.SizedHex.{IsSizedHexText}
 use Rattle.octseq_dns_text.specs.declared.error.ScanError.{ScanError}
 
@@ -29,14 +29,14 @@ sized_goes =
     )
 
 pub sized_none : (ahead : List ℕ) (start : ℕ) → ((word rest : List ℕ) → ¬ TakesWord word ahead rest)
-    → IsFault IsSizedText ahead start start
+    → IsWordFault IsSizedText ahead start start
 sized_none ahead start none = fault_first IsSizedText ahead start sized_goes
     (λ word left takes. absurd (none word left takes))
     (λ same octets (number, runs, never, numeral, few, long, are). absurd (cc))
 
 pub sized_bad : (word ahead rest : List ℕ) (start : ℕ) → TakesWord word ahead rest
     → ((other left : List ℕ) → TakesWord other ahead left → other ≡ word) → ¬ (ahead ≡ [])
-    → ¬ (IsNumeral 10 word × (digits_value 10 word ≤ 65535)) → IsFault IsSizedText ahead start start
+    → ¬ (IsNumeral 10 word × (digits_value 10 word ≤ 65535)) → IsWordFault IsSizedText ahead start start
 sized_bad word ahead rest start taken once some none = fault_first IsSizedText ahead start sized_goes
     (λ other left takes (more, octets, (number, runs, same, numeral, few, long, are)).
     let first : number ≡ word = let both = once other left takes in cc in
@@ -134,8 +134,8 @@ goes_data origin rtype class layout known ahead none (word ∷ front) rest (next
 
 layout_fault : (origin : Option (List (List ℕ))) (rtype class : ℕ) (layout : TextLayout)
     → layout_of rtype class ≡ Some layout → (ahead : List ℕ) (start : ℕ) → NoneOpaque ahead → (offset : ℕ)
-    → IsFault (IsLayoutText origin layout.fields layout.tail) ahead start offset
-    → IsFault (IsDataText origin rtype class) ahead start offset
+    → IsWordFault (IsLayoutText origin layout.fields layout.tail) ahead start offset
+    → IsWordFault (IsDataText origin rtype class) ahead start offset
 layout_fault origin rtype class layout known ahead start none offset fault = record {
   front = fault.front;
   rest = fault.rest;

@@ -8,7 +8,7 @@ use Rattle.std.specs.Str.Parse.{digits_value}
 use Rattle.std.proofs.Math.Bool.{true≢false}
 use Rattle.std.proofs.lemmas.List.{append_cancel_left}
 use Rattle.std.proofs.lemmas.Slice.Eq.{bytes_eq-Decides}
-use Rattle.octseq_dns_data.specs.Mnemonic.{Names}
+use Rattle.octseq_dns_data.specs.Mnemonic.{Mnemonics}
 use Rattle.octseq_dns_data.specs.SvcParamsText.{key_names}
 use Rattle.octseq_dns_text.specs.KeyText.{IsKeyText, IsNumberedKey, key_named}
 
@@ -67,17 +67,17 @@ pair named key name number spelled =
     let first : named ≡ (key, named.1) = ap (λ (k : ℕ). (k, named.1)) number in
     first ∙ ap (λ (n : List ℕ). (key, n)) spelled
 
-pub first_among : (x : ℕ × List ℕ) (xs : Names) → IsAmong (x ∷ xs) x
+pub first_among : (x : ℕ × List ℕ) (xs : Mnemonics) → IsAmong (x ∷ xs) x
 first_among x xs = (0, (omega arith, refl))
 
-pub later_among : (x y : ℕ × List ℕ) (xs : Names) → IsAmong xs y → IsAmong (x ∷ xs) y
+pub later_among : (x y : ℕ × List ℕ) (xs : Mnemonics) → IsAmong xs y → IsAmong (x ∷ xs) y
 later_among x y xs is = (suc is.0, (omega (arith, is.1.0), is.1.1))
 
-pub first_or_later : (x y : ℕ × List ℕ) (xs : Names) → IsAmong (x ∷ xs) y → (y ≡ x) ⊎ IsAmong xs y
+pub first_or_later : (x y : ℕ × List ℕ) (xs : Mnemonics) → IsAmong (x ∷ xs) y → (y ≡ x) ⊎ IsAmong xs y
 first_or_later x y xs (zero, (less, same)) = inl same
 first_or_later x y xs (suc i, (less, same)) = inr (i, (omega (arith, less), same))
 
-named_step : (named : ℕ × List ℕ) (more : Names) (name : List ℕ) (key : ℕ) (here : Bool)
+named_step : (named : ℕ × List ℕ) (more : Mnemonics) (name : List ℕ) (key : ℕ) (here : Bool)
     → bytes_eq named.1 name ≡ here → (if here then Some named.0 else key_named more name) ≡ Some key
     → (key_named more name ≡ Some key → IsAmong more (key, name)) → IsAmong (named ∷ more) (key, name)
 named_step named more name key true same is later =
@@ -88,18 +88,19 @@ named_step named more name key false same is later =
     let found = later is in (suc found.0, (omega (arith, found.1.0), found.1.1))
 
 -- the key of a name
-pub named_among : (names : Names) (name : List ℕ) (key : ℕ) → key_named names name ≡ Some key
+pub named_among : (names : Mnemonics) (name : List ℕ) (key : ℕ) → key_named names name ≡ Some key
     → IsAmong names (key, name)
 named_among [] name key is = absurd (cc)
 named_among (named ∷ more) name key is =
     named_step named more name key (bytes_eq named.1 name) refl is (named_among more name key)
 
-unnamed_step : (named : ℕ × List ℕ) (more : Names) (name : List ℕ) (here : Bool)
+unnamed_step : (named : ℕ × List ℕ) (more : Mnemonics) (name : List ℕ) (here : Bool)
     → (if here then Some named.0 else key_named more name) ≡ None → (here ≡ false) × (key_named more name ≡ None)
 unnamed_step named more name true is = absurd (cc)
 unnamed_step named more name false is = (refl, is)
 
-pub unnamed : (names : Names) (name : List ℕ) → key_named names name ≡ None → (key : ℕ) → ¬ IsAmong names (key, name)
+pub unnamed : (names : Mnemonics) (name : List ℕ) → key_named names name ≡ None → (key : ℕ)
+    → ¬ IsAmong names (key, name)
 unnamed [] name is key among = absurd (omega (arith, among.1.0))
 unnamed (named ∷ more) name is key among =
     let here = unnamed_step named more name (bytes_eq named.1 name) is in

@@ -6,7 +6,7 @@ use Rattle.std.proofs.lemmas.List.{append-nil}
 use Rattle.std.specs.Str.Parse.{digits_value}
 use Rattle.octseq.proofs.WrittenBack.{AreOctets}
 use Rattle.octseq.specs.Integer.{octets_be}
-use Rattle.octseq.specs.Limit.{IsPast}
+use Rattle.octseq.specs.Limit.{ExceedsLimit}
 use Rattle.std.specs.Net.Text.{ipv4_text}
 use Rattle.octseq.specs.OctetsText.{ipv6_address_text}
 use Rattle.octseq_dns_data.proofs.Mnemonics.{reads_shown}
@@ -30,9 +30,9 @@ use Rattle.octseq_dns_text.proofs.StringTexts.{value_goes, some_strings_go, stri
 use Rattle.octseq_dns_text.proofs.TypesTexts.{none_distinct, types_go}
 use Rattle.octseq_dns_text.specs.Fields.{IsFieldText}
 use Rattle.octseq_dns_text.specs.Layouts.{IsLayoutText}
-use Rattle.octseq_dns_text.specs.Output.{Holds, unless_full}
+use Rattle.octseq_dns_text.specs.Output.{HoldsOutput, unless_full}
 use Rattle.octseq_dns_text.specs.Reached.{Reached, ReadsText}
-use Rattle.octseq_dns_text.specs.Scans.{Goes, BeginsWithWords, IsFault}
+use Rattle.octseq_dns_text.specs.Scans.{Goes, BeginsWithWords, IsWordFault}
 use Rattle.octseq_dns_text.specs.Tails.{IsTailText}
 use Rattle.octseq_dns_text.specs.declared.error.ScanError.{ScanError}
 
@@ -184,7 +184,7 @@ pub fields_fault : (origin : Option (List (List ℕ))) (done : List Field) (one 
     (ahead : List ℕ) (start : ℕ) (limit : Option ℕ) (base rest : List ℕ) (place : ℕ) (full : Bool) (content : List ℕ)
     → Reached (IsLayoutText origin done tail.Nothing) ahead start limit base rest place full content
     → ((word left : List ℕ) → TakesWord word rest left → (octets : List ℕ) → ¬ (IsFieldText origin one word octets))
-    → IsFault (IsLayoutText origin (done ++ one ∷ more) it) ahead start place
+    → IsWordFault (IsLayoutText origin (done ++ one ∷ more) it) ahead start place
 fields_fault origin done one more it ahead start limit base rest place full content reached none =
     reached_fault (IsLayoutText origin done tail.Nothing) (IsLayoutText origin (done ++ one ∷ more) it) ahead start
     limit base rest place full content reached
@@ -215,7 +215,7 @@ unwhole origin fields it words octets is =
 tail_fault : (origin : Option (List (List ℕ))) (fields : List Field) (it : Tail) (ahead : List ℕ) (start : ℕ)
     (limit : Option ℕ) (base rest : List ℕ) (place : ℕ) (full : Bool) (content : List ℕ)
     → Reached (IsLayoutText origin fields tail.Nothing) ahead start limit base rest place full content → (offset : ℕ)
-    → IsFault (IsTailText it) rest place offset → IsFault (IsLayoutText origin fields it) ahead start offset
+    → IsWordFault (IsTailText it) rest place offset → IsWordFault (IsLayoutText origin fields it) ahead start offset
 tail_fault origin fields it ahead start limit base rest place full content reached offset fault =
     let front = reached.front in
     let made = reached.made in
@@ -258,11 +258,11 @@ joined origin fields it front words made octets are is = whole origin fields it 
     (fields_join origin fields [] it front words made octets are is)
 
 past_all : (limit : Option ℕ) (base made content : List ℕ) (full : Bool) (octets : List ℕ)
-    → Holds limit base made full content → IsPast limit (length content + length octets)
-    → IsPast limit (length base + length (made ++ octets))
+    → HoldsOutput limit base made full content → ExceedsLimit limit (length content + length octets)
+    → ExceedsLimit limit (length base + length (made ++ octets))
 past_all limit base made content false octets held past =
     let lengths = ap length (held.fits refl) in
-    subst (IsPast limit) (omega (arith, lengths, length-append base made, length-append made octets)) past
+    subst (ExceedsLimit limit) (omega (arith, lengths, length-append base made, length-append made octets)) past
 past_all limit base made content true octets held past =
     past_more limit (length base + length made) _ (length octets) (omega (arith, length-append made octets))
     (held.past refl)

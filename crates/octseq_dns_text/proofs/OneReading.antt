@@ -24,16 +24,16 @@ use Rattle.octseq_dns_text.proofs.WordTexts.{hex_text_length}
 use Rattle.octseq_dns_text.specs.DataText.{IsSizedText, opaque_word, IsDataText}
 use Rattle.octseq_dns_text.specs.Fields.{SpellsAt, IsNameWord, IsTagWord, IsFieldText}
 use Rattle.octseq_dns_text.specs.Layouts.{TextLayout, IsLayoutText}
-use Rattle.octseq_dns_text.specs.Tails.{IsValue, AreStrings, IsTailText}
-use Rattle.octseq_dns_text.specs.Words.{IsNumber, IsCounted, IsStringWord, IsSomeHex, IsSomeBase32hex, IsSalt}
+use Rattle.octseq_dns_text.specs.Tails.{IsLongString, AreStrings, IsTailText}
+use Rattle.octseq_dns_text.specs.Words.{IsNumeralWord, IsCountedWord, IsStringWord, IsSomeHex, IsSomeBase32hex, IsSalt}
 
-number_one : (size : ℕ) (word octets other : List ℕ) → IsNumber size word octets → IsNumber size word other
+number_one : (size : ℕ) (word octets other : List ℕ) → IsNumeralWord size word octets → IsNumeralWord size word other
     → octets ≡ other
 number_one size word octets other (numeral, few, same) (also, too, equal) = same ∙ sym equal
 
 counted_one : (Is : List ℕ → List ℕ → Type 0) (word octets other : List ℕ)
-    → ((one two : List ℕ) → Is word one → Is word two → one ≡ two) → IsCounted Is word octets
-    → IsCounted Is word other → octets ≡ other
+    → ((one two : List ℕ) → Is word one → Is word two → one ≡ two) → IsCountedWord Is word octets
+    → IsCountedWord Is word other → octets ≡ other
 counted_one Is word octets other once (one, is, few, same) (two, also, too, equal) =
     same ∙ ap (λ inside. length inside ∷ inside) (once one two is also) ∙ sym equal
 
@@ -84,8 +84,8 @@ field_one origin field.Salt word octets other is also =
 field_one origin field.OwnerHash word octets other is also =
     counted_one IsSomeBase32hex word octets other (base32hex_one word) is also
 
-value_one : (least : ℕ) (words : List (List ℕ)) (octets other : List ℕ) → IsValue least words octets
-    → IsValue least words other → octets ≡ other
+value_one : (least : ℕ) (words : List (List ℕ)) (octets other : List ℕ) → IsLongString least words octets
+    → IsLongString least words other → octets ≡ other
 value_one least words octets other (word, same, spells, long) (two, equal, also, too) =
     let one : two ≡ word = cc in
     string_once octets other word spells (subst (SpellsString other) one also)

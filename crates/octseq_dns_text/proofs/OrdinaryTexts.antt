@@ -11,7 +11,7 @@ use Rattle.std.specs.Prelude.{IsTrue, codes, unwrap_or}
 use Rattle.octseq.proofs.WrittenBack.{AreOctets}
 use Rattle.octseq.specs.OctetsText.{hex_text, ipv6_address_text}
 use Rattle.std.specs.Net.Text.{ipv4_text}
-use Rattle.octseq_dns_data.specs.Mnemonic.{Names, class_names, class_text, name_in, rtype_text}
+use Rattle.octseq_dns_data.specs.Mnemonic.{Mnemonics, class_names, class_text, name_in, rtype_text}
 use Rattle.octseq_dns_data.specs.Rtype.{rtype_names}
 use Rattle.octseq_dns_data.specs.Tag.{IsTag}
 use Rattle.octseq_dns_data.specs.Typed.{salt_text}
@@ -38,7 +38,7 @@ pub decimal_first : (n : ℕ) → n < 2 ^ 64 → IsFirst (decimal n)
 decimal_first n small =
     let some = (shown_digits n small).0 in plain_first (decimal n) (omega (arith, some)) (decimal_plain n small)
 
-found_first : (front : List ℕ) (names : Names) (n : ℕ) → n < 65536 → 1 ≤ length front → are_plain front ≡ true
+found_first : (front : List ℕ) (names : Mnemonics) (n : ℕ) → n < 65536 → 1 ≤ length front → are_plain front ≡ true
     → named_plain names ≡ true → named_some names ≡ true → (found : Option (List ℕ)) → name_in names n ≡ found
     → IsFirst (unwrap_or found (front ++ decimal n))
 found_first front names n bits some plain all each (Some name) is =

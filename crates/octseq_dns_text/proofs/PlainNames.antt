@@ -1,11 +1,11 @@
--- Names in a table: how they are found, and that they are plain.
+-- Mnemonics in a table: how they are found, and that they are plain.
 use Rattle.std.proofs.Common.{◌≡◌, ◌≢◌, inl, inr, ℕ, ◌≤◌, Bool, true, false, List, [], ◌∷◌, length, Some}
 use Rattle.std.proofs.Common.{refl, sym, ap, subst, arith}
 use Rattle.std.specs.List.{AllByRecursion, IsAmong}
 use Rattle.std.specs.Prelude.{◌==◌, nat_eq, nat_le, not, ◌&&◌, if◌then◌else◌}
 use Rattle.std.proofs.lemmas.Bool.{and_parts, eqb-false, leb-true, not-true}
 use Rattle.std.proofs.lemmas.Bool.Decides.{Decides-eqb}
-use Rattle.octseq_dns_data.specs.Mnemonic.{Names, name_in}
+use Rattle.octseq_dns_data.specs.Mnemonic.{Mnemonics, name_in}
 use Rattle.octseq_dns_text.proofs.KeyTexts.{first_among, first_or_later, later_among}
 use Rattle.octseq_dns_text.proofs.Plain.{ArePlain}
 
@@ -46,7 +46,7 @@ plain_from (octet ∷ text) is =
 
 -- ---- tables
 
-name_step : (named : ℕ × List ℕ) (more : Names) (n : ℕ) (name : List ℕ) (same : Bool) → (same ≡ true → named.0 ≡ n)
+name_step : (named : ℕ × List ℕ) (more : Mnemonics) (n : ℕ) (name : List ℕ) (same : Bool) → (same ≡ true → named.0 ≡ n)
     → (if same then Some named.1 else name_in more n) ≡ Some name
     → (name_in more n ≡ Some name → IsAmong more (n, name)) → IsAmong (named ∷ more) (n, name)
 name_step named more n name true number is later =
@@ -55,45 +55,47 @@ name_step named more n name true number is later =
     (subst (λ m. IsAmong (named ∷ more) (m, named.1)) (number refl) (first_among named more))
 name_step named more n name false number is later = later_among named (n, name) more (later is)
 
-pub name_among : (names : Names) (n : ℕ) (name : List ℕ) → name_in names n ≡ Some name → IsAmong names (n, name)
+pub name_among : (names : Mnemonics) (n : ℕ) (name : List ℕ) → name_in names n ≡ Some name → IsAmong names (n, name)
 name_among [] n name is = absurd (cc)
 name_among (named ∷ more) n name is =
     name_step named more n name (nat_eq named.0 n) (Decides-eqb named.0 n).0 is (name_among more n name)
 
-abbrev pub NamedPlain : Names → Type 0
+abbrev pub NamedPlain : Mnemonics → Type 0
 NamedPlain names = AllByRecursion (λ named. ArePlain named.1) names
 
-pub among_plain : (names : Names) (n : ℕ) (name : List ℕ) → NamedPlain names → IsAmong names (n, name) → ArePlain name
+pub among_plain : (names : Mnemonics) (n : ℕ) (name : List ℕ) → NamedPlain names → IsAmong names (n, name)
+    → ArePlain name
 among_plain [] n name plain among = absurd (omega (arith, among.1.0))
 among_plain (named ∷ more) n name plain among = elim (first_or_later named (n, name) more among) [
   | inl same ↦ subst ArePlain (ap (λ (x : ℕ × List ℕ). x.1) (sym same)) plain.0
   | inr later ↦ among_plain more n name plain.1 later
 ]
 
-abbrev pub named_plain : Names → Bool
+abbrev pub named_plain : Mnemonics → Bool
 named_plain [] = true
 named_plain (named ∷ more) = are_plain named.1 && named_plain more
 
-pub names_from : (names : Names) → named_plain names ≡ true → NamedPlain names
+pub names_from : (names : Mnemonics) → named_plain names ≡ true → NamedPlain names
 names_from [] is = tt
 names_from (named ∷ more) is =
     let both = and_parts (are_plain named.1) (named_plain more) is in
     (plain_from named.1 both.0, names_from more both.1)
 
-abbrev pub NamedSome : Names → Type 0
+abbrev pub NamedSome : Mnemonics → Type 0
 NamedSome names = AllByRecursion (λ named. 1 ≤ length named.1) names
 
-abbrev pub named_some : Names → Bool
+abbrev pub named_some : Mnemonics → Bool
 named_some [] = true
 named_some (named ∷ more) = nat_le 1 (length named.1) && named_some more
 
-pub names_some : (names : Names) → named_some names ≡ true → NamedSome names
+pub names_some : (names : Mnemonics) → named_some names ≡ true → NamedSome names
 names_some [] is = tt
 names_some (named ∷ more) is =
     let both = and_parts (nat_le 1 (length named.1)) (named_some more) is in
     (leb-true 1 (length named.1) both.0, names_some more both.1)
 
-pub among_some : (n : ℕ) (names : Names) (name : List ℕ) → NamedSome names → IsAmong names (n, name) → 1 ≤ length name
+pub among_some : (n : ℕ) (names : Mnemonics) (name : List ℕ) → NamedSome names → IsAmong names (n, name)
+    → 1 ≤ length name
 among_some n [] name some among = absurd (omega (arith, among.1.0))
 among_some n (named ∷ more) name some among = elim (first_or_later named (n, name) more among) [
   | inl same ↦

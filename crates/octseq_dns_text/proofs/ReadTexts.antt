@@ -4,12 +4,12 @@ use Rattle.std.proofs.Common.{subst}
 use Rattle.std.proofs.Common.{append_assoc, length-append, Option, Result, Ok, Err, OnOk, OnErr, take, arith}
 use Rattle.std.proofs.lemmas.List.{append-nil}
 use Rattle.std.proofs.Math.Seq.{take-append_seam}
-use Rattle.octseq.specs.Limit.{IsPast}
+use Rattle.octseq.specs.Limit.{ExceedsLimit}
 use Rattle.octseq_dns_scan.proofs.Taken.{word_once}
 use Rattle.octseq_dns_scan.specs.Word.{TakesWord, AreWords}
-use Rattle.octseq_dns_text.specs.Output.{Holds, Adds, Grows}
+use Rattle.octseq_dns_text.specs.Output.{HoldsOutput, Adds, Grows}
 use Rattle.octseq_dns_text.specs.Reached.{Reached, ReadsText}
-use Rattle.octseq_dns_text.specs.Scans.{Goes, BeginsWithWords, IsFault, Scans}
+use Rattle.octseq_dns_text.specs.Scans.{Goes, BeginsWithWords, IsWordFault, Scans}
 use Rattle.octseq_dns_text.specs.declared.error.ScanError.{ScanError}
 
 -- ---- the words of a text
@@ -49,7 +49,7 @@ takes_some word text rest (blanks, after, is_word, same, ends, splits) none =
 pub reads_less : (Is Less : List (List ℕ) → List ℕ → Type 0) (limit : Option ℕ) (asks : Bool)
     (result : Result (Unit {0}) ScanError) (ahead : List ℕ) (start : ℕ) (old new : List ℕ)
     → ((words : List (List ℕ)) (octets : List ℕ) → AreWords words ahead → Is words octets → Less words octets)
-    → ((offset : ℕ) → IsFault Is ahead start offset → IsFault Less ahead start offset)
+    → ((offset : ℕ) → IsWordFault Is ahead start offset → IsWordFault Less ahead start offset)
     → ReadsText Is limit asks result ahead start old new → ReadsText Less limit asks result ahead start old new
 reads_less Is Less limit asks (Ok value) ahead start old new less faults reads =
     let (words, octets, are, is, same) = reads.ok in record {
@@ -68,11 +68,11 @@ reads_less Is Less limit asks (Err e) ahead start old new less faults reads = re
 }
 
 pub reads_malformed : (Is : List (List ℕ) → List ℕ → Type 0) (limit : Option ℕ) (asks : Bool) (ahead : List ℕ)
-    (start offset : ℕ) (old new : List ℕ) → IsFault Is ahead start offset
+    (start offset : ℕ) (old new : List ℕ) → IsWordFault Is ahead start offset
     → ReadsText Is limit asks (Err (ScanError.Malformed offset)) ahead start old new
 reads_malformed Is limit asks ahead start offset old new fault = record {
   ok = tt;
-  fault = λ other same. let offsets : offset ≡ other = cc in subst (IsFault Is ahead start) offsets fault;
+  fault = λ other same. let offsets : offset ≡ other = cc in subst (IsWordFault Is ahead start) offsets fault;
   short = λ same. absurd (cc);
   memory = λ same. absurd (cc);
 }
@@ -88,7 +88,8 @@ reads_memory Is limit asks ahead start old new asked = record {
 
 pub reads_short : (Is : List (List ℕ) → List ℕ → Type 0) (limit : Option ℕ) (asks : Bool) (ahead : List ℕ)
     (start : ℕ) (old new : List ℕ) (words : List (List ℕ)) (octets : List ℕ) → AreWords words ahead → Is words octets
-    → IsPast limit (length old + length octets) → ReadsText Is limit asks (Err ScanError.Short) ahead start old new
+    → ExceedsLimit limit (length old + length octets)
+    → ReadsText Is limit asks (Err ScanError.Short) ahead start old new
 reads_short Is limit asks ahead start old new words octets are is past = record {
   ok = tt;
   fault = λ other same. absurd (cc);
@@ -155,7 +156,7 @@ after_word_fault : (Is After : List (List ℕ) → List ℕ → Type 0) (word ah
     → TakesWord word ahead rest → place + length rest ≡ start + length ahead
     → ((words : List (List ℕ)) (octets : List ℕ) → After words octets → Is (word ∷ words) octets)
     → ((words : List (List ℕ)) (octets : List ℕ) → Is (word ∷ words) octets → After words octets) → (offset : ℕ)
-    → IsFault After rest place offset → IsFault Is ahead start offset
+    → IsWordFault After rest place offset → IsWordFault Is ahead start offset
 after_word_fault Is After word ahead rest start place taken same to from offset fault = record {
   front = word ∷ fault.front;
   rest = fault.rest;
@@ -262,7 +263,7 @@ pub reached_fault : (IsFront Is : List (List ℕ) → List ℕ → Type 0) (ahea
     → ((front : List (List ℕ)) (made word left : List ℕ) → IsFront front made → TakesWord word rest left
     → ¬ Goes Is (front ++ word ∷ []))
     → ((front : List (List ℕ)) (made octets : List ℕ) → IsFront front made → rest ≡ [] → ¬ Is front octets)
-    → IsFault Is ahead start place
+    → IsWordFault Is ahead start place
 reached_fault IsFront Is ahead start limit base rest place full content reached goes stops ends = record {
   front = reached.front;
   rest = rest;

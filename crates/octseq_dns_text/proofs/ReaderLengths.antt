@@ -6,7 +6,7 @@ use Rattle.std.specs.Char.{to_ascii_lowercase}
 use Rattle.std.specs.List.{flat_map}
 use Rattle.octseq.specs.OctetsText.{hex_text}
 use Rattle.octseq_dns_scan.specs.Base64.{base64_text}
-use Rattle.octseq_dns_scan.specs.Base64Place.{EndsAt}
+use Rattle.octseq_dns_scan.specs.Base64Place.{EndsAtDigit}
 use Rattle.octseq_dns_scan.specs.HexRead.{HasReadHex, open_digit}
 use Rattle.octseq_dns_scan.specs.declared.base64.Place.{Place}
 use Rattle.octseq_dns_scan.specs.declared.base64.Place.TheVariants.{Whole, One, Two, Three, Mark, End}
@@ -47,7 +47,7 @@ groups_length (a ∷ []) whole = absurd (omega (arith, whole))
 groups_length (a ∷ b ∷ []) whole = absurd (omega (arith, whole))
 groups_length (a ∷ b ∷ c ∷ more) whole = omega (arith, groups_length more (omega (arith, whole)))
 
-pub base64_length : (place : Place) (bits : ℕ) (text octets : List ℕ) → EndsAt place bits text octets
+pub base64_length : (place : Place) (bits : ℕ) (text octets : List ℕ) → EndsAtDigit place bits text octets
     → (4 * length octets ≤ 3 * length text) × (3 * length text ≤ 4 * length octets + 8)
 base64_length Whole bits text octets (whole, same) =
     let lengths = ap length same in

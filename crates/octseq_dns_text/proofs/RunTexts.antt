@@ -4,7 +4,7 @@ use Rattle.std.proofs.lemmas.List.{append-nil}
 use Rattle.std.proofs.lemmas.List.Folds.{concat-append}
 use Rattle.std.specs.List.{concat}
 use Rattle.octseq.proofs.WrittenBack.{AreOctets}
-use Rattle.octseq_dns_scan.specs.TextReader.{NoText, Reads}
+use Rattle.octseq_dns_scan.specs.TextReader.{NoText, ReadsSoFar}
 use Rattle.octseq_dns_text.specs.Runs.{AreRuns}
 use Rattle.octseq_dns_text.specs.Scans.{Goes, AreSome}
 
@@ -12,7 +12,7 @@ pub concat_word : (front : List (List ℕ)) (word : List ℕ) → concat (front 
 concat_word front word = concat-append front (word ∷ []) ∙ ap (λ rest. concat front ++ rest) (append-nil word)
 
 pub read_word : {S : Type 0} (HasRead : S → List ℕ → List ℕ → Type 0) (before after : S) (word more : List ℕ)
-    → Reads HasRead before after word more → (front : List (List ℕ)) (made : List ℕ)
+    → ReadsSoFar HasRead before after word more → (front : List (List ℕ)) (made : List ℕ)
     → HasRead before (concat front) made → HasRead after (concat (front ++ word ∷ [])) (made ++ more)
 read_word HasRead before after word more reads front made read =
     subst (λ text. HasRead after text (made ++ more)) (sym (concat_word front word)) (reads (concat front) made read)

@@ -8,7 +8,7 @@ use Rattle.octseq.specs.Integer.{be}
 use Rattle.octseq.specs.OctetsText.{hex_text, ipv6_address_text, octets_after, opaque_text, string_text}
 use Rattle.octseq.specs.Part.{part_of}
 use Rattle.octseq.specs.Window.{Window, left, nested, next, past, rest}
-use Rattle.octseq_dns_data.specs.Data.{HasOctets, IsTypedData, SaysData}
+use Rattle.octseq_dns_data.specs.Data.{HasOctetCount, IsTypedData, SaysData}
 use Rattle.octseq_dns_data.specs.DataText.{strings_text}
 use Rattle.octseq_dns_data.specs.Local.{form}
 use Rattle.octseq_dns_data.specs.RdataText.{rdata_text}
@@ -58,18 +58,18 @@ field_alone it word octets first is = record {
   is = (word, [], octets, [], refl, is, (refl, refl), sym (append-nil octets));
 }
 
-address : (n : ℕ) (w : Window) (octets : List ℕ) (v : Window) → IsSound w → HasOctets n w octets v
+address : (n : ℕ) (w : Window) (octets : List ℕ) (v : Window) → IsSound w → HasOctetCount n w octets v
     → AreOctets octets × (length octets ≡ n)
 address n w octets v sound (few, is, moved) =
     (subst AreOctets (sym is) (each_next n w sound), ap length is ∙ many_next n w sound few)
 
-ipv4_shown : (w : Window) (octets : List ℕ) (v : Window) → IsSound w → HasOctets 4 w octets v
+ipv4_shown : (w : Window) (octets : List ℕ) (v : Window) → IsSound w → HasOctetCount 4 w octets v
     → Shown (IsLayoutText None (field.Ipv4 ∷ []) tail.Nothing) (ipv4_text octets) octets
 ipv4_shown w octets v sound is =
     let has = address 4 w octets v sound is in
     field_alone field.Ipv4 (ipv4_text octets) octets (ipv4_first octets has.0 has.1) (ipv4_word octets has.0 has.1)
 
-ipv6_shown : (w : Window) (octets : List ℕ) (v : Window) → IsSound w → HasOctets 16 w octets v
+ipv6_shown : (w : Window) (octets : List ℕ) (v : Window) → IsSound w → HasOctetCount 16 w octets v
     → Shown (IsLayoutText None (field.Ipv6 ∷ []) tail.Nothing) (ipv6_address_text octets) octets
 ipv6_shown w octets v sound is =
     let has = address 16 w octets v sound is in

@@ -27,17 +27,17 @@ use Rattle.octseq_dns_scan.specs.Time.{IsTime}
 use Rattle.octseq_dns_text.specs.Fields.{IsRtypeWord, IsNameWord}
 use Rattle.octseq_dns_text.specs.Runs.{AreRuns}
 use Rattle.octseq_dns_text.specs.Scans.{AreSome}
-use Rattle.octseq_dns_text.specs.Tails.{IsValue}
-use Rattle.octseq_dns_text.specs.Words.{IsNumber, IsTimeWord, IsCounted, IsStringWord, IsSomeBase32hex, IsSalt}
+use Rattle.octseq_dns_text.specs.Tails.{IsLongString}
+use Rattle.octseq_dns_text.specs.Words.{IsNumeralWord, IsTimeWord, IsCountedWord, IsStringWord, IsSomeBase32hex, IsSalt}
 
 -- ---- numbers
 
-number_by : (size n : ℕ) → n < 2 ^ 64 → n < 256 ^ size → IsNumber size (decimal n) (octets_be size n)
+number_by : (size n : ℕ) → n < 2 ^ 64 → n < 256 ^ size → IsNumeralWord size (decimal n) (octets_be size n)
 number_by size n small few =
     let value = shown_value n small in
     (shown_digits n small, subst (λ v. v < 256 ^ size) (sym value) few, ap (octets_be size) (sym value))
 
-pub number_shown : (size n : ℕ) → size ≤ 4 → n < 256 ^ size → IsNumber size (decimal n) (octets_be size n)
+pub number_shown : (size n : ℕ) → size ≤ 4 → n < 256 ^ size → IsNumeralWord size (decimal n) (octets_be size n)
 number_shown zero n most few = number_by zero n (omega arith) few
 number_shown (suc zero) n most few = number_by 1 n (omega arith) few
 number_shown (suc (suc zero)) n most few = number_by 2 n (omega arith) few
@@ -71,13 +71,13 @@ pub string_shown : (octets : List ℕ) → All (λ octet. octet < 256) octets �
 string_shown octets are few = (octets, string_spelled octets are, few, refl)
 
 pub value_shown : (octets : List ℕ) (least : ℕ) → All (λ octet. octet < 256) octets → least ≤ length octets
-    → IsValue least (string_text octets ∷ []) octets
+    → IsLongString least (string_text octets ∷ []) octets
 value_shown octets least are long = (string_text octets, refl, string_spelled octets are, long)
 
 -- ---- octets
 
 pub salt_shown : (octets : List ℕ) → AreOctets octets → length octets ≤ 255
-    → IsCounted IsSalt (salt_text octets) (length octets ∷ octets)
+    → IsCountedWord IsSalt (salt_text octets) (length octets ∷ octets)
 salt_shown [] are few = ([], inl (refl, refl), few, refl)
 salt_shown (x ∷ octets) are few =
     (x ∷ octets, inr (omega arith, are, hex_written (x ∷ octets) are), few, refl)
@@ -142,5 +142,5 @@ base32hex_lower (a ∷ b ∷ c ∷ d ∷ e ∷ more) (sa, (sb, (sc, (sd, (se, ar
     λ i. p i ∷ q i ∷ r i ∷ s i ∷ t i ∷ u i ∷ v i ∷ w i ∷ rest i
 
 pub hash_shown : (octets : List ℕ) → AreOctets octets → 1 ≤ length octets → length octets ≤ 255
-    → IsCounted IsSomeBase32hex (base32hex_text octets) (length octets ∷ octets)
+    → IsCountedWord IsSomeBase32hex (base32hex_text octets) (length octets ∷ octets)
 hash_shown octets are some few = (octets, (some, are, base32hex_lower octets are), few, refl)

@@ -7,10 +7,19 @@ use Rattle.octseq.proofs.WrittenBack.{AreOctets}
 use Rattle.octseq.specs.Integer.{be, octets_be}
 use Rattle.octseq.specs.OctetsText.{string_text}
 use Rattle.octseq.specs.Window.{Window, nested, rest}
-use Rattle.octseq_dns_data.specs.Form.{Form, Part, ◌followed_by◌, ◌then_each◌, all_octets, alone, domain_name, number}
+use Rattle.octseq_dns_data.specs.Form.{
+  Form,
+  FormPart,
+  ◌followed_by◌,
+  ◌then_each◌,
+  all_octets,
+  alone,
+  domain_name,
+  number,
+}
 use Rattle.octseq_dns_data.specs.Form.{octets_of, plain_name, string}
 use Rattle.octseq_dns_data.specs.Formed.{IsFormed, IsSome, IsSomeString, IsString}
-use Rattle.octseq_dns_data.specs.PlainName.{named}
+use Rattle.octseq_dns_data.specs.UncompressedName.{named}
 use Rattle.octseq_dns_data.specs.Tag.{IsCaaTag}
 use Rattle.octseq_dns_data.specs.Typed.{hexadecimal, owner_hash, quoted, rtype_number, salt, salt_text, some_base64}
 use Rattle.octseq_dns_data.specs.Typed.{some_hexadecimal, time}
@@ -68,7 +77,7 @@ pub record ShownAfter (it : Tail) (text octets : List ℕ) : Type 0 where
 
 -- The text of a part is a word, which is a field of the part's octets. What it says has octets. They are those that it
 -- takes, unless it may have pointers.
-pub record IsShownPart (may : Bool) (it : Field) (part : Part) : Type 0 where
+pub record IsShownPart (may : Bool) (it : Field) (part : FormPart) : Type 0 where
   pub word : (w : Window) (found : part.Found) (v : Window) → IsSound w → part.Is w found v
       → IsFirst (part.text found) × IsFieldText None it (part.text found) (part.octets (part.says found))
   pub fits : (w : Window) (found : part.Found) (v : Window) → IsSound w → part.Is w found v
@@ -98,7 +107,7 @@ pub record IsShownTail (it : Tail) (form : Form) : Type 0 where
 
 -- ---- one after another
 
-module _ {a b : Bool} {it : Field} {part : Part} {fields : List Field} {end : Tail} {form : Form} where
+module _ {a b : Bool} {it : Field} {part : FormPart} {fields : List Field} {end : Tail} {form : Form} where
   infixr 5 ◌shown_before◌
   pub ◌shown_before◌ : IsShownPart a it part → IsShownForm b fields end form
       → IsShownForm (a || b) (it ∷ fields) end (part followed_by form)
@@ -131,7 +140,7 @@ module _ {a b : Bool} {it : Field} {part : Part} {fields : List Field} {end : Ta
         ∙ sym (append_assoc x y (rest v));
   }
 
-module _ {may : Bool} {it : Field} {part : Part} {end : Tail} {form : Form} where
+module _ {may : Bool} {it : Field} {part : FormPart} {end : Tail} {form : Form} where
   infixr 5 ◌shown_with◌
   pub ◌shown_with◌ : IsShownPart may it part → IsShownTail end form
       → IsShownForm may (it ∷ []) end (part then_each form)
@@ -163,7 +172,7 @@ module _ {may : Bool} {it : Field} {part : Part} {end : Tail} {form : Form} wher
         ∙ sym (append_assoc x y (rest v));
   }
 
-pub shown_alone : {may : Bool} {it : Field} {part : Part} → IsShownPart may it part
+pub shown_alone : {may : Bool} {it : Field} {part : FormPart} → IsShownPart may it part
     → IsShownForm may (it ∷ []) tail.Nothing (alone part)
 shown_alone {part = part} one = record {
   shown = λ w found v sound is.
@@ -365,7 +374,8 @@ one_word it word octets first is = record {
 
 -- all octets that are left, of which there is one
 some_octets : {it : Tail} {text : List ℕ → List ℕ} → ((octets : List ℕ) → AreOctets octets → 1 ≤ length octets
-    → IsFirst (text octets) × IsTailText it (text octets ∷ []) octets) → IsShownForm false [] it (octets_of IsSome text it)
+    → IsFirst (text octets) × IsTailText it (text octets ∷ []) octets)
+    → IsShownForm false [] it (octets_of IsSome text it)
 some_octets {it = it} {text = text} shows = record {
   shown = λ w place v sound is.
       let each = subst (λ p. AreOctets (rest p)) (sym is.0.0) (each_rest w sound) in

@@ -7,7 +7,7 @@ use Rattle.octseq.specs.Window.{Window, left, past, rest}
 use Rattle.octseq_dns_data.specs.Form.{Form, no_form}
 use Rattle.octseq_dns_data.specs.Typed.{IsClass, IsOfClass, KnownType, form, in_any_class, in_class_in, known_in}
 use Rattle.octseq_dns_data.specs.Typed.{known_types, layout_of, pick}
-use Rattle.octseq_dns_data.specs.Local.{IsWhole}
+use Rattle.octseq_dns_data.specs.Local.{TakesWindow}
 use Rattle.octseq_dns_data.specs.Rtype as types
 use Rattle.octseq_dns_scan.specs.Word.{AreWords}
 use Rattle.octseq_format.specs.Canonical.{IsSound}
@@ -151,7 +151,7 @@ pub local_fits : (rtype : ℕ) (w : Window) (found : (form rtype).Found) (v : Wi
 local_fits rtype w found v sound is = (known_shown known_types rtype all_shown).fits w found v sound is
 
 -- If it takes its whole window, these are the octets of the window.
-pub local_same : (rtype : ℕ) (w : Window) (found : (form rtype).Found) → IsSound w → IsWhole (form rtype).Is w found
+pub local_same : (rtype : ℕ) (w : Window) (found : (form rtype).Found) → IsSound w → TakesWindow (form rtype).Is w found
     → (form rtype).octets ((form rtype).says found) ≡ rest w
 local_same rtype w found sound is =
     let v = past (left w) w in

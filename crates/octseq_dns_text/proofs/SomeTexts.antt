@@ -2,12 +2,12 @@
 use Rattle.std.proofs.Common.{◌≡◌, ℕ, ◌≤◌, List, [], ◌∷◌, ◌++◌, length, refl, arith}
 use Rattle.octseq_dns_scan.specs.Word.{AreWords, TakesWord}
 use Rattle.octseq_dns_text.proofs.ReadTexts.{takes_some}
-use Rattle.octseq_dns_text.specs.Scans.{Goes, AreSome, IsFault}
+use Rattle.octseq_dns_text.specs.Scans.{Goes, AreSome, IsWordFault}
 
 -- none is as it has to be from the first word on
 pub fault_first : (Is : List (List ℕ) → List ℕ → Type 0) (ahead : List ℕ) (start : ℕ) → Goes Is []
     → ((word left : List ℕ) → TakesWord word ahead left → ¬ Goes Is (word ∷ []))
-    → (ahead ≡ [] → (octets : List ℕ) → ¬ (Is [] octets)) → IsFault Is ahead start start
+    → (ahead ≡ [] → (octets : List ℕ) → ¬ (Is [] octets)) → IsWordFault Is ahead start start
 fault_first Is ahead start goes stops ends = record {
   front = [];
   rest = ahead;
@@ -19,7 +19,7 @@ fault_first Is ahead start goes stops ends = record {
 }
 
 pub some_end : (Is : List (List ℕ) → List ℕ → Type 0) (ahead : List ℕ) (start : ℕ) → ahead ≡ []
-    → Goes (AreSome Is) [] → IsFault (AreSome Is) ahead start start
+    → Goes (AreSome Is) [] → IsWordFault (AreSome Is) ahead start start
 some_end Is ahead start none goes = fault_first (AreSome Is) ahead start goes
     (λ word left takes. absurd (takes_some word ahead left takes none))
     (λ same octets is. absurd (omega (arith, is.0)))
@@ -35,7 +35,7 @@ some_go Is [] first goes = first
 some_go Is (word ∷ front) first (more, octets, is) = (more, octets, (omega arith, is))
 
 pub some_fault : (Is : List (List ℕ) → List ℕ → Type 0) (ahead : List ℕ) (start : ℕ) → Goes (AreSome Is) []
-    → (offset : ℕ) → IsFault Is ahead start offset → IsFault (AreSome Is) ahead start offset
+    → (offset : ℕ) → IsWordFault Is ahead start offset → IsWordFault (AreSome Is) ahead start offset
 some_fault Is ahead start first offset fault = record {
   front = fault.front;
   rest = fault.rest;

@@ -8,8 +8,8 @@ use Rattle.octseq_dns_scan.specs.Spelled.{is_special_in_string, SpellsOctet, Spe
 use Rattle.octseq_dns_scan.specs.Word.{TakesWord}
 use Rattle.octseq_dns_text.proofs.ReadTexts.{takes_some}
 use Rattle.octseq_dns_text.proofs.SomeTexts.{fault_first}
-use Rattle.octseq_dns_text.specs.Scans.{Goes, AreSome, IsFault}
-use Rattle.octseq_dns_text.specs.Tails.{IsValue, AreStrings}
+use Rattle.octseq_dns_text.specs.Scans.{Goes, AreSome, IsWordFault}
+use Rattle.octseq_dns_text.specs.Tails.{IsLongString, AreStrings}
 use Rattle.octseq_dns_text.specs.Words.{IsStringWord}
 
 -- the letter a spells itself
@@ -21,26 +21,27 @@ string_a = (97 ∷ [], spells_a, omega arith, refl)
 
 -- ---- one string
 
-pub value_goes : (least : ℕ) → least ≤ 1 → Goes (IsValue least) []
+pub value_goes : (least : ℕ) → least ≤ 1 → Goes (IsLongString least) []
 value_goes least few = ((97 ∷ []) ∷ [], 97 ∷ [], (97 ∷ [], refl, spells_a, few))
 
 value_stops : (least : ℕ) (word : List ℕ) → ((octets : List ℕ) → SpellsString octets word → ¬ (least ≤ length octets))
-    → ¬ Goes (IsValue least) (word ∷ [])
+    → ¬ Goes (IsLongString least) (word ∷ [])
 value_stops least word none (more, octets, (other, same, spells, long)) =
     let first : other ≡ word = cc in
     none octets (subst (SpellsString octets) first spells) long
 
 pub value_first : (least : ℕ) (word ahead rest : List ℕ) (start : ℕ) → least ≤ 1 → TakesWord word ahead rest
     → ((octets : List ℕ) → SpellsString octets word → ¬ (least ≤ length octets))
-    → IsFault (IsValue least) ahead start start
-value_first least word ahead rest start few taken none = fault_first (IsValue least) ahead start (value_goes least few)
-    (λ other left takes. subst (λ w. ¬ Goes (IsValue least) (w ∷ []))
+    → IsWordFault (IsLongString least) ahead start start
+value_first least word ahead rest start few taken none = fault_first (IsLongString least) ahead start
+    (value_goes least few)
+    (λ other left takes. subst (λ w. ¬ Goes (IsLongString least) (w ∷ []))
     (sym (word_once other word ahead left rest takes taken).0) (value_stops least word none))
     (λ same. absurd (takes_some word ahead rest taken same))
 
 pub value_none : (least : ℕ) (ahead : List ℕ) (start : ℕ) → least ≤ 1
-    → ((word rest : List ℕ) → ¬ TakesWord word ahead rest) → IsFault (IsValue least) ahead start start
-value_none least ahead start few none = fault_first (IsValue least) ahead start (value_goes least few)
+    → ((word rest : List ℕ) → ¬ TakesWord word ahead rest) → IsWordFault (IsLongString least) ahead start start
+value_none least ahead start few none = fault_first (IsLongString least) ahead start (value_goes least few)
     (λ other left takes. absurd (none other left takes))
     (λ same octets (word, never, spells, long). absurd (cc))
 
@@ -58,7 +59,7 @@ value_long least len word octets other enough spells long also =
 
 pub value_after : (least : ℕ) (word octets ahead rest : List ℕ) (start offset : ℕ) → TakesWord word ahead rest
     → offset + length rest ≡ start + length ahead → SpellsString octets word → least ≤ length octets
-    → ¬ (rest ≡ []) → IsFault (IsValue least) ahead start offset
+    → ¬ (rest ≡ []) → IsWordFault (IsLongString least) ahead start offset
 value_after least word octets ahead rest start offset taken same spells long some = record {
   front = word ∷ [];
   rest = rest;

@@ -10,7 +10,7 @@ use Rattle.octseq_dns_scan.specs.Base64.{IsBase64Text}
 use Rattle.octseq_dns_scan.specs.Base64Read.{HasReadBase64}
 use Rattle.octseq_dns_scan.specs.Hex.{IsHexText}
 use Rattle.octseq_dns_scan.specs.HexRead.{HasReadHex, open_digit}
-use Rattle.octseq_dns_scan.specs.TextReader.{NoText, Reads, Feeds}
+use Rattle.octseq_dns_scan.specs.TextReader.{NoText, ReadsSoFar, Feeds}
 use Rattle.octseq_dns_scan.specs.declared.base64.Base64Reader.{Base64Reader}
 use Rattle.octseq_dns_scan.specs.declared.hex.HexReader.{HexReader}
 use Rattle.octseq_dns_text.proofs.ReaderLengths.{even, hex_length, base64_length}

@@ -12,7 +12,7 @@ use Rattle.std.proofs.lemmas.Fmt.{IsAscii-from_digits}
 use Rattle.std.proofs.lemmas.List.Elements.{All-from_recursion}
 use Rattle.std.proofs.lemmas.Str.{IsAscii-append, IsUtf8-from_ascii}
 use Rattle.std.proofs.lemmas.Str.Ascii.{IsAscii-from_all, lowercase_ascii, lowercase_is}
-use Rattle.octseq_dns_data.specs.Mnemonic.{Names, ReadsRtype, Spells}
+use Rattle.octseq_dns_data.specs.Mnemonic.{Mnemonics, ReadsRtype, SpellsWord}
 use Rattle.octseq_dns_data.specs.Rtype.{rtype_names}
 use Rattle.octseq_dns_data.specs.RtypeBitmapMade.{bitmap_of}
 use Rattle.octseq_dns_data.proofs.Mnemonics.{one_number, rtypes_unambiguous}
@@ -34,7 +34,7 @@ small_octet octet other same small =
     let stays = (lowercase_is octet).2 in
     grind (arith, same, lower, stays)
 
-small_spelled : (text word : List ℕ) → Spells text word → Small word → Small text
+small_spelled : (text word : List ℕ) → SpellsWord text word → Small word → Small text
 small_spelled [] word spelled small = tt
 small_spelled (t ∷ text) [] spelled small = absurd (cc)
 small_spelled (t ∷ text) (w ∷ word) spelled (first, more) =
@@ -44,7 +44,7 @@ abbrev is_small : List ℕ → Bool
 is_small [] = true
 is_small (octet ∷ octets) = nat_lt octet 128 && is_small octets
 
-abbrev are_small : Names → Bool
+abbrev are_small : Mnemonics → Bool
 are_small [] = true
 are_small (named ∷ more) = is_small named.1 && are_small more
 
@@ -58,7 +58,7 @@ small_from (octet ∷ octets) is =
     let parts = both (nat_lt octet 128) (is_small octets) is in
     ((Decides-ltb octet 128).0 parts.0, small_from octets parts.1)
 
-small_among : (names : Names) (number : ℕ) (name : List ℕ) → are_small names ≡ true → IsAmong names (number, name)
+small_among : (names : Mnemonics) (number : ℕ) (name : List ℕ) → are_small names ≡ true → IsAmong names (number, name)
     → Small name
 small_among [] number name good among = absurd (omega (arith, among.1.0))
 small_among (named ∷ more) number name good among =

@@ -12,12 +12,12 @@ use Rattle.octseq.specs.OctetsText.{hex_text}
 use Rattle.octseq.specs.declared.error.WriteError.{WriteError}
 use Rattle.octseq_dns_scan.proofs.Spellings.{string_once}
 use Rattle.octseq_dns_scan.specs.Base32hex.{quintets, base32hex_text, IsBase32hexText}
-use Rattle.octseq_dns_scan.specs.Base32hexPlace.{EndsAt}
+use Rattle.octseq_dns_scan.specs.Base32hexPlace.{EndsAtBits}
 use Rattle.octseq_dns_scan.specs.Base32hexRead.{HasReadBase32hex}
 use Rattle.octseq_dns_scan.specs.Hex.{IsHexText}
 use Rattle.octseq_dns_scan.specs.HexRead.{HasReadHex}
 use Rattle.octseq_dns_scan.specs.Spelled.{SpellsString, IsUnscanned}
-use Rattle.octseq_dns_scan.specs.TextReader.{NoText, Reads, Feeds}
+use Rattle.octseq_dns_scan.specs.TextReader.{NoText, ReadsSoFar, Feeds}
 use Rattle.octseq_dns_scan.specs.declared.base32hex.Base32hexReader.{Base32hexReader}
 use Rattle.octseq_dns_scan.specs.declared.base32hex.Place.{Place}
 use Rattle.octseq_dns_scan.specs.declared.base32hex.Place.TheVariants.{Whole, One, Two, Three, Four, Five, Six, Seven}
@@ -104,7 +104,7 @@ groups_length (a ∷ b ∷ c ∷ d ∷ []) whole = absurd (omega (arith, whole))
 groups_length (a ∷ b ∷ c ∷ d ∷ e ∷ more) whole = omega (arith, groups_length more (omega (arith, whole)))
 
 -- five octets for each group of eight digits
-base32hex_length : (place : Place) (bits : ℕ) (text octets : List ℕ) → EndsAt place bits text octets
+base32hex_length : (place : Place) (bits : ℕ) (text octets : List ℕ) → EndsAtBits place bits text octets
     → 8 * length octets ≤ 5 * length text
 base32hex_length Whole bits text octets (whole, same) =
     let lengths = ap length same in

@@ -9,7 +9,15 @@ use Rattle.octseq_dns_name.specs.Origin.{SpellsWithOrigin}
 use Rattle.octseq_dns_name.specs.Spelling.{SpellsName}
 use Rattle.octseq_dns_name.specs.Wire.{IsWireOf}
 use Rattle.octseq_dns_scan.specs.Address.{IsIpv4Word}
-use Rattle.octseq_dns_text.specs.Words.{IsNumber, IsTimeWord, IsIpv6, IsCounted, IsStringWord, IsSomeBase32hex, IsSalt}
+use Rattle.octseq_dns_text.specs.Words.{
+  IsNumeralWord,
+  IsTimeWord,
+  IsIpv6,
+  IsCountedWord,
+  IsStringWord,
+  IsSomeBase32hex,
+  IsSalt,
+}
 
 -- a type, in two octets
 abbrev pub IsRtypeWord : List ℕ → List ℕ → Type 0
@@ -30,15 +38,15 @@ IsTagWord word tag = (tag ≡ word) × IsTag word
 
 -- The word is a field of these octets.
 abbrev pub IsFieldText : Option (List (List ℕ)) → Field → List ℕ → List ℕ → Type 0
-IsFieldText origin field.U8 word octets = IsNumber 1 word octets
-IsFieldText origin field.U16 word octets = IsNumber 2 word octets
-IsFieldText origin field.U32 word octets = IsNumber 4 word octets
+IsFieldText origin field.U8 word octets = IsNumeralWord 1 word octets
+IsFieldText origin field.U16 word octets = IsNumeralWord 2 word octets
+IsFieldText origin field.U32 word octets = IsNumeralWord 4 word octets
 IsFieldText origin field.Rtype word octets = IsRtypeWord word octets
 IsFieldText origin field.Time word octets = IsTimeWord word octets
 IsFieldText origin field.Ipv4 word octets = IsIpv4Word word octets
 IsFieldText origin field.Ipv6 word octets = IsIpv6 word octets
 IsFieldText origin field.Name word octets = IsNameWord origin word octets
 IsFieldText origin field.String word octets = IsStringWord word octets
-IsFieldText origin field.Tag word octets = IsCounted IsTagWord word octets
-IsFieldText origin field.Salt word octets = IsCounted IsSalt word octets
-IsFieldText origin field.OwnerHash word octets = IsCounted IsSomeBase32hex word octets
+IsFieldText origin field.Tag word octets = IsCountedWord IsTagWord word octets
+IsFieldText origin field.Salt word octets = IsCountedWord IsSalt word octets
+IsFieldText origin field.OwnerHash word octets = IsCountedWord IsSomeBase32hex word octets

@@ -4,11 +4,11 @@ use Rattle.std.specs.Prelude.{Option, Some, None, if◌then◌else◌}
 use Rattle.std.specs.List.{IsAmong}
 use Rattle.std.specs.Str.{bytes_eq}
 use Rattle.std.specs.Str.Parse.{IsNumeral, digits_value}
-use Rattle.octseq_dns_data.specs.Mnemonic.{Names}
+use Rattle.octseq_dns_data.specs.Mnemonic.{Mnemonics}
 use Rattle.octseq_dns_data.specs.SvcParamsText.{key_names}
 
 -- the first number with a name
-abbrev pub key_named : Names → List ℕ → Option ℕ
+abbrev pub key_named : Mnemonics → List ℕ → Option ℕ
 key_named [] name = None
 key_named (named ∷ more) name = if bytes_eq named.1 name then Some named.0 else key_named more name
 

@@ -1,18 +1,18 @@
 -- Octets that are appended to a content as far as they fit.
 use Rattle.std.specs.Prelude.{◌≡◌, ℕ, ◌+◌, Bool, true, false, Option, Result, Ok, Err, List, ◌++◌, length}
-use Rattle.octseq.specs.Limit.{IsPast}
+use Rattle.octseq.specs.Limit.{ExceedsLimit}
 use Rattle.octseq_dns_text.specs.declared.error.ScanError.{ScanError}
 
 -- The content is what it was at first, and the octets that were made since; or it is full: with these octets it would
 -- exceed its limit.
-pub record Holds (limit : Option ℕ) (base made : List ℕ) (full : Bool) (content : List ℕ) : Type 0 where
+pub record HoldsOutput (limit : Option ℕ) (base made : List ℕ) (full : Bool) (content : List ℕ) : Type 0 where
   pub fits : full ≡ false → content ≡ base ++ made
-  pub past : full ≡ true → IsPast limit (length base + length made)
+  pub past : full ≡ true → ExceedsLimit limit (length base + length made)
 
 -- octets are added to those that were made
 abbrev pub Adds : Option ℕ → Bool → List ℕ → Bool → List ℕ → List ℕ → Type 0
 Adds limit before old after new octets =
-    (base made : List ℕ) → Holds limit base made before old → Holds limit base (made ++ octets) after new
+    (base made : List ℕ) → HoldsOutput limit base made before old → HoldsOutput limit base (made ++ octets) after new
 
 -- what was there stays
 abbrev pub Grows : List ℕ → List ℕ → Type 0

@@ -2,7 +2,7 @@
 -- of these octets.
 use Rattle.std.specs.Prelude.{◌≡◌, ℕ, ◌+◌, ◌≤◌, Bool, true, Option, List, [], ◌∷◌, ◌++◌, length}
 use Rattle.std.specs.Prelude.{Result, OnOk, OnErr, IsErrOf}
-use Rattle.octseq.specs.Limit.{IsPast}
+use Rattle.octseq.specs.Limit.{ExceedsLimit}
 use Rattle.octseq_dns_scan.specs.Word.{TakesWord, AreWords}
 use Rattle.octseq_dns_text.specs.declared.error.ScanError.{ScanError}
 
@@ -22,7 +22,7 @@ BeginsWithWords (word ∷ words) text rest =
 
 -- The first word of the text that isn't what has to come there is at this offset. The end of the text counts as a word,
 -- and so does what is no word at all. `ahead` is what is left of the text, and begins at `start`.
-pub record IsFault (Is : List (List ℕ) → List ℕ → Type 0) (ahead : List ℕ) (start offset : ℕ) : Type 0 where
+pub record IsWordFault (Is : List (List ℕ) → List ℕ → Type 0) (ahead : List ℕ) (start offset : ℕ) : Type 0 where
   -- the words before it, and what begins with it
   pub front : List (List ℕ)
   pub rest : List ℕ
@@ -43,10 +43,10 @@ pub record Scans (Is : List (List ℕ) → List ℕ → Type 0) (limit : Option 
   pub ok : OnOk result ((words : List (List ℕ)) × (octets : List ℕ) × AreWords words ahead × Is words octets
       × (new ≡ old ++ octets))
   -- it is no text
-  pub fault : (offset : ℕ) → IsErrOf result (ScanError.Malformed offset) → IsFault Is ahead start offset
+  pub fault : (offset : ℕ) → IsErrOf result (ScanError.Malformed offset) → IsWordFault Is ahead start offset
   -- it is a text, with whose octets the content would exceed its limit
   pub short : IsErrOf result ScanError.Short → (words : List (List ℕ)) × (octets : List ℕ) × AreWords words ahead
-      × Is words octets × IsPast limit (length old + length octets)
+      × Is words octets × ExceedsLimit limit (length old + length octets)
   pub memory : IsErrOf result ScanError.Memory → asks ≡ true
   -- the content is then unchanged
   pub kept : OnErr result (new ≡ old)

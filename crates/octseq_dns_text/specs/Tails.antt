@@ -12,12 +12,12 @@ use Rattle.octseq_dns_text.specs.TypesText.{IsTypesText}
 use Rattle.octseq_dns_text.specs.Words.{IsStringWord}
 
 -- no word
-abbrev pub IsNothing : List (List ℕ) → List ℕ → Type 0
-IsNothing words octets = (words ≡ []) × (octets ≡ [])
+abbrev pub IsNoWord : List (List ℕ) → List ℕ → Type 0
+IsNoWord words octets = (words ≡ []) × (octets ≡ [])
 
 -- one word, a string of so many octets or more
-abbrev pub IsValue : ℕ → List (List ℕ) → List ℕ → Type 0
-IsValue least words octets =
+abbrev pub IsLongString : ℕ → List (List ℕ) → List ℕ → Type 0
+IsLongString least words octets =
     (word : List ℕ) × (words ≡ word ∷ []) × SpellsString octets word × (least ≤ length octets)
 
 -- character strings
@@ -28,9 +28,9 @@ AreStrings (word ∷ words) octets = (first rest : List ℕ) × IsStringWord wor
 
 -- the words are a tail of these octets
 abbrev pub IsTailText : Tail → List (List ℕ) → List ℕ → Type 0
-IsTailText tail.Nothing words octets = IsNothing words octets
-IsTailText tail.Value words octets = IsValue 0 words octets
-IsTailText tail.Target words octets = IsValue 1 words octets
+IsTailText tail.Nothing words octets = IsNoWord words octets
+IsTailText tail.Value words octets = IsLongString 0 words octets
+IsTailText tail.Target words octets = IsLongString 1 words octets
 IsTailText tail.Strings words octets = AreSome AreStrings words octets
 IsTailText tail.Hex words octets = AreSome (AreRuns IsHexText) words octets
 IsTailText tail.Base64 words octets = AreSome (AreRuns IsBase64Text) words octets

@@ -10,8 +10,8 @@ use Rattle.octseq_dns_scan.specs.Spelled.{SpellsString}
 use Rattle.octseq_dns_scan.specs.Time.{IsTime}
 
 -- a number in digits, in so many octets
-abbrev pub IsNumber : ℕ → List ℕ → List ℕ → Type 0
-IsNumber size word octets = IsNumeral 10 word × (digits_value 10 word < 256 ^ size)
+abbrev pub IsNumeralWord : ℕ → List ℕ → List ℕ → Type 0
+IsNumeralWord size word octets = IsNumeral 10 word × (digits_value 10 word < 256 ^ size)
     × (octets ≡ octets_be size (digits_value 10 word))
 
 -- a time, in four octets
@@ -22,13 +22,13 @@ abbrev pub IsIpv6 : List ℕ → List ℕ → Type 0
 IsIpv6 word octets = AreOctets octets × (length octets ≡ 16) × IsIpv6Word word octets
 
 -- The word is at most 255 octets, and these are made of it after their length.
-abbrev pub IsCounted : (List ℕ → List ℕ → Type 0) → List ℕ → List ℕ → Type 0
-IsCounted Is word octets =
+abbrev pub IsCountedWord : (List ℕ → List ℕ → Type 0) → List ℕ → List ℕ → Type 0
+IsCountedWord Is word octets =
     (inside : List ℕ) × Is word inside × (length inside ≤ 255) × (octets ≡ length inside ∷ inside)
 
 -- a character string
 abbrev pub IsStringWord : List ℕ → List ℕ → Type 0
-IsStringWord = IsCounted (λ word inside. SpellsString inside word)
+IsStringWord = IsCountedWord (λ word inside. SpellsString inside word)
 
 -- one or more octets in hexadecimal, or in base 32
 abbrev pub IsSomeHex : List ℕ → List ℕ → Type 0

@@ -11,7 +11,7 @@ ghost use Rattle.octseq_dns_text.specs.Fields.{IsFieldText};
 ghost use Rattle.octseq_dns_text.specs.Layouts.{IsLayoutText};
 ghost use Rattle.octseq_dns_text.specs.Output.{Adds, Grows, unless_full};
 ghost use Rattle.octseq_dns_text.specs.Reached.{Reached, ReadsText};
-ghost use Rattle.octseq_dns_text.specs.Scans.{Scans, IsFault};
+ghost use Rattle.octseq_dns_text.specs.Scans.{Scans, IsWordFault};
 ghost use Rattle.octseq_dns_text.specs.Tails.{has_list};
 
 use crate::error::ScanError;
@@ -154,7 +154,7 @@ fn append_fields<R: AsOctets + Copy, B: OctetsBuilder>(
         fields.now Tail.Nothing) (ahead_of words.old) (offset_of words.old) B.limit (B.content target.old)
         (ahead_of words.new) (offset_of words.new) full (B.content target.new)) }
     ensures fault { (offset : ℕ) → IsErrOf result (ScanError.Malformed offset) → (tail : Tail)
-        → IsFault (IsLayoutText (option_map (λ name. labels_of name.now) origin.entry) fields.now tail)
+        → IsWordFault (IsLayoutText (option_map (λ name. labels_of name.now) origin.entry) fields.now tail)
         (ahead_of words.old) (offset_of words.old) offset }
     ensures short { ¬ IsErrOf result ScanError.Short }
     ensures memory { IsErrOf result ScanError.Memory → B.asks ≡ true }

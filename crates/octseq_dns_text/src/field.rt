@@ -4,7 +4,7 @@ ghost use Rattle.octseq_dns_name.specs.Owned.{owned_labels};
 ghost use Rattle.octseq_dns_name.specs.Read.{labels_of};
 ghost use Rattle.octseq_dns_name.specs.Wire.{IsWireOf};
 ghost use Rattle.octseq_dns_text.specs.Fields.{IsRtypeWord, IsNameWord, IsTagWord, IsFieldText};
-ghost use Rattle.octseq_dns_text.specs.Words.{IsCounted};
+ghost use Rattle.octseq_dns_text.specs.Words.{IsCountedWord};
 
 use crate::types::scan_type;
 use crate::word::{
@@ -83,14 +83,15 @@ fn wire_octets(name: &Name<Array<255>>) -> Array<256>
     ensures { IsWireOf (owned_labels name.now) result.content }
 {
     a_name_has_labels(&name.parsed());
+    // A name has at most 255 octets.
     let _len = name.len();
     held(name.as_slice())
 }
 
 /// Returns a property tag after its length.
 fn tag_octets(word: &[u8]) -> Option<Array<256>>
-    ensures some { IfSome result (λ found. IsCounted IsTagWord word.now found.content) }
-    ensures none { IsNone result → (octets : List ℕ) → ¬ (IsCounted IsTagWord word.now octets) }
+    ensures some { IfSome result (λ found. IsCountedWord IsTagWord word.now found.content) }
+    ensures none { IsNone result → (octets : List ℕ) → ¬ (IsCountedWord IsTagWord word.now octets) }
 {
     if word.len() > STRING_MAX {
         return None;

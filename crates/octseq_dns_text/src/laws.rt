@@ -25,8 +25,15 @@ ghost use Rattle.octseq_dns_text.specs.DataShown.{ShowsData, rdata_octets};
 ghost use Rattle.octseq_dns_text.specs.Fields.{IsRtypeWord, IsNameWord, IsTagWord};
 ghost use Rattle.octseq_dns_text.specs.Runs.{AreRuns};
 ghost use Rattle.octseq_dns_text.specs.Scans.{AreSome};
-ghost use Rattle.octseq_dns_text.specs.Tails.{IsValue};
-ghost use Rattle.octseq_dns_text.specs.Words.{IsNumber, IsTimeWord, IsIpv6, IsCounted, IsStringWord, IsSomeBase32hex};
+ghost use Rattle.octseq_dns_text.specs.Tails.{IsLongString};
+ghost use Rattle.octseq_dns_text.specs.Words.{
+  IsNumeralWord,
+  IsTimeWord,
+  IsIpv6,
+  IsCountedWord,
+  IsStringWord,
+  IsSomeBase32hex,
+};
 ghost use Rattle.octseq_dns_text.specs.Words.{IsSalt};
 ghost use Rattle.octseq_dns_scan.specs.Address.{IsIpv4Word};
 
@@ -34,7 +41,7 @@ ghost use Rattle.octseq_dns_scan.specs.Address.{IsIpv4Word};
 ///
 /// It does nothing. Calling it brings the law into the caller's proof.
 pub fn fields_are_read_as_shown()
-    ensures number { (size n : ℕ) → size ≤ 4 → n < 256 ^ size → IsNumber size (decimal n) (octets_be size n) }
+    ensures number { (size n : ℕ) → size ≤ 4 → n < 256 ^ size → IsNumeralWord size (decimal n) (octets_be size n) }
     ensures rtype { (n : ℕ) → n < 65536 → IsRtypeWord (rtype_text n) (octets_be 2 n) }
     ensures time { (n : ℕ) → n < 2 ^ 32 → IsTimeWord (decimal n) (octets_be 4 n) }
     ensures ipv4 { (octets : List ℕ) → AreOctets octets → length octets ≡ 4 → IsIpv4Word (ipv4_text octets) octets }
@@ -44,13 +51,13 @@ pub fn fields_are_read_as_shown()
         → AreLabels labels → wire_length labels ≤ 255 → IsNameWord origin (name_text labels) (wire labels) }
     ensures string { (octets : List ℕ) → All (λ octet. octet < 256) octets → length octets ≤ 255
         → IsStringWord (string_text octets) (length octets ∷ octets) }
-    ensures tag { (tag : List ℕ) → IsCaaTag tag → IsCounted IsTagWord tag (length tag ∷ tag) }
+    ensures tag { (tag : List ℕ) → IsCaaTag tag → IsCountedWord IsTagWord tag (length tag ∷ tag) }
     ensures salt { (octets : List ℕ) → AreOctets octets → length octets ≤ 255
-        → IsCounted IsSalt (salt_text octets) (length octets ∷ octets) }
+        → IsCountedWord IsSalt (salt_text octets) (length octets ∷ octets) }
     ensures hash { (octets : List ℕ) → AreOctets octets → 1 ≤ length octets → length octets ≤ 255
-        → IsCounted IsSomeBase32hex (base32hex_text octets) (length octets ∷ octets) }
+        → IsCountedWord IsSomeBase32hex (base32hex_text octets) (length octets ∷ octets) }
     ensures value { (octets : List ℕ) (least : ℕ) → All (λ octet. octet < 256) octets → least ≤ length octets
-        → IsValue least (string_text octets ∷ []) octets }
+        → IsLongString least (string_text octets ∷ []) octets }
     ensures hex { (octets : List ℕ) → AreOctets octets
         → AreSome (AreRuns IsHexText) (flat_map hex_text octets ∷ []) octets }
     ensures base64 { (octets : List ℕ) → AreOctets octets

@@ -12,7 +12,7 @@ ghost use Rattle.octseq_dns_scan.specs.Words.{ahead_of, offset_of};
 ghost use Rattle.octseq_dns_text.specs.ParamText.{IsParamText, Says};
 ghost use Rattle.octseq_dns_text.specs.ParamsText.{IsParamsText};
 ghost use Rattle.octseq_dns_text.specs.Reading.{AreReadParams, params_in};
-ghost use Rattle.octseq_dns_text.specs.Scans.{IsFault, Scans};
+ghost use Rattle.octseq_dns_text.specs.Scans.{IsWordFault, Scans};
 ghost use Rattle.octseq_dns_text.specs.declared.error.ScanError.{ScanError};
 
 mod addresses;
@@ -97,7 +97,7 @@ fn read_params(alloc: Global, words: Words) -> Result<BTreeMap<u16, Vec<u8>>, Sc
         × AreReadParams front (params_in params)) }
     ensures ascending { IfOk result (λ params. IsStrictlyIncreasing (map (λ param. param.0) (params_in params))) }
     ensures fault { (offset : ℕ) → IsErrOf result (ScanError.Malformed offset)
-        → IsFault IsParamsText (ahead_of words.entry) (offset_of words.entry) offset }
+        → IsWordFault IsParamsText (ahead_of words.entry) (offset_of words.entry) offset }
     ensures within { ¬ IsErrOf result ScanError.Short }
 {
     let mut params = BTreeMap::new(alloc);

@@ -4,7 +4,7 @@ ghost use Rattle.std.specs.Prelude.{IsTrue, IsFalse, IsErrOf};
 ghost use Rattle.octseq.proofs.WrittenBack.{AreOctets};
 ghost use Rattle.octseq_dns_scan.specs.Base64.{IsBase64Text};
 ghost use Rattle.octseq_dns_scan.specs.Hex.{IsHexText};
-ghost use Rattle.octseq_dns_scan.specs.TextReader.{NoText, Reads};
+ghost use Rattle.octseq_dns_scan.specs.TextReader.{NoText, ReadsSoFar};
 ghost use Rattle.octseq_dns_scan.specs.Words.{ahead_of, offset_of};
 ghost use Rattle.octseq_dns_text.specs.Output.{Adds, Grows};
 ghost use Rattle.octseq_dns_text.specs.Reached.{ReadsText};
@@ -27,7 +27,7 @@ pub(crate) trait RunReader: Copy {
     /// Reads an octet of the text: the reader after it, and the octets that it makes whole.
     fn take(self, octet: u8) -> Option<(Self, Array<4>)>
         ensures some { IfSome result (λ next. (start : Self)
-            → Reads (has_read start) self next.0 (octet ∷ []) next.1.content) }
+            → ReadsSoFar (has_read start) self next.0 (octet ∷ []) next.1.content) }
         ensures none { IsNone result → (start : Self) (text octets : List ℕ) → has_read start self text octets
             → NoText (is_text start) (text ++ octet ∷ []) };
 
@@ -215,7 +215,7 @@ fn append_run<R: RunReader, B: OctetsBuilder>(
     full: bool,
 ) -> Result<(R, bool), ReadError>
     ensures ok { IfOk result (λ next. (more : List ℕ)
-        × ((start : R) → Reads (R.has_read start) reader next.0 run.now more)
+        × ((start : R) → ReadsSoFar (R.has_read start) reader next.0 run.now more)
         × Adds B.limit full (B.content target.old) next.1 (B.content target.new) more) }
     ensures malformed { IsErrOf result ReadError.Malformed → (start : R) (text octets : List ℕ)
         → R.has_read start reader text octets → NoText (R.is_text start) (text ++ run.now) }

@@ -4,7 +4,7 @@ ghost use Rattle.octseq_dns_scan.specs.Words.{ahead_of, offset_of};
 ghost use Rattle.octseq_dns_text.specs.Output.{Grows};
 ghost use Rattle.octseq_dns_text.specs.Reached.{ReadsText};
 ghost use Rattle.octseq_dns_text.specs.Scans.{AreSome};
-ghost use Rattle.octseq_dns_text.specs.Tails.{IsNothing, IsValue, AreStrings, IsTailText, has_list};
+ghost use Rattle.octseq_dns_text.specs.Tails.{IsNoWord, IsLongString, AreStrings, IsTailText, has_list};
 
 use crate::error::ScanError;
 use crate::output::append;
@@ -43,7 +43,7 @@ pub(crate) fn scan_tail<B: OctetsBuilder + Truncate>(
 
 /// Reads the end of the text.
 fn scan_nothing<B: OctetsBuilder>(words: Words, target: &mut B) -> Result<(), ScanError>
-    ensures reads { ReadsText IsNothing B.limit B.asks result (ahead_of words.entry) (offset_of words.entry)
+    ensures reads { ReadsText IsNoWord B.limit B.asks result (ahead_of words.entry) (offset_of words.entry)
         (B.content target.old) (B.content target.new) }
     ensures grows { Grows (B.content target.old) (B.content target.new) }
     ensures borrows { B.borrows target.new ≡ B.borrows target.old }
@@ -61,7 +61,7 @@ fn scan_value<B: OctetsBuilder + Truncate>(
     target: &mut B,
 ) -> Result<(), ScanError>
     requires { least ≤ 1 }
-    ensures reads { ReadsText (IsValue least) B.limit B.asks result (ahead_of words.entry) (offset_of words.entry)
+    ensures reads { ReadsText (IsLongString least) B.limit B.asks result (ahead_of words.entry) (offset_of words.entry)
         (B.content target.old) (B.content target.new) }
     ensures grows { Grows (B.content target.old) (B.content target.new) }
     ensures borrows { B.borrows target.new ≡ B.borrows target.old }

@@ -7,7 +7,7 @@ ghost use Rattle.octseq_dns_data.specs.Mnemonic.{ReadsRtype, rtype_text};
 ghost use Rattle.octseq_dns_data.specs.RtypeBitmapMade.{bitmap_of};
 ghost use Rattle.octseq_dns_scan.specs.Word.{AreWords, IsWord, TakesWord};
 ghost use Rattle.octseq_dns_scan.specs.Words.{ahead_of, offset_of};
-ghost use Rattle.octseq_dns_text.specs.Scans.{IsFault, Scans};
+ghost use Rattle.octseq_dns_text.specs.Scans.{IsWordFault, Scans};
 ghost use Rattle.octseq_dns_text.specs.TypesText.{IsTypesText};
 ghost use Rattle.octseq_dns_text.specs.declared.error.ScanError.{ScanError};
 
@@ -67,7 +67,7 @@ fn read_types(alloc: Global, words: Words) -> Result<Vec<Rtype>, ScanError>
     ensures ok { IfOk result (λ rtypes. (front : List (List ℕ)) × AreWords front (ahead_of words.entry)
         × AllZip ReadsRtype front rtypes.items × IsDistinct nat_eq rtypes.items) }
     ensures fault { (offset : ℕ) → IsErrOf result (ScanError.Malformed offset)
-        → IsFault IsTypesText (ahead_of words.entry) (offset_of words.entry) offset }
+        → IsWordFault IsTypesText (ahead_of words.entry) (offset_of words.entry) offset }
     ensures within { ¬ IsErrOf result ScanError.Short }
 {
     let mut rtypes = Vec::new(alloc);

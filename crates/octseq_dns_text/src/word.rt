@@ -2,7 +2,14 @@
 ghost use Rattle.std.specs.Prelude.{◌≡◌, ◌≤◌, ℕ, List, [], ◌∷◌, length, IsNone, IfSome};
 ghost use Rattle.octseq.proofs.WrittenBack.{AreOctets};
 ghost use Rattle.octseq_dns_scan.specs.Address.{IsIpv4Word};
-ghost use Rattle.octseq_dns_text.specs.Words.{IsNumber, IsTimeWord, IsIpv6, IsCounted, IsStringWord, IsSomeHex};
+ghost use Rattle.octseq_dns_text.specs.Words.{
+  IsNumeralWord,
+  IsTimeWord,
+  IsIpv6,
+  IsCountedWord,
+  IsStringWord,
+  IsSomeHex,
+};
 ghost use Rattle.octseq_dns_text.specs.Words.{IsSomeBase32hex, IsSalt};
 
 use octseq::builder::infallible;
@@ -15,8 +22,8 @@ use octseq_dns_scan::{
 /// Returns the octet of a number of 8 bits.
 #[tactic(auto, using(octseq::proofs::Written::made_be_1))]
 pub(crate) fn u8_octets(word: &[u8]) -> Option<Array<256>>
-    ensures some { IfSome result (λ found. IsNumber 1 word.now found.content) }
-    ensures none { IsNone result → (octets : List ℕ) → ¬ (IsNumber 1 word.now octets) }
+    ensures some { IfSome result (λ found. IsNumeralWord 1 word.now found.content) }
+    ensures none { IsNone result → (octets : List ℕ) → ¬ (IsNumeralWord 1 word.now octets) }
 {
     let number = scan_u8(word)?;
     Some(held(&[number]))
@@ -25,8 +32,8 @@ pub(crate) fn u8_octets(word: &[u8]) -> Option<Array<256>>
 /// Returns the octets of a number of 16 bits.
 #[tactic(auto, using(octseq::proofs::Written::made_be_2))]
 pub(crate) fn u16_octets(word: &[u8]) -> Option<Array<256>>
-    ensures some { IfSome result (λ found. IsNumber 2 word.now found.content) }
-    ensures none { IsNone result → (octets : List ℕ) → ¬ (IsNumber 2 word.now octets) }
+    ensures some { IfSome result (λ found. IsNumeralWord 2 word.now found.content) }
+    ensures none { IsNone result → (octets : List ℕ) → ¬ (IsNumeralWord 2 word.now octets) }
 {
     let number = scan_u16(word)?;
     Some(held(&number.to_be_bytes()))
@@ -35,8 +42,8 @@ pub(crate) fn u16_octets(word: &[u8]) -> Option<Array<256>>
 /// Returns the octets of a number of 32 bits.
 #[tactic(auto, using(octseq::proofs::Written::made_be_4))]
 pub(crate) fn u32_octets(word: &[u8]) -> Option<Array<256>>
-    ensures some { IfSome result (λ found. IsNumber 4 word.now found.content) }
-    ensures none { IsNone result → (octets : List ℕ) → ¬ (IsNumber 4 word.now octets) }
+    ensures some { IfSome result (λ found. IsNumeralWord 4 word.now found.content) }
+    ensures none { IsNone result → (octets : List ℕ) → ¬ (IsNumeralWord 4 word.now octets) }
 {
     let number = scan_u32(word)?;
     Some(held(&number.to_be_bytes()))
@@ -84,8 +91,8 @@ pub(crate) fn string_octets(word: &[u8]) -> Option<Array<256>>
 
 /// Returns the octets of a salt after their length.
 pub(crate) fn salt_octets(word: &[u8]) -> Option<Array<256>>
-    ensures some { IfSome result (λ found. IsCounted IsSalt word.now found.content) }
-    ensures none { IsNone result → (octets : List ℕ) → ¬ (IsCounted IsSalt word.now octets) }
+    ensures some { IfSome result (λ found. IsCountedWord IsSalt word.now found.content) }
+    ensures none { IsNone result → (octets : List ℕ) → ¬ (IsCountedWord IsSalt word.now octets) }
 {
     if word == b"-".as_slice() {
         return Some(counted(&[]));
@@ -96,8 +103,8 @@ pub(crate) fn salt_octets(word: &[u8]) -> Option<Array<256>>
 
 /// Returns the octets of a hashed owner name after their length.
 pub(crate) fn hash_octets(word: &[u8]) -> Option<Array<256>>
-    ensures some { IfSome result (λ found. IsCounted IsSomeBase32hex word.now found.content) }
-    ensures none { IsNone result → (octets : List ℕ) → ¬ (IsCounted IsSomeBase32hex word.now octets) }
+    ensures some { IfSome result (λ found. IsCountedWord IsSomeBase32hex word.now found.content) }
+    ensures none { IsNone result → (octets : List ℕ) → ¬ (IsCountedWord IsSomeBase32hex word.now octets) }
 {
     let hash = base32hex_octets(word)?;
     Some(counted(hash.as_slice()))

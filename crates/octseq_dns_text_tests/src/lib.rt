@@ -1,4 +1,4 @@
-//! Tests of DNS data read from text: what no proof covers.
+//! Tests of DNS data, records and messages read from text: what no proof covers.
 #![tactic(auto)]
 
 #[cfg(test)]

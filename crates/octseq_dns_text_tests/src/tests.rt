@@ -15,6 +15,7 @@ fn unwrap<T, E: Debug + Drop>(rt: &impl Abort, made: Result<T, E>) -> T {
     }
 }
 
+mod composed;
 mod data;
 mod malformed;
 mod params;

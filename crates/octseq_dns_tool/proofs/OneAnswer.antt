@@ -4,7 +4,7 @@ use Rattle.octseq.proofs.Codes.{part_code}
 use Rattle.octseq.specs.Code.{HasFront}
 use Rattle.octseq.specs.Part.{part_of}
 use Rattle.octseq_dns.proofs.Framing.{none_in_nothing}
-use Rattle.octseq_dns.specs.Frames.{FitsStream, IsCut}
+use Rattle.octseq_dns.specs.Frames.{FitsStream, IsMessageCut}
 use Rattle.octseq_dns_tool.specs.Composed.{IsTextPiece}
 use Rattle.octseq_dns_tool.specs.Out.{name_of, MessagesOut, Out}
 use Rattle.octseq_dns_tool.specs.Shown.{IsMessagePiece}
@@ -41,12 +41,13 @@ same_name Compose Stream e = other_length _ _ (omega arith) e
 -- a rest makes one piece
 pub one_end : (c : Messages) (number : ℕ) (rest x y e f : List ℕ) (a b : Bool) → IsEnd c number rest a x e
     → IsEnd c number rest b y f → (a ≡ b) × (x ≡ y) × (e ≡ f)
-one_end c number = one_plain_end IsCut (λ octets cut. cut.0) (ending_of c)
+one_end c number = one_plain_end IsMessageCut (λ octets cut. cut.0) (ending_of c)
 
 -- no message is at the front of a rest
 pub none_at_end : (c : Messages) (number : ℕ) (octets written note : List ℕ) (is_fine : Bool)
     → IsEnd c number octets is_fine written note → ¬ HasFront FitsStream (part_of 2) octets
-none_at_end c number = none_at_plain IsCut FitsStream (part_of 2) none_in_nothing (λ octets cut. cut.1) (ending_of c)
+none_at_end c number = none_at_plain IsMessageCut FitsStream (part_of 2) none_in_nothing (λ octets cut. cut.1)
+    (ending_of c)
 
 -- by the laws: an input makes one piece, and so do a message and a text
 module _ (one_message_piece : (number : ℕ) (octets x y e f : List ℕ) (a b : Bool) → IsMessagePiece number octets a x e

@@ -10,7 +10,7 @@ use Rattle.octseq_dns.specs.MessageText.{IsMessageText}
 use Rattle.octseq_dns.specs.Rewritten.{IsMessageOf}
 use Rattle.octseq_dns.specs.declared.header.Header.{Header}
 use Rattle.octseq_dns_message.proofs.Stops.{one_stop}
-use Rattle.octseq_dns_tool.specs.Rewritten.{IsWritten, CannotMove, IsTooLong, IsAnew, IsSuch}
+use Rattle.octseq_dns_tool.specs.Rewritten.{IsWritten, CannotMove, IsRewrittenTooLong, IsAnew, IsSuch}
 use Rattle.octseq_dns_tool.specs.Shown.{HasText, IsMalformed, IsMessagePiece, IsNote, IsShown}
 use Rattle.octseq_dns_tool.specs.Taken.{IsBlock, IsLeftNote, IsMoved, IsPiece}
 use Rattle.octseq_dns_tool.specs.declared.engine.stream.Messages.{Messages}
@@ -112,7 +112,7 @@ module _ (one_message : (octets : List ℕ) (h k : Header) (q others : List Ques
   not_left number octets x note p (inr (inr (such, n))) =
       let is = p.is_written in
       let long =
-      carried IsTooLong octets such.header p.header such.questions p.questions such.answers such.authorities
+      carried IsRewrittenTooLong octets such.header p.header such.questions p.questions such.answers such.authorities
       such.additionals p.answers p.authorities p.additionals such.is_message p.is_message such.holds in
       let past = long.1 is.contents is.contents_are in
       let few = is.size in
@@ -120,10 +120,10 @@ module _ (one_message : (octets : List ℕ) (h k : Header) (q others : List Ques
       omega (arith, past, few, same)
 
   -- octets are left out for one reason
-  not_both : (octets : List ℕ) → IsSuch CannotMove octets → IsSuch IsTooLong octets → ⊥
+  not_both : (octets : List ℕ) → IsSuch CannotMove octets → IsSuch IsRewrittenTooLong octets → ⊥
   not_both octets p q =
       let long =
-      carried IsTooLong octets q.header p.header q.questions p.questions q.answers q.authorities q.additionals
+      carried IsRewrittenTooLong octets q.header p.header q.questions p.questions q.answers q.authorities q.additionals
       p.answers p.authorities p.additionals q.is_message p.is_message q.holds in
       p.holds long.0
 
@@ -132,13 +132,13 @@ module _ (one_message : (octets : List ℕ) (h k : Header) (q others : List Ques
   one_left number octets e f (inl (bad, n)) (inr (inl (such, m))) =
       absurd (such_is_message CannotMove octets such bad)
   one_left number octets e f (inl (bad, n)) (inr (inr (such, m))) = absurd
-      (such_is_message IsTooLong octets such bad)
+      (such_is_message IsRewrittenTooLong octets such bad)
   one_left number octets e f (inr (inl (such, n))) (inl (bad, m)) =
       absurd (such_is_message CannotMove octets such bad)
   one_left number octets e f (inr (inl (such, n))) (inr (inl (other, m))) = n ∙ sym m
   one_left number octets e f (inr (inl (such, n))) (inr (inr (other, m))) = absurd (not_both octets such other)
   one_left number octets e f (inr (inr (such, n))) (inl (bad, m)) = absurd
-      (such_is_message IsTooLong octets such bad)
+      (such_is_message IsRewrittenTooLong octets such bad)
   one_left number octets e f (inr (inr (such, n))) (inr (inl (other, m))) = absurd (not_both octets other such)
   one_left number octets e f (inr (inr (such, n))) (inr (inr (other, m))) = n ∙ sym m
 

@@ -2,7 +2,7 @@
 use Rattle.std.proofs.Common.{◌≡◌, ◌∙◌, ℕ, inl, inr, Bool, true, false, List, refl, sym, ap}
 use Rattle.octseq.specs.Part.{part_of}
 use Rattle.octseq_dns.specs.Contents.{Message, octets_of}
-use Rattle.octseq_dns_compose.specs.MessageText.{IsAnyText, IsMessageText}
+use Rattle.octseq_dns_compose.specs.MessageText.{IsAnyText, IsTextOfMessage}
 use Rattle.octseq_dns_compose.specs.TextLines.{IsLineFault}
 use Rattle.octseq_dns_compose.specs.declared.error.Place.{Place}
 use Rattle.octseq_dns_tool.specs.Composed.{IsComposed, IsTextNote, IsTextPiece, fault_line}
@@ -11,13 +11,13 @@ same_place : (place other : Place) → (place.line ≡ other.line) × (place.off
 same_place place other (line, offset) = λ i. record { line = line i; offset = offset i }
 
 -- by the laws of texts: a text is of one message, or has one fault, and not both
-module _ (one_message : (text : List ℕ) (m other : Message) → IsMessageText text m → IsMessageText text other
+module _ (one_message : (text : List ℕ) (m other : Message) → IsTextOfMessage text m → IsTextOfMessage text other
     → m ≡ other)
     (one_fault : (text : List ℕ) (first number offset line place : ℕ)
     → IsLineFault IsAnyText text first number offset → IsLineFault IsAnyText text first line place
     → (number ≡ line) × (offset ≡ place))
     (no_message : (text : List ℕ) (first number offset : ℕ) (m : Message)
-    → IsLineFault IsAnyText text first number offset → ¬ IsMessageText text m) where
+    → IsLineFault IsAnyText text first number offset → ¬ IsTextOfMessage text m) where
   -- a text that is composed isn't left out
   not_left : (number : ℕ) (text octets note : List ℕ) → IsComposed text octets → IsTextNote number text note → ⊥
   not_left number text octets note is (inl (place, faulty, e)) =

@@ -3,9 +3,9 @@ use Rattle.std.specs.Fmt.{decimal}
 use Rattle.std.specs.Prelude.{◌≡◌, ◌⊎◌, ℕ, ◌≤◌, Some, List, [], ◌++◌, codes, length, Bool, true, false}
 use Rattle.octseq.specs.Part.{part_of}
 use Rattle.octseq_dns.specs.Contents.{Message, octets_of}
-use Rattle.octseq_dns_compose.specs.MessageText.{IsAnyText, IsMessageText}
+use Rattle.octseq_dns_compose.specs.MessageText.{IsAnyText, IsTextOfMessage}
 use Rattle.octseq_dns_compose.specs.TextLines.{IsLineFault}
-use Rattle.octseq_dns_compose.specs.TooLong.{IsTooLong}
+use Rattle.octseq_dns_compose.specs.TooLong.{IsMessageTooLong}
 use Rattle.octseq_dns_compose.specs.declared.error.Place.{Place}
 use Rattle.octseq_dns_tool.specs.Taken.{left_line}
 use Rattle.octseq_dns_tool.specs.declared.engine.rewrite.Composing.{Composing}
@@ -14,13 +14,13 @@ use Rattle.octseq_dns_tool.specs.declared.engine.rewrite.Composing.TheVariants.{
 -- The message of which a text says the first lines, or all of them, takes more than 65,535 octets, or the data of a
 -- line does.
 abbrev pub IsLongText : List ℕ → Type 0
-IsLongText = IsTooLong 16384 (Some 65535)
+IsLongText = IsMessageTooLong 16384 (Some 65535)
 
 -- A text is that of a message, and these are the octets that are composed of it with at most one name kept for each
 -- offset that a pointer can express: at most 65,535.
 pub record IsComposed (text octets : List ℕ) : Type 0 where
   pub message : Message
-  pub is_text : IsMessageText text message
+  pub is_text : IsTextOfMessage text message
   pub octets_are : octets ≡ octets_of 16384 message
   pub size : length octets ≤ 65535
   pub is_short : ¬ IsLongText text

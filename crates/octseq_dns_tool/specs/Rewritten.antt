@@ -25,8 +25,8 @@ abbrev pub CannotMove : Header → List Question → List Record → List Record
 CannotMove header questions answers authorities additionals = ¬ CanMove (answers ++ (authorities ++ additionals))
 
 -- a message that was read can be moved, but takes more than 65,535 octets when it is rewritten
-abbrev pub IsTooLong : Header → List Question → List Record → List Record → List Record → Type 0
-IsTooLong header questions answers authorities additionals = CanMove (answers ++ (authorities ++ additionals))
+abbrev pub IsRewrittenTooLong : Header → List Question → List Record → List Record → List Record → Type 0
+IsRewrittenTooLong header questions answers authorities additionals = CanMove (answers ++ (authorities ++ additionals))
     × ((m : Contents) → IsMessageOf header questions answers authorities additionals m
     → 65535 < length (octets_of 16384 m))
 
@@ -37,7 +37,7 @@ IsRewriting header questions answers authorities additionals Written anew =
 IsRewriting header questions answers authorities additionals Immovable anew =
     CannotMove header questions answers authorities additionals
 IsRewriting header questions answers authorities additionals Long anew =
-    IsTooLong header questions answers authorities additionals
+    IsRewrittenTooLong header questions answers authorities additionals
 
 -- Octets are a message, and these are its octets when it is rewritten.
 pub record IsAnew (octets anew : List ℕ) : Type 0 where

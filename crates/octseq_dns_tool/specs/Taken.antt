@@ -2,8 +2,8 @@
 use Rattle.std.specs.Fmt.{decimal}
 use Rattle.std.specs.Prelude.{◌≡◌, ◌⊎◌, ℕ, List, [], ◌++◌, codes, Bool, true, false}
 use Rattle.octseq.specs.Part.{part_of}
-use Rattle.octseq_dns.specs.Frames.{IsCut}
-use Rattle.octseq_dns_tool.specs.Rewritten.{IsAnew, IsSuch, CannotMove, IsTooLong}
+use Rattle.octseq_dns.specs.Frames.{IsMessageCut}
+use Rattle.octseq_dns_tool.specs.Rewritten.{IsAnew, IsSuch, CannotMove, IsRewrittenTooLong}
 use Rattle.octseq_dns_tool.specs.Shown.{IsMalformed, IsNote, IsShown}
 use Rattle.octseq_dns_tool.specs.declared.engine.stream.Messages.{Messages}
 use Rattle.octseq_dns_tool.specs.declared.engine.stream.Messages.TheVariants.{Shown, Rewritten}
@@ -24,7 +24,7 @@ left_line number why = codes "message " ++ decimal number ++ codes ": left out: 
 abbrev pub IsLeftNote : ℕ → List ℕ → List ℕ → Type 0
 IsLeftNote number octets note = (IsMalformed octets × IsNote number octets false note)
     ⊎ ((IsSuch CannotMove octets × (note ≡ left_line number (codes "its data may have pointers")))
-    ⊎ (IsSuch IsTooLong octets × (note ≡ left_line number (codes "it takes more than 65535 octets"))))
+    ⊎ (IsSuch IsRewrittenTooLong octets × (note ≡ left_line number (codes "it takes more than 65535 octets"))))
 
 -- the output for a message that is rewritten: its octets, preceded by their length, or nothing if it is left out
 abbrev pub IsMoved : ℕ → List ℕ → Bool → List ℕ → List ℕ → Type 0
@@ -44,8 +44,8 @@ ending_of Rewritten = []
 
 -- the rest of a stream, by how it ends
 abbrev pub IsRest : Ending → List ℕ → Type 0
-IsRest = IsPlainRest IsCut
+IsRest = IsPlainRest IsMessageCut
 
 -- what is made of the rest
 abbrev pub IsEnd : Messages → ℕ → List ℕ → Bool → List ℕ → List ℕ → Type 0
-IsEnd c number = IsPlainEnd IsCut (ending_of c)
+IsEnd c number = IsPlainEnd IsMessageCut (ending_of c)

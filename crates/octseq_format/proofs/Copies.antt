@@ -16,13 +16,13 @@ slice_octets [] each = tt
 slice_octets (x ∷ xs) each = (let fits = each 0 in omega (arith, fits), slice_octets xs (λ k. each (suc k)))
 
 -- a row ends in its window
-pub held_place : {A : Type 0} (Is : Relation A) {least : ℕ} → IsOnward least Is → (w : Window) (count end : ℕ)
+pub held_offset : {A : Type 0} (Is : Relation A) {least : ℕ} → IsOnward least Is → (w : Window) (count end : ℕ)
     → HoldsTo Is w count end → w.position ≤ w.end → (w.position ≤ end) × (end ≤ w.end)
-held_place Is onward w count end held ordered =
+held_offset Is onward w count end held ordered =
     ∥∥₁_elim held.1 (×_prop (le_prop {n = w.position} {m = end}) (le_prop {n = end} {m = w.end})) (λ x.
     let on = (onward_row Is onward).on w held.0 x.0 ordered x.1.0.1 in
-    let place = x.1.1 in
-    (omega (arith, on.2, place), omega (arith, on.1, on.3, place)))
+    let offset = x.1.1 in
+    (omega (arith, on.2, offset), omega (arith, on.1, on.3, offset)))
 
 -- and its octets are those up to its end
 pub held_written : {A S : Type 0} {Is : Relation A} {says : A → S} {octets : S → List ℕ} {Fits : S → Type 0}
@@ -39,6 +39,6 @@ held_written {Is = Is} {says = says} {octets = octets} onward canonical w count 
     let all = many_rest w sound in
     let more = many_rest v (sound_row canonical w held.0 v sound x.1.0.1) in
     let both = ap length row.1 ∙ length-append o (rest v) in
-    let place = x.1.1 in
-    let long : length o ≡ n = omega (arith, all, more, both, place, ends, on.1, on.2, on.3) in
+    let offset = x.1.1 in
+    let long : length o ≡ n = omega (arith, all, more, both, offset, ends, on.1, on.2, on.3) in
     (row.0, ap (take n) row.1 ∙ ap (λ n. take n (o ++ rest v)) (sym long) ∙ take-append_seam o (rest v)))

@@ -3,7 +3,8 @@ use Rattle.std.proofs.Common.{◌≡◌, ℕ, zero, suc, ◌+◌, ◌-◌, ◌*�
 use Rattle.std.proofs.Common.{length, reverse, take, drop, refl, sym, ap, ◌∙◌, arith, append_assoc, append-nil}
 use Rattle.std.proofs.Common.{length-append, length-drop, length-take}
 use Rattle.std.proofs.Math.ListN.{replicate}
-use Rattle.std.proofs.Math.Nat.{pow-suc, pow-le-pow_right, lt-div-mul-add, one-le-pow, mul-le-mul_right, div-mul-le_self}
+use Rattle.std.proofs.Math.Nat.{pow-suc, pow-le-pow_right, lt-div-mul-add, one-le-pow, mul-le-mul_right}
+use Rattle.std.proofs.Math.Nat.{div-mul-le_self}
 use Rattle.std.proofs.Math.Seq.{take-append_seam}
 use Rattle.std.proofs.lemmas.List.{reverse-append, length-reverse, take-append-drop, take_all, drop_all}
 use Rattle.std.specs.Prelude.{◌%◌, slice_range}

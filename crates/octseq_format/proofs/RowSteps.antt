@@ -14,7 +14,7 @@ use Rattle.std.proofs.lemmas.List.{nil_from_length}
 
 -- ---- rows that are read item by item
 
--- a row doesn't go past a place without such a value
+-- a row doesn't go past an offset without such a value
 pub row_ends : {A : Type 0} (Is : Relation A) → IsOne Is → (w u v : Window) (row others : List A)
     → NoneAt Is u → length row < length others → Row Is w row u
     → Row Is w others v → ⊥
@@ -105,12 +105,12 @@ held_more code Is single w u one count less held is down = ∥∥₁_elim held.1
     let lengths = ap length on.1 in
     (on.0, ∣ (x.0, (omega (arith, lengths, counted, down), on.2)) ∣₁))
 
--- what is held up to a place is held
+-- what is held up to an offset is held
 abbrev pub holds_of : {A : Type 0} (Is : Relation A) (w : Window) (count end : ℕ) → HoldsTo Is w count end
     → Holds Is w count
 holds_of Is w count end held = (held.0, ∥∥₁_elim held.1 ∥∥₁_prop (λ x. ∣ (x.0, x.1.0) ∣₁))
 
--- and so are the items after the first, up to the same place
+-- and so are the items after the first, up to the same offset
 pub held_to_more : {A : Type 0} (code : Coded A) (Is : Relation A) → IsOne Is
     → (w u : Window) (one : A) (count less end : ℕ) (held : HoldsTo Is w count end)
     → Is w one u → count ≡ less + 1 → HoldsTo Is u less end

@@ -6,7 +6,7 @@ use Rattle.octseq_format.specs.Family.{ByKey, one_when, onward_when}
 use Rattle.octseq_format.specs.Laws.{Relation, NoneAt, IsOne, IsOnward, IsMoving, moving_of}
 use Rattle.octseq_format.specs.Row.{Row}
 use Rattle.octseq_format.specs.Tagged.{one_tagged, onward_tagged}
-use Rattle.octseq_format.specs.Until.{IsNot, IsItem, IsNext, IsUntil, no_item}
+use Rattle.octseq_format.specs.Until.{IsNot, IsItem, IsNextItem, IsUntil, no_item}
 
 -- an item takes at least one octet, that of its tag
 pub item_moves : {A : Type 0} (n : ℕ) {Number : Relation ℕ} {Is : ByKey A} {least : ℕ} → IsOnward least Number
@@ -26,7 +26,7 @@ item_goes_on n number onward some w a v ordered is =
 module _ {A : Type 0} (n : ℕ) {Number : Relation ℕ} (Is : ByKey A) (number : IsOne Number) where
   -- where neither an item nor the tag n follows some items, the items don't end
   ends_nowhere : IsOne (IsItem n Number Is) → (w u x v : Window) (row others : List A)
-      → NoneAt (IsNext n Number Is) u → Row (IsItem n Number Is) w row u → Row (IsItem n Number Is) w others x
+      → NoneAt (IsNextItem n Number Is) u → Row (IsItem n Number Is) w row u → Row (IsItem n Number Is) w others x
       → Number x n v → ⊥
   ends_nowhere one w u x v [] [] none a b ends =
       none None v (subst (λ u. Number u n v) (sym a) (subst (λ x. Number x n v) b ends))
@@ -40,6 +40,6 @@ module _ {A : Type 0} (n : ℕ) {Number : Relation ℕ} (Is : ByKey A) (number :
       (subst (λ w. Row (IsItem n Number Is) w others x) (sym here.1) b.2) ends
 
   pub until_nowhere : ((key : ℕ) → IsOne (Is key)) → (w u : Window) (row : List A)
-      → NoneAt (IsNext n Number Is) u → Row (IsItem n Number Is) w row u → NoneAt (IsUntil n Number Is) w
+      → NoneAt (IsNextItem n Number Is) u → Row (IsItem n Number Is) w row u → NoneAt (IsUntil n Number Is) w
   until_nowhere one w u row none is others v other =
       ends_nowhere (one_tagged number (one_when (IsNot n) one)) w u other.0 v row others none is other.1 other.2

@@ -2,12 +2,12 @@
 use Rattle.std.proofs.Common.{◌≡◌, ℕ, List, length, ◌-◌, take, sym, ap, ◌∙◌, subst, arith}
 use Rattle.std.proofs.Math.Seq.{take-length}
 use Rattle.octseq.specs.Window.{whole}
-use Rattle.octseq_format.specs.Laws.{Relation, Takes, IsReadBack}
+use Rattle.octseq_format.specs.Laws.{Relation, TakesOctets, IsReadBack}
 
 -- they are read as a value that says it
 pub whole_taken : {A S : Type 0} {Is : Relation A} {says : A → S} {octets : S → List ℕ} {Fits : S → Type 0}
     → IsReadBack Is says octets Fits → (said : S) → Fits said
-    → Takes Is says (whole (octets said)) said (length (octets said))
+    → TakesOctets Is says (whole (octets said)) said (length (octets said))
 whole_taken {octets = octets} back said fits =
     let o = octets said in
     let all : length o - 0 ≡ length o = omega arith in
@@ -16,6 +16,6 @@ whole_taken {octets = octets} back said fits =
 -- for any octets equal to them
 pub content_taken : {A S : Type 0} {Is : Relation A} {says : A → S} {octets : S → List ℕ} {Fits : S → Type 0}
     → IsReadBack Is says octets Fits → (said : S) → Fits said → (content : List ℕ) → content ≡ octets said
-    → Takes Is says (whole content) said (length content)
+    → TakesOctets Is says (whole content) said (length content)
 content_taken {Is = Is} {says = says} back said fits content same =
-    subst (λ o. Takes Is says (whole o) said (length o)) (sym same) (whole_taken back said fits)
+    subst (λ o. TakesOctets Is says (whole o) said (length o)) (sym same) (whole_taken back said fits)

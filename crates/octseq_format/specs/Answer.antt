@@ -3,6 +3,8 @@ use Rattle.std.specs.Prelude.{Bool, true, false, IsTrue, ◌⊎◌, refl}
 use Rattle.std.proofs.Common.{inl, inr, sym}
 use Rattle.std.proofs.Math.Bool.{true≢false}
 
+-- ---- lemmas: proved below this line, so what the words mean is read above it
+
 -- anything follows if `No` is `Yes`
 pub not_so : {A : Type 0} → IsTrue false → A
 not_so is = absurd (true≢false (sym is))

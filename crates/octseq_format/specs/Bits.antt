@@ -35,6 +35,14 @@ pub record BitsFit {S : Type 0} (NumberFits : ℕ → Type 0) (number : S → �
   pub each : Fits said
   pub whole : NumberFits (number said)
 
+-- ---- numbers that don't fit
+
+-- a number, or the greatest `usize` if it is greater
+abbrev pub capped : ℕ → ℕ
+capped n = min n 18446744073709551615
+
+-- ---- lemmas: proved below this line, so what the words mean is read above it
+
 pub one_number : (bits : ℕ) → IsOneNumber (λ n. n) (λ n. n < 2 ^ bits)
 one_number bits = record { same = λ a b _ _ same. same }
 
@@ -123,12 +131,6 @@ module _ {S : Type 0} {Is : Relation ℕ} (number : S → ℕ) (Fits : S → Typ
     pub bits_read_back : IsDelimited Is (λ n. n) octets NumberFits
         → IsReadBack (IsBits Is number Fits) (λ a. a) (λ said. octets (number said)) (BitsFit NumberFits number Fits)
     bits_read_back delimited = back_of (delimited_bits delimited)
-
--- ---- numbers that don't fit
-
--- a number, or the greatest `usize` if it is greater
-abbrev pub capped : ℕ → ℕ
-capped n = min n 18446744073709551615
 
 pub capped_both : (m n size : ℕ) → 0 < size → capped (capped (capped m * size) + capped n) ≡ capped (m * size + n)
 capped_both m n size some = by (dec_le m 18446744073709551615) where

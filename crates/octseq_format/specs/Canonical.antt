@@ -21,6 +21,8 @@ pub record IsCanonical {A S : Type 0} (Is : Relation A) (says : A → S) (octets
       → Fits (says a) × (rest w ≡ octets (says a) ++ rest v)
   pub on : (w : Window) (a : A) (v : Window) → IsSound w → Is w a v → IsSound v
 
+-- ---- lemmas: proved below this line, so what the words mean is read above it
+
 pub each_taken : (n : ℕ) (xs : List ℕ) → AreOctets xs → AreOctets (take n xs)
 each_taken zero xs each = tt
 each_taken (suc n) [] each = tt

@@ -29,6 +29,8 @@ pub record AreSums (sum : List ℕ → ℕ) (number : ℕ → List ℕ) (Fits : 
 abbrev pub cut_sum : (List ℕ → ℕ) → ℕ → List ℕ → ℕ
 cut_sum sum width octets = sum octets % 256 ^ width
 
+-- ---- lemmas: proved below this line, so what the words mean is read above it
+
 pub sums_cut : (sum : List ℕ → ℕ) {number : ℕ → List ℕ} {Fits : ℕ → Type 0} {width : ℕ}
     → ((n : ℕ) → Fits (n % 256 ^ width)) → AllHave number Fits width → AreSums (cut_sum sum width) number Fits width
 sums_cut sum {width = width} each long = record {
@@ -83,8 +85,8 @@ module _ {A : Type 0} (sum : List ℕ → ℕ) {Is : Relation A} {Number : Relat
           let come = front_comes_next w x (y ++ more) n apart refl in
           let first = one.next w said (y ++ more) fits apart in
           let second = two.next (past n w) (sum x) more (sums.fit x) come.2 in
-          let place : w.position + n - w.position ≡ n = omega arith in
-          let taken : between w (past n w) ≡ x = ap (λ n. next n w) place ∙ come.1 in
+          let offset : w.position + n - w.position ≡ n = omega arith in
+          let taken : between w (past n w) ≡ x = ap (λ n. next n w) offset ∙ come.1 in
           record {
             it = first.it;
             tells = first.tells;

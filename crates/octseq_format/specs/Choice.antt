@@ -2,6 +2,8 @@
 use Rattle.std.specs.Prelude.{◌≡◌, Bool, true, false, if◌then◌else◌, refl}
 use Rattle.std.proofs.Common.{ap, sym, subst}
 
+-- ---- lemmas: proved below this line, so what the words mean is read above it
+
 -- what holds of each branch holds of the choice
 pub by_test : {A : Type 0} (P : A → Type 0) (test : Bool) (x y : A) → (test ≡ true → P x) → (test ≡ false → P y)
     → P (if test then x else y)

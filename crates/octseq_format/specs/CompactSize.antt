@@ -6,7 +6,7 @@ use Rattle.std.proofs.lemmas.Bool.{ltb-true, lt-ltb, le-ltb}
 use Rattle.octseq.specs.Integer.{le, octets_le}
 use Rattle.octseq.proofs.Written.{length_le, value_le}
 use Rattle.octseq_format.specs.Choice.{by_test, first_of_two, second_of_two}
-use Rattle.octseq_format.specs.Varying.{IsAsLong, AreApart, AreRead, apart_long}
+use Rattle.octseq_format.specs.Varying.{IsAsLong, AreEncodingsApart, AreRead, apart_long}
 
 -- how many octets the first one says there are
 unfoldable pub compact_long : ℕ → ℕ
@@ -27,8 +27,12 @@ compact_octets n =
 abbrev pub CompactFits : ℕ → Type 0
 CompactFits n = n < 2 ^ 64
 
--- ---- laws
+abbrev Said : ℕ → List ℕ → Type 0
+Said n xs = IsAsLong compact_long xs × (compact_size xs ≡ n)
 
+-- ---- lemmas: proved below this line, so what the words mean is read above it
+
+-- ---- laws
 pub some_compact : (first : ℕ) → 0 < compact_long first
 unfolding compact_long
 some_compact first =
@@ -36,11 +40,8 @@ some_compact first =
     (λ _. by_test (λ n. 0 < n) (nat_lt first 254) 3 _ (λ _. omega arith)
     (λ _. by_test (λ n. 0 < n) (nat_lt first 255) 5 9 (λ _. omega arith) (λ _. omega arith)))
 
-pub apart_compact : AreApart (IsAsLong compact_long)
+pub apart_compact : AreEncodingsApart (IsAsLong compact_long)
 apart_compact = apart_long compact_long some_compact
-
-abbrev Said : ℕ → List ℕ → Type 0
-Said n xs = IsAsLong compact_long xs × (compact_size xs ≡ n)
 
 -- a first octet below 253 is alone
 pub alone : (first : ℕ) → first < 253 → compact_long first ≡ 1
@@ -76,7 +77,6 @@ pub read_compact : AreRead (IsAsLong compact_long) compact_size compact_octets C
 read_compact = record { whole = λ n fits. (said n fits).0; back = λ n fits. (said n fits).1 }
 
 -- ---- the octets of a number, by its size
-
 pub octets_1 : (n : ℕ) → n < 253 → compact_octets n ≡ n ∷ []
 unfolding compact_octets
 octets_1 n few = first_of_two _ _ (lt-ltb n 253 few)

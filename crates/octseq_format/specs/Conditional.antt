@@ -5,7 +5,7 @@ use Rattle.std.proofs.Common.{sym, ap, ◌∙◌, arith}
 use Rattle.std.proofs.Math.Bool.{true≢false}
 use Rattle.octseq.specs.Window.{Window, left, rest, at}
 use Rattle.octseq_format.specs.Family.{ByKey}
-use Rattle.octseq_format.specs.Laws.{Relation, Takes, IsOne, IsOnward, IsReadBack, IsDelimited}
+use Rattle.octseq_format.specs.Laws.{Relation, TakesOctets, IsOne, IsOnward, IsReadBack, IsDelimited}
 use Rattle.octseq_format.specs.Optional.{optional_says, optional_octets}
 
 -- the value if the answer is yes, otherwise nothing
@@ -22,6 +22,8 @@ IfFits on Fits key (Some said) = IsTrue (on key) × Fits said
 abbrev pub told_if : {S : Type 0} → Option S → ℕ
 told_if None = 0
 told_if (Some said) = 1
+
+-- ---- lemmas: proved below this line, so what the words mean is read above it
 
 module _ {A : Type 0} (on : ℕ → Bool) (Is : Relation A) where
   same_if : IsOne Is → (key : ℕ) (w : Window) (a b : Option A) (u v : Window) → IsIf on Is key w a u
@@ -59,7 +61,7 @@ module _ {A S : Type 0} (on : ℕ → Bool) {Is : Relation A} {says : A → S} {
   if_read_back one key = record { back = back } where
     back : (w : Window) (said : Option S) → IfFits on Fits key said → rest w ≡ optional_octets octets said
         → w.end ≡ w.position + length (optional_octets octets said)
-        → Takes (IsIf on Is key) (optional_says says) w said (length (optional_octets octets said))
+        → TakesOctets (IsIf on Is key) (optional_says says) w said (length (optional_octets octets said))
     back w None fits is all = record { it = None; tells = refl; is = (fits, ap (λ p. at p w) (omega arith)) }
     back w (Some said) fits is all =
         let taken = one.back w said fits.1 is all in
@@ -70,7 +72,7 @@ module _ {A S : Type 0} (on : ℕ → Bool) {Is : Relation A} {says : A → S} {
   delimited_if one key = record { next = next } where
     next : (w : Window) (said : Option S) (more : List ℕ) → IfFits on Fits key said
         → rest w ≡ optional_octets octets said ++ more
-        → Takes (IsIf on Is key) (optional_says says) w said (length (optional_octets octets said))
+        → TakesOctets (IsIf on Is key) (optional_says says) w said (length (optional_octets octets said))
     next w None more fits is = record { it = None; tells = refl; is = (fits, ap (λ p. at p w) (omega arith)) }
     next w (Some said) more fits is =
         let taken = one.next w said more fits.1 is in

@@ -28,6 +28,8 @@ counted_octets k extra octets = tagged_octets (octets_be k) (sized_number extra 
 abbrev pub CountFits : {S : Type 0} → ℕ → ℕ → (S → List ℕ) → (S → Type 0) → S → Type 0
 CountFits k extra octets Fits = TaggedFits (λ n. n < 256 ^ k) (sized_number extra octets) (SizedFit extra octets Fits)
 
+-- ---- lemmas: proved below this line, so what the words mean is read above it
+
 pub onward_counted : {A : Type 0} (k extra : ℕ) (Is : Relation A) → IsOnward k (Counted k extra Is)
 onward_counted k extra Is = onward_tagged (onward_fixed k be) (onward_sized extra Is)
 

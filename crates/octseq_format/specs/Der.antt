@@ -12,7 +12,7 @@ use Rattle.octseq.proofs.Written.{be_nil, be_cons, length_be, value_be}
 use Rattle.octseq.proofs.WrittenBack.{small_be, as_be}
 use Rattle.octseq_format.specs.Canonical.{AreOctets}
 use Rattle.octseq_format.specs.Choice.{by_test, first_of_two, second_of_two}
-use Rattle.octseq_format.specs.Varying.{IsAsLong, AreApart, AreRead, AreWritten, apart_long}
+use Rattle.octseq_format.specs.Varying.{IsAsLong, AreEncodingsApart, AreRead, AreWritten, apart_long}
 
 -- how many octets the first one says there are: it is alone below 128, and otherwise 128 and how many follow
 unfoldable pub der_long : ℕ → ℕ
@@ -45,6 +45,11 @@ pub record IsDer (octets : List ℕ) : Type 0 where
 abbrev pub DerFits : ℕ → Type 0
 DerFits n = n < 2 ^ 64
 
+abbrev Said : ℕ → List ℕ → Type 0
+Said n xs = IsDer xs × (der_length xs ≡ n)
+
+-- ---- lemmas: proved below this line, so what the words mean is read above it
+
 -- ---- laws
 
 -- a first octet below 128 is alone
@@ -73,7 +78,7 @@ some_der first =
     by_test (λ n. 0 < n) (nat_lt first 128) 1 _ (λ _. omega arith)
     (λ large. let enough : 128 ≤ first = ltb-false first 128 large in omega (arith, enough))
 
-pub apart_der : AreApart IsDer
+pub apart_der : AreEncodingsApart IsDer
 apart_der = record {
   some = λ xs whole. (apart_long der_long some_der).some xs whole.long;
   same = λ xs j k few less one other. (apart_long der_long some_der).same xs j k few less one.long other.long;
@@ -84,7 +89,6 @@ some_of_value [] some = absurd (omega (arith, some, be_nil))
 some_of_value (x ∷ xs) some = omega arith
 
 -- ---- without the zeros at the front
-
 be_significant : (xs : List ℕ) → be (significant xs) ≡ be xs
 unfolding significant
 be_significant [] = refl
@@ -142,7 +146,6 @@ back_significant ys each few some =
     ∙ ap significant (as_be 8 all many (each_after_zeros m ys each)) ∙ after_zeros m ys some
 
 -- ---- read and written
-
 pub octets_short : (n : ℕ) → n < 128 → der_octets n ≡ n ∷ []
 unfolding der_octets
 octets_short n few = first_of_two _ _ (lt-ltb n 128 few)
@@ -151,9 +154,6 @@ pub octets_long : (n : ℕ) → 128 ≤ n
     → der_octets n ≡ (128 + length (significant (octets_be 8 n))) ∷ significant (octets_be 8 n)
 unfolding der_octets
 octets_long n large = second_of_two _ _ (le-ltb n 128 large)
-
-abbrev Said : ℕ → List ℕ → Type 0
-Said n xs = IsDer xs × (der_length xs ≡ n)
 
 short_form : (n : ℕ) → n < 128 → Said n (n ∷ [])
 short_form n few = (

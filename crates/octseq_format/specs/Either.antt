@@ -3,7 +3,7 @@ use Rattle.std.specs.Prelude.{◌≡◌, ℕ, ◌+◌, ◌<◌, ◌≤◌, ◌�
 use Rattle.std.proofs.Common.{inl, inr, sym, ap, ◌∙◌, subst, arith}
 use Rattle.octseq.specs.Window.{Window, left, rest}
 use Rattle.octseq_format.specs.Family.{ByKey, either_says, one_when, onward_when}
-use Rattle.octseq_format.specs.Laws.{Relation, NoneAt, Takes, IsOne, IsOnward, IsReadBack}
+use Rattle.octseq_format.specs.Laws.{Relation, NoneAt, TakesOctets, IsOne, IsOnward, IsReadBack}
 use Rattle.octseq_format.specs.Pair.{◌then◌}
 use Rattle.octseq_format.specs.Row.{Row, RowTo, Moved}
 use Rattle.octseq_format.specs.Tagged.{one_tagged, onward_tagged}
@@ -22,9 +22,11 @@ abbrev pub OneFits : {S T : Type 0} → (S → Type 0) → (T → Type 0) → S 
 OneFits First Second (inl a) = First a
 OneFits First Second (inr b) = Second b
 
--- No place has both.
+-- No offset has both.
 abbrev pub AreApart : {A B : Type 0} → Relation A → Relation B → Type 0
 AreApart {A} {B} First Second = (w : Window) (a : A) (u : Window) (b : B) (v : Window) → First w a u → Second w b v → ⊥
+
+-- ---- lemmas: proved below this line, so what the words mean is read above it
 
 module _ {A B : Type 0} (First : Relation A) (Second : Relation B) where
   same_one : IsOne First → IsOne Second → (w : Window) (a b : A ⊎ B) (u v : Window) → FirstOr First Second w a u
@@ -72,7 +74,7 @@ module _ {A B S T : Type 0} {First : Relation A} {Second : Relation B} {says : A
   first_or_read_back apart one other = record { back = back } where
     back : (w : Window) (said : S ⊎ T) → OneFits FirstFits SecondFits said → rest w ≡ one_octets first second said
         → w.end ≡ w.position + length (one_octets first second said)
-        → Takes (FirstOr First Second) (either_says says tells) w said (length (one_octets first second said))
+        → TakesOctets (FirstOr First Second) (either_says says tells) w said (length (one_octets first second said))
     back w (inl a) fits is all =
         let taken = one.back w a fits is all in
         record { it = inl taken.it; tells = ap inl taken.tells; is = taken.is }
@@ -85,7 +87,6 @@ module _ {A B S T : Type 0} {First : Relation A} {Second : Relation B} {says : A
         }
 
 -- ---- items up to the window's end, and items up to a tag that isn't one of theirs
-
 module _ {A : Type 0} (n : ℕ) {Number : Relation ℕ} {Is : ByKey A} {least : ℕ} (one : IsOne Number)
     (onward : IsOnward least Number) (some : 0 < least) (each : (key : ℕ) → IsOne (Is key))
     (on : (key : ℕ) → IsOnward 0 (Is key)) where
@@ -105,7 +106,7 @@ module _ {A : Type 0} (n : ℕ) {Number : Relation ℕ} {Is : ByKey A} {least : 
       rows_apart other.0 u v x row others (subst (λ w. Row (Moved (IsItem n Number Is)) w row u) here.1 is.2) ends
       other.2 also
 
-  -- items up to the end, and items up to the tag n with what follows it, are never at the same place
+  -- items up to the end, and items up to the tag n with what follows it, are never at the same offset
   pub lists_apart : {B : Type 0} (More : Relation B)
       → AreApart (RowTo (Moved (IsItem n Number Is))) (IsUntil n Number Is then More)
   lists_apart More w row u both v is other =

@@ -13,12 +13,12 @@ abbrev pub NoneIsZero : List ℕ → ℕ → Type 0
 NoneIsZero octets n = (k : ℕ) → k < n → ¬ (slice_index octets k ≡ 0)
 
 -- n octets, none of them zero, are followed by a zero
-abbrev pub EndsAt : List ℕ → ℕ → Type 0
-EndsAt octets n = (n < length octets) × (slice_index octets n ≡ 0) × NoneIsZero octets n
+abbrev pub EndsAtZero : List ℕ → ℕ → Type 0
+EndsAtZero octets n = (n < length octets) × (slice_index octets n ≡ 0) × NoneIsZero octets n
 
 -- the window of the octets before the zero; what comes next is after the zero
 abbrev pub IsEnded : Relation Window
-IsEnded w inside v = (n : ℕ) × EndsAt (rest w) n × (inside ≡ nested n w) × (v ≡ past (n + 1) w)
+IsEnded w inside v = (n : ℕ) × EndsAtZero (rest w) n × (inside ≡ nested n w) × (v ≡ past (n + 1) w)
 
 -- octets, and a zero
 abbrev pub ended_octets : List ℕ → List ℕ
@@ -28,7 +28,9 @@ ended_octets octets = octets ++ 0 ∷ []
 abbrev pub HasNoZero : List ℕ → Type 0
 HasNoZero octets = NoneIsZero octets (length octets)
 
-same_end : (octets : List ℕ) (m n : ℕ) → EndsAt octets m → EndsAt octets n → m ≡ n
+-- ---- lemmas: proved below this line, so what the words mean is read above it
+
+same_end : (octets : List ℕ) (m n : ℕ) → EndsAtZero octets m → EndsAtZero octets n → m ≡ n
 same_end octets m n a b = by_order (m - n) (n - m) refl refl where
   by_order : (x y : ℕ) → m - n ≡ x → n - m ≡ y → m ≡ n
   by_order zero zero p q = omega (arith, p, q)

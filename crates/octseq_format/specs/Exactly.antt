@@ -10,6 +10,8 @@ use Rattle.octseq_format.specs.Laws.{Relation, NoneAt, IsOne, IsOnward, IsReadBa
 abbrev pub IsExactly : Relation ℕ → ℕ → Relation (Unit {0})
 IsExactly Is n w a v = Is w n v
 
+-- ---- lemmas: proved below this line, so what the words mean is read above it
+
 module _ {Is : Relation ℕ} (n : ℕ) where
   pub one_exactly : IsOne Is → IsOne (IsExactly Is n)
   one_exactly one = record { same = λ w a b u v is other. (refl, (one.same w n n u v is other).1) }

@@ -8,7 +8,7 @@ use Rattle.octseq.specs.Window.{Window, left, next, past, nested, rest}
 use Rattle.octseq.proofs.WindowsAfter.{front_comes_next}
 use Rattle.octseq.proofs.Windows.{next_and_rest}
 use Rattle.octseq_format.specs.Canonical.{IsCanonical, many_next, sound_nested, sound_on}
-use Rattle.octseq_format.specs.Laws.{Relation, Takes, IsOne, IsOnward, IsReadBack, IsDelimited, back_of}
+use Rattle.octseq_format.specs.Laws.{Relation, TakesOctets, IsOne, IsOnward, IsReadBack, IsDelimited, back_of}
 use Rattle.octseq_format.specs.Row.{Row, Many, row_octets, row_next, onward_row, one_many}
 use Rattle.octseq_format.specs.Row.{each_once, row_written, sound_row}
 
@@ -16,19 +16,82 @@ use Rattle.octseq_format.specs.Row.{each_once, row_written, sound_row}
 abbrev pub ByKey : Type 0 → Type 1
 ByKey A = ℕ → Relation A
 
-pub any_onward : {A : Type 0} {Is : Relation A} {least : ℕ} → IsOnward least Is → IsOnward 0 Is
-any_onward onward = record {
-  on = onward.on;
-  less = λ w a v is. let less = onward.less w a v is in omega (arith, less);
-}
-
 -- ---- one number has a format
-
 abbrev pub IsCase : {A : Type 0} → ℕ → Relation A → ByKey A
 IsCase n Is key w a v = (key ≡ n) × Is w a v
 
 abbrev pub CaseFits : {S : Type 0} → ℕ → (S → Type 0) → ℕ → S → Type 0
 CaseFits n Fits key said = Fits said × (key ≡ n)
+
+-- ---- any number, which is kept
+abbrev pub IsOther : {A : Type 0} → Relation A → ByKey (ℕ × A)
+IsOther Is key w other v = (other.0 ≡ key) × Is w other.1 v
+
+abbrev pub other_says : {A S : Type 0} → (A → S) → ℕ × A → ℕ × S
+other_says says other = (other.0, says other.1)
+
+abbrev pub OtherFits : {S : Type 0} → (S → Type 0) → ℕ → ℕ × S → Type 0
+OtherFits Fits key said = Fits said.1 × (said.0 ≡ key)
+
+-- ---- the first of two that covers the number
+abbrev pub IsEither : {A B : Type 0} → (ℕ → Type 0) → ByKey A → ByKey B → ByKey (A ⊎ B)
+IsEither Covers Is Other key w (inl a) v = Covers key × Is key w a v
+IsEither Covers Is Other key w (inr b) v = (¬ Covers key) × Other key w b v
+
+abbrev pub either_says : {A B S T : Type 0} → (A → S) → (B → T) → A ⊎ B → S ⊎ T
+either_says says other (inl a) = inl (says a)
+either_says says other (inr b) = inr (other b)
+
+-- a number of each
+abbrev pub either_number : {A B : Type 0} → (A → ℕ) → (B → ℕ) → A ⊎ B → ℕ
+either_number first second (inl a) = first a
+either_number first second (inr b) = second b
+
+abbrev pub either_octets : {S T : Type 0} → (ℕ → S → List ℕ) → (ℕ → T → List ℕ) → ℕ → S ⊎ T → List ℕ
+either_octets octets other key (inl a) = octets key a
+either_octets octets other key (inr b) = other key b
+
+abbrev pub EitherFits : {S T : Type 0} → (ℕ → Type 0) → (ℕ → S → Type 0) → (ℕ → T → Type 0) → ℕ → S ⊎ T → Type 0
+EitherFits Covers Fits Other key (inl a) = Fits key a × Covers key
+EitherFits Covers Fits Other key (inr b) = Other key b × (¬ Covers key)
+
+-- ---- numbers that meet a test
+abbrev pub IsWhen : {A : Type 0} → (ℕ → Type 0) → ByKey A → ByKey A
+IsWhen Holds Is key w a v = Holds key × Is key w a v
+
+abbrev pub WhenFits : {S : Type 0} → (ℕ → Type 0) → (ℕ → S → Type 0) → ℕ → S → Type 0
+WhenFits Holds Fits key said = Fits key said × Holds key
+
+-- ---- as many octets as the number says, less `extra` that it counts too
+
+-- It takes all of the octets that the number counts.
+abbrev pub IsSized : {A : Type 0} → ℕ → Relation A → ByKey A
+IsSized extra Is n w a v = (extra ≤ n) × (n - extra ≤ left w)
+    × Is (nested (n - extra) w) a (past (n - extra) (nested (n - extra) w)) × (v ≡ past (n - extra) w)
+
+-- the number: `extra`, and the octets of the value
+abbrev pub sized_number : {S : Type 0} → ℕ → (S → List ℕ) → S → ℕ
+sized_number extra octets said = extra + length (octets said)
+
+-- It fits, and the number counts its octets.
+pub record SizedFit {S : Type 0} (extra : ℕ) (octets : S → List ℕ) (Fits : S → Type 0) (n : ℕ) (said : S) : Type 0 where
+  pub inside : Fits said
+  pub many : extra + length (octets said) ≡ n
+
+-- ---- as many values as the number says
+
+-- Each fits, and the number counts them.
+pub record ManyFit {S : Type 0} (Fits : S → Type 0) (n : ℕ) (said : List S) : Type 0 where
+  pub each : AllByRecursion Fits said
+  pub many : length said ≡ n
+
+-- ---- lemmas: proved below this line, so what the words mean is read above it
+
+pub any_onward : {A : Type 0} {Is : Relation A} {least : ℕ} → IsOnward least Is → IsOnward 0 Is
+any_onward onward = record {
+  on = onward.on;
+  less = λ w a v is. let less = onward.less w a v is in omega (arith, less);
+}
 
 module _ {A : Type 0} (n : ℕ) (Is : Relation A) where
   pub one_case : IsOne Is → (key : ℕ) → IsOne (IsCase n Is key)
@@ -56,17 +119,6 @@ module _ {A S : Type 0} {n : ℕ} {Is : Relation A} {says : A → S} {octets : S
         let taken = one.next w said more fits.0 is in
         record { it = taken.it; tells = taken.tells; is = (fits.1, taken.is) };
   }
-
--- ---- any number, which is kept
-
-abbrev pub IsOther : {A : Type 0} → Relation A → ByKey (ℕ × A)
-IsOther Is key w other v = (other.0 ≡ key) × Is w other.1 v
-
-abbrev pub other_says : {A S : Type 0} → (A → S) → ℕ × A → ℕ × S
-other_says says other = (other.0, says other.1)
-
-abbrev pub OtherFits : {S : Type 0} → (S → Type 0) → ℕ → ℕ × S → Type 0
-OtherFits Fits key said = Fits said.1 × (said.0 ≡ key)
 
 module _ {A : Type 0} (Is : Relation A) where
   same_other : {a b : A} {m n : ℕ} → m ≡ n → a ≡ b → Path (ℕ × A) (m, a) (n, b)
@@ -101,29 +153,6 @@ module _ {A S : Type 0} {Is : Relation A} {says : A → S} {octets : S → List 
         let taken = one.next w said.1 more fits.0 is in
         record { it = (said.0, taken.it); tells = ap (λ s. (said.0, s)) taken.tells; is = (fits.1, taken.is) };
   }
-
--- ---- the first of two that covers the number
-
-abbrev pub IsEither : {A B : Type 0} → (ℕ → Type 0) → ByKey A → ByKey B → ByKey (A ⊎ B)
-IsEither Covers Is Other key w (inl a) v = Covers key × Is key w a v
-IsEither Covers Is Other key w (inr b) v = (¬ Covers key) × Other key w b v
-
-abbrev pub either_says : {A B S T : Type 0} → (A → S) → (B → T) → A ⊎ B → S ⊎ T
-either_says says other (inl a) = inl (says a)
-either_says says other (inr b) = inr (other b)
-
--- a number of each
-abbrev pub either_number : {A B : Type 0} → (A → ℕ) → (B → ℕ) → A ⊎ B → ℕ
-either_number first second (inl a) = first a
-either_number first second (inr b) = second b
-
-abbrev pub either_octets : {S T : Type 0} → (ℕ → S → List ℕ) → (ℕ → T → List ℕ) → ℕ → S ⊎ T → List ℕ
-either_octets octets other key (inl a) = octets key a
-either_octets octets other key (inr b) = other key b
-
-abbrev pub EitherFits : {S T : Type 0} → (ℕ → Type 0) → (ℕ → S → Type 0) → (ℕ → T → Type 0) → ℕ → S ⊎ T → Type 0
-EitherFits Covers Fits Other key (inl a) = Fits key a × Covers key
-EitherFits Covers Fits Other key (inr b) = Other key b × (¬ Covers key)
 
 module _ {A B : Type 0} (Covers : ℕ → Type 0) (Is : ByKey A) (Other : ByKey B) where
   same_either : ((key : ℕ) → IsOne (Is key)) → ((key : ℕ) → IsOne (Other key)) → (key : ℕ) (w : Window)
@@ -165,7 +194,7 @@ module _ {A B S T : Type 0} (Covers : ℕ → Type 0) {Is : ByKey A} {Other : By
     back : (w : Window) (said : S ⊎ T) → EitherFits Covers Fits OtherFits key said
         → rest w ≡ either_octets octets others key said
         → w.end ≡ w.position + length (either_octets octets others key said)
-        → Takes (IsEither Covers Is Other key) (either_says says tells) w said
+        → TakesOctets (IsEither Covers Is Other key) (either_says says tells) w said
         (length (either_octets octets others key said))
     back w (inl a) fits is all =
         let taken = (one key).back w a fits.0 is all in
@@ -181,7 +210,7 @@ module _ {A B S T : Type 0} (Covers : ℕ → Type 0) {Is : ByKey A} {Other : By
   delimited_either one more key = record { next = next } where
     next : (w : Window) (said : S ⊎ T) (after : List ℕ) → EitherFits Covers Fits OtherFits key said
         → rest w ≡ either_octets octets others key said ++ after
-        → Takes (IsEither Covers Is Other key) (either_says says tells) w said
+        → TakesOctets (IsEither Covers Is Other key) (either_says says tells) w said
         (length (either_octets octets others key said))
     next w (inl a) after fits is =
         let taken = (one key).next w a after fits.0 is in
@@ -189,14 +218,6 @@ module _ {A B S T : Type 0} (Covers : ℕ → Type 0) {Is : ByKey A} {Other : By
     next w (inr b) after fits is =
         let taken = (more key).next w b after fits.0 is in
         record { it = inr taken.it; tells = ap inr taken.tells; is = (fits.1, taken.is) }
-
--- ---- numbers that meet a test
-
-abbrev pub IsWhen : {A : Type 0} → (ℕ → Type 0) → ByKey A → ByKey A
-IsWhen Holds Is key w a v = Holds key × Is key w a v
-
-abbrev pub WhenFits : {S : Type 0} → (ℕ → Type 0) → (ℕ → S → Type 0) → ℕ → S → Type 0
-WhenFits Holds Fits key said = Fits key said × Holds key
 
 module _ {A : Type 0} (Holds : ℕ → Type 0) {Is : ByKey A} where
   pub one_when : ((key : ℕ) → IsOne (Is key)) → (key : ℕ) → IsOne (IsWhen Holds Is key)
@@ -226,22 +247,6 @@ module _ {A S : Type 0} (Holds : ℕ → Type 0) {Is : ByKey A} {says : A → S}
         let taken = (one key).next w said more fits.0 is in
         record { it = taken.it; tells = taken.tells; is = (fits.1, taken.is) };
   }
-
--- ---- as many octets as the number says, less `extra` that it counts too
-
--- It takes all of the octets that the number counts.
-abbrev pub IsSized : {A : Type 0} → ℕ → Relation A → ByKey A
-IsSized extra Is n w a v = (extra ≤ n) × (n - extra ≤ left w)
-    × Is (nested (n - extra) w) a (past (n - extra) (nested (n - extra) w)) × (v ≡ past (n - extra) w)
-
--- the number: `extra`, and the octets of the value
-abbrev pub sized_number : {S : Type 0} → ℕ → (S → List ℕ) → S → ℕ
-sized_number extra octets said = extra + length (octets said)
-
--- It fits, and the number counts its octets.
-pub record SizedFit {S : Type 0} (extra : ℕ) (octets : S → List ℕ) (Fits : S → Type 0) (n : ℕ) (said : S) : Type 0 where
-  pub inside : Fits said
-  pub many : extra + length (octets said) ≡ n
 
 pub onward_sized : {A : Type 0} (extra : ℕ) (Is : Relation A) (n : ℕ) → IsOnward 0 (IsSized extra Is n)
 onward_sized extra Is n = record {
@@ -313,13 +318,6 @@ module _ {A : Type 0} {extra : ℕ} {Is : Relation A} where
           );
       on = sound_on (onward_sized extra Is n);
     }
-
--- ---- as many values as the number says
-
--- Each fits, and the number counts them.
-pub record ManyFit {S : Type 0} (Fits : S → Type 0) (n : ℕ) (said : List S) : Type 0 where
-  pub each : AllByRecursion Fits said
-  pub many : length said ≡ n
 
 pub one_many_by : {A : Type 0} (Is : Relation A) → IsOne Is → (n : ℕ) → IsOne (Many n Is)
 one_many_by Is one n = one_many n Is one

@@ -21,6 +21,8 @@ pub record AreFixed {A : Type 0} (k : ℕ) (reading : List ℕ → A) (octets : 
   pub once : (a : A) → IsProp (Fits a)
   pub written : (xs : List ℕ) → length xs ≡ k → AreOctets xs → Fits (reading xs) × (octets (reading xs) ≡ xs)
 
+-- ---- lemmas: proved below this line, so what the words mean is read above it
+
 -- numbers of at most 8 octets fit 64 bits
 pub most_fixed : (k : ℕ) → k ≤ 8 → (n : ℕ) → n < 256 ^ k → n < 2 ^ 64
 most_fixed k few n fits =

@@ -4,7 +4,7 @@ use Rattle.std.proofs.Common.{sym, ap, ◌∙◌, subst, arith, length-append, a
 use Rattle.octseq.specs.Window.{Window, left, past, rest}
 use Rattle.octseq.proofs.WindowsAfter.{front_comes_next}
 use Rattle.octseq_format.specs.Family.{ByKey}
-use Rattle.octseq_format.specs.Laws.{Relation, Takes, IsOne, IsOnward, IsReadBack, IsDelimited}
+use Rattle.octseq_format.specs.Laws.{Relation, TakesOctets, IsOne, IsOnward, IsReadBack, IsDelimited}
 use Rattle.octseq_format.specs.Pair.{◌then◌, ◌and◌, ◌before◌, ◌also◌, ◌one_then◌, ◌onward_then◌, ◌back_then◌}
 use Rattle.octseq_format.specs.Pair.{◌delimited_then◌, both_say, same_pair, past_both}
 
@@ -23,11 +23,13 @@ pub record KeyedFit {S T : Type 0} (key : S → ℕ) (First : S → Type 0) (Sec
   pub first : First both.0
   pub second : Second (key both.0) both.1
 
+-- ---- lemmas: proved below this line, so what the words mean is read above it
+
 -- a second value that takes its octets, past those of a first one
 keyed_taken : {A B S T : Type 0} (key : S → ℕ) (says : A → S) (tells : B → T) {First : Relation A} (Second : ByKey B)
-    (w : Window) (said : S × T) (x y : List ℕ) → Takes First says w said.0 (length x)
-    → Takes (Second (key said.0)) tells (past (length x) w) said.1 (length y)
-    → Takes (KeyThen key says First Second) (both_say says tells) w said (length (x ++ y))
+    (w : Window) (said : S × T) (x y : List ℕ) → TakesOctets First says w said.0 (length x)
+    → TakesOctets (Second (key said.0)) tells (past (length x) w) said.1 (length y)
+    → TakesOctets (KeyThen key says First Second) (both_say says tells) w said (length (x ++ y))
 unfolding both_say
 keyed_taken key says tells Second w said x y one two = record {
   it = (one.it, two.it);

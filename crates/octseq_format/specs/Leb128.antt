@@ -5,7 +5,7 @@ use Rattle.std.proofs.Common.{take, ap, sym, ◌∙◌, arith, inl, inr, length-
 use Rattle.std.proofs.Math.Nat.{pow-suc}
 use Rattle.std.proofs.lemmas.Bool.{ltb-true, ltb-false}
 use Rattle.octseq_format.specs.Choice.{by_test}
-use Rattle.octseq_format.specs.Varying.{AreApart, AreRead}
+use Rattle.octseq_format.specs.Varying.{AreEncodingsApart, AreRead}
 
 -- the last octet is below 128, and each before it isn't: its highest bit says that another follows
 unfoldable pub IsChained : List ℕ → Type 0
@@ -39,8 +39,12 @@ pub record LebFits (most bits n : ℕ) : Type 0 where
   pub bounded : n < 2 ^ bits
   pub small : n < 2 ^ 64
 
--- ---- laws
+abbrev Said : ℕ → List ℕ → Type 0
+Said n xs = IsChained xs × (leb128 xs ≡ n)
 
+-- ---- lemmas: proved below this line, so what the words mean is read above it
+
+-- ---- laws
 some_chained : (xs : List ℕ) → IsChained xs → 0 < length xs
 unfolding IsChained
 some_chained [] chained = absurd chained
@@ -63,14 +67,11 @@ same_chained (x ∷ xs) (suc j) (suc k) few less (inr a) (inl b) = absurd (omega
 same_chained (x ∷ xs) (suc j) (suc k) few less (inr a) (inr b) =
     ap suc (same_chained xs j k (omega (arith, few)) (omega (arith, less)) a.1 b.1)
 
-pub apart_leb128 : (most bits : ℕ) → AreApart (IsLeb128 most bits)
+pub apart_leb128 : (most bits : ℕ) → AreEncodingsApart (IsLeb128 most bits)
 apart_leb128 most bits = record {
   some = λ xs whole. some_chained xs whole.chained;
   same = λ xs j k few less one other. same_chained xs j k few less one.chained other.chained;
 }
-
-abbrev Said : ℕ → List ℕ → Type 0
-Said n xs = IsChained xs × (leb128 xs ≡ n)
 
 alone : (n : ℕ) → n < 128 → Said n (n ∷ [])
 unfolding IsChained leb128

@@ -24,7 +24,7 @@ pub mod Optional
 pub mod Padding
 pub mod Pair
 pub mod Part
-pub mod Place
+pub mod WindowOf
 pub mod Quic
 pub mod Rest
 pub mod Row

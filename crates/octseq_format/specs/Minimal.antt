@@ -13,6 +13,8 @@ pub record IsMinimal (Is : Relation ℕ) (octets : ℕ → List ℕ) (Fits : ℕ
   pub fits : Fits n
   pub many : left v + length (octets n) ≡ left w
 
+-- ---- lemmas: proved below this line, so what the words mean is read above it
+
 module _ {Is : Relation ℕ} {octets : ℕ → List ℕ} {Fits : ℕ → Type 0} where
   pub one_minimal : IsOne Is → IsOne (IsMinimal Is octets Fits)
   one_minimal one = record { same = λ w a b u v is other. one.same w a b u v is.is other.is }

@@ -6,9 +6,11 @@ use Rattle.octseq.specs.Window.{Window, left, rest, at}
 use Rattle.octseq_format.specs.Canonical.{IsSound, IsCanonical}
 use Rattle.octseq_format.specs.Laws.{Relation, IsOne, IsOnward, IsReadBack, IsDelimited, back_of}
 
--- what comes next is at the same place
+-- what comes next is at the same offset
 abbrev pub IsNothing : Relation (Unit {0})
 IsNothing w a v = v ≡ w
+
+-- ---- lemmas: proved below this line, so what the words mean is read above it
 
 pub one_nothing : IsOne IsNothing
 one_nothing = record { same = λ w a b u v is other. (refl, is ∙ sym other) }

@@ -2,7 +2,7 @@
 use Rattle.std.specs.Prelude.{◌≡◌, ℕ, ◌+◌, ◌<◌, ◌≤◌, Option, Some, None, List, [], length, refl}
 use Rattle.std.proofs.Common.{sym, ap, ◌∙◌, arith}
 use Rattle.octseq.specs.Window.{Window, left, rest, at}
-use Rattle.octseq_format.specs.Laws.{Relation, Takes, IsOne, IsOnward, IsReadBack}
+use Rattle.octseq_format.specs.Laws.{Relation, TakesOctets, IsOne, IsOnward, IsReadBack}
 
 -- nothing if nothing is left, otherwise the value
 abbrev pub IsOptional : {A : Type 0} → Relation A → Relation (Option A)
@@ -26,6 +26,8 @@ OptionalFits octets Fits (Some said) = Fits said × (0 < length (octets said))
 abbrev pub optional_turns : {A : Type 0} → (A → ℕ) → Option A → ℕ
 optional_turns turns None = 0
 optional_turns turns (Some a) = turns a
+
+-- ---- lemmas: proved below this line, so what the words mean is read above it
 
 module _ {A : Type 0} (Is : Relation A) where
   same_optional : IsOne Is → (w : Window) (a b : Option A) (u v : Window) → IsOptional Is w a u → IsOptional Is w b v
@@ -62,7 +64,7 @@ module _ {A S : Type 0} {Is : Relation A} {says : A → S} {octets : S → List 
   optional_read_back one = record { back = back } where
     back : (w : Window) (said : Option S) → OptionalFits octets Fits said → rest w ≡ optional_octets octets said
         → w.end ≡ w.position + length (optional_octets octets said)
-        → Takes (IsOptional Is) (optional_says says) w said (length (optional_octets octets said))
+        → TakesOctets (IsOptional Is) (optional_says says) w said (length (optional_octets octets said))
     back w None fits is all =
         record { it = None; tells = refl; is = (omega (arith, all), ap (λ p. at p w) (omega arith)) }
     back w (Some said) fits is all =

@@ -27,6 +27,8 @@ IsPadded k Is w a v = (u : Window) × Is w a u × IsZeros (padding k (u.position
 abbrev pub padded_octets : {S : Type 0} → ℕ → (S → List ℕ) → S → List ℕ
 padded_octets k octets said = octets said ++ replicate (padding k (length (octets said))) 0
 
+-- ---- lemmas: proved below this line, so what the words mean is read above it
+
 -- there are k of k zero octets
 pub zeros_long : (k : ℕ) → length {A = ℕ} (replicate k 0) ≡ k
 zeros_long k = length-replicate k 0
@@ -36,7 +38,6 @@ pub padded_long : (x : List ℕ) (k : ℕ) → length (x ++ replicate k 0) ≡ l
 padded_long x k = length-append x (replicate k 0) ∙ ap (λ n. length x + n) (zeros_long k)
 
 -- ---- zero octets
-
 pub one_zeros : (k : ℕ) → IsOne (IsZeros k)
 one_zeros k = record { same = λ w a b u v is other. (refl, is.2 ∙ sym other.2) }
 
@@ -84,7 +85,6 @@ canonical_zeros k = record {
 }
 
 -- ---- a value and zero octets
-
 module _ {A : Type 0} (k : ℕ) {Is : Relation A} where
   pub one_padded : IsOne Is → IsOne (IsPadded k Is)
   one_padded one = record {
@@ -130,7 +130,7 @@ module _ {A : Type 0} (k : ℕ) {Is : Relation A} where
           let first = one.next w said (z ++ more) fits apart in
           let zeros = zeros_next m (past n w) more come.2 in
           let long : length z ≡ m = zeros_long m in
-          let place : n ≡ w.position + n - w.position = omega arith in
+          let offset : n ≡ w.position + n - w.position = omega arith in
           let end : past m (past n w) ≡ past (length (x ++ z)) w =
           ap (λ m. past m (past n w)) (sym long) ∙ past_both w x z in
           record {
@@ -139,7 +139,7 @@ module _ {A : Type 0} (k : ℕ) {Is : Relation A} where
             is = (
               past n w,
               first.is,
-              subst (λ n'. IsZeros (padding k n') (past n w) tt (past (length (x ++ z)) w)) place
+              subst (λ n'. IsZeros (padding k n') (past n w) tt (past (length (x ++ z)) w)) offset
                   (zeros.0, zeros.1, sym end),
             );
           };

@@ -6,9 +6,8 @@ use Rattle.std.specs.Coded.{Coded, coded×}
 use Rattle.octseq.specs.Window.{Window, rest, at, past}
 use Rattle.octseq.proofs.WindowsAfter.{front_comes_next}
 use Rattle.octseq_format.specs.Canonical.{IsCanonical, both_ways}
-use Rattle.octseq_format.specs.Laws.{Relation, Takes, IsOne, IsOnward, IsReadBack, IsDelimited}
+use Rattle.octseq_format.specs.Laws.{Relation, TakesOctets, IsOne, IsOnward, IsReadBack, IsDelimited}
 
-infixr 5 ◌then◌
 abbrev pub ◌then◌ : {A B : Type 0} → Relation A → Relation B → Relation (A × B)
 (First then Second) w both v = (u : Window) × First w both.0 u × Second u both.1 v
 
@@ -16,7 +15,6 @@ abbrev pub ◌then◌ : {A B : Type 0} → Relation A → Relation B → Relatio
 unfoldable pub both_say : {A B S T : Type 0} → (A → S) → (B → T) → A × B → S × T
 both_say first second both = (first both.0, second both.1)
 
-infixr 5 ◌and◌
 abbrev pub ◌and◌ : {A B S T : Type 0} → (A → S) → (B → T) → A × B → S × T
 first and second = both_say first second
 
@@ -24,7 +22,6 @@ first and second = both_say first second
 unfoldable pub both_octets : {A B : Type 0} → (A → List ℕ) → (B → List ℕ) → A × B → List ℕ
 both_octets first second both = first both.0 ++ second both.1
 
-infixr 5 ◌before◌
 abbrev pub ◌before◌ : {A B : Type 0} → (A → List ℕ) → (B → List ℕ) → A × B → List ℕ
 first before second = both_octets first second
 
@@ -33,15 +30,8 @@ pub record BothFit {A B : Type 0} (First : A → Type 0) (Second : B → Type 0)
   pub first : First both.0
   pub second : Second both.1
 
-infixr 5 ◌also◌
 abbrev pub ◌also◌ : {A B : Type 0} → (A → Type 0) → (B → Type 0) → A × B → Type 0
 First also Second = BothFit First Second
-
-fit_once : {A B : Type 0} {First : A → Type 0} {Second : B → Type 0} → ((a : A) → IsProp (First a))
-    → ((b : B) → IsProp (Second b)) → (both : A × B) → IsProp ((First also Second) both)
-fit_once one two both a b =
-    ap (λ first. record { first = first; second = a.second }) (one both.0 a.first b.first)
-    ∙ ap (λ second. record { first = b.first; second = second }) (two both.1 a.second b.second)
 
 -- the number of octets of both, by those of each: there is one if each has one and a `usize` can hold it
 abbrev pub AreBoth : Option ℕ → Option ℕ → Option ℕ → Type 0
@@ -49,21 +39,33 @@ AreBoth None second both = both ≡ None
 AreBoth (Some m) None both = both ≡ None
 AreBoth (Some m) (Some n) both = SomeIff both (m + n < 2 ^ 64) (m + n)
 
-infixr 5 ◌plus◌
 -- the turns of both
 abbrev pub ◌plus◌ : {A B : Type 0} → (A → ℕ) → (B → ℕ) → A × B → ℕ
 (first plus second) both = first both.0 + second both.1
 
-infixr 5 ◌key_and◌
 -- the sum of two keys, at most the greatest `usize`
 abbrev pub ◌key_and◌ : {A B : Type 0} → (A → ℕ) → (B → ℕ) → A × B → ℕ
 (first key_and second) both = min (first both.0 + second both.1) 18446744073709551615
 
-infixr 5 ◌code_then◌
 -- the code of both
 abbrev pub ◌code_then◌ : {A B : Type 0} → Coded A → Coded B → Coded (A × B)
 first code_then second = coded× first second
 
+-- ---- lemmas: proved below this line, so what the words mean is read above it
+
+infixr 5 ◌then◌
+infixr 5 ◌and◌
+infixr 5 ◌before◌
+infixr 5 ◌also◌
+fit_once : {A B : Type 0} {First : A → Type 0} {Second : B → Type 0} → ((a : A) → IsProp (First a))
+    → ((b : B) → IsProp (Second b)) → (both : A × B) → IsProp ((First also Second) both)
+fit_once one two both a b =
+    ap (λ first. record { first = first; second = a.second }) (one both.0 a.first b.first)
+    ∙ ap (λ second. record { first = b.first; second = second }) (two both.1 a.second b.second)
+
+infixr 5 ◌plus◌
+infixr 5 ◌key_and◌
+infixr 5 ◌code_then◌
 pub same_pair : {A B : Type 0} {a c : A} {b d : B} → a ≡ c → b ≡ d → Path (A × B) (a, b) (c, d)
 same_pair {c = c} {b = b} first second = ap (λ a. (a, b)) first ∙ ap (λ b. (c, b)) second
 
@@ -107,9 +109,9 @@ module _ {A B : Type 0} {First : Relation A} {Second : Relation B} where
 
   module _ {S T : Type 0} {says : A → S} {tells : B → T} where
     -- a second value that takes its octets, past those of a first one
-    both_taken : (w : Window) (said : S × T) (x y : List ℕ) → Takes First says w said.0 (length x)
-        → Takes Second tells (past (length x) w) said.1 (length y)
-        → Takes (First then Second) (says and tells) w said (length (x ++ y))
+    both_taken : (w : Window) (said : S × T) (x y : List ℕ) → TakesOctets First says w said.0 (length x)
+        → TakesOctets Second tells (past (length x) w) said.1 (length y)
+        → TakesOctets (First then Second) (says and tells) w said (length (x ++ y))
     unfolding both_say
     both_taken w said x y one two = record {
       it = (one.it, two.it);

@@ -9,6 +9,8 @@ use Rattle.octseq_format.specs.Laws.{Relation, IsOne, IsOnward}
 abbrev pub IsPart : ℕ → Relation Window
 IsPart k w inside v = HasPart k w × (inside ≡ part k w) × (v ≡ past_part k w)
 
+-- ---- lemmas: proved below this line, so what the words mean is read above it
+
 pub one_part : (k : ℕ) → IsOne (IsPart k)
 one_part k = record { same = λ w a b u v is other. (is.1 ∙ sym other.1, is.2 ∙ sym other.2) }
 

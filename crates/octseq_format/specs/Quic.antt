@@ -7,7 +7,7 @@ use Rattle.std.proofs.lemmas.Bool.{ltb-true, lt-ltb, le-ltb}
 use Rattle.octseq.specs.Integer.{be, octets_be}
 use Rattle.octseq.proofs.Written.{length_be, value_be}
 use Rattle.octseq_format.specs.Choice.{by_test, first_of_two, second_of_two}
-use Rattle.octseq_format.specs.Varying.{IsAsLong, AreApart, AreRead, apart_long}
+use Rattle.octseq_format.specs.Varying.{IsAsLong, AreEncodingsApart, AreRead, apart_long}
 
 -- how many octets the first one says there are: 2 to the power of its first two bits
 unfoldable pub quic_long : ℕ → ℕ
@@ -31,17 +31,18 @@ quic_octets n =
 abbrev pub QuicFits : ℕ → Type 0
 QuicFits n = n < 2 ^ 62
 
--- ---- laws
+abbrev Said : ℕ → List ℕ → Type 0
+Said n xs = IsAsLong quic_long xs × (quic_number xs ≡ n)
 
+-- ---- lemmas: proved below this line, so what the words mean is read above it
+
+-- ---- laws
 pub some_quic : (first : ℕ) → 0 < quic_long first
 unfolding quic_long
 some_quic first = one-le-pow (first / 64) 2 (omega arith)
 
-pub apart_quic : AreApart (IsAsLong quic_long)
+pub apart_quic : AreEncodingsApart (IsAsLong quic_long)
 apart_quic = apart_long quic_long some_quic
-
-abbrev Said : ℕ → List ℕ → Type 0
-Said n xs = IsAsLong quic_long xs × (quic_number xs ≡ n)
 
 -- k octets of a number with the two bits that say k
 said_in : (power k m n : ℕ) → slice_index (octets_be k m) 0 / 64 ≡ power → k ≡ 2 ^ power → m < 256 ^ k
@@ -83,7 +84,6 @@ pub small_quic : (n : ℕ) → QuicFits n → n < 2 ^ 64
 small_quic n fits = omega (arith, fits)
 
 -- ---- the octets of a number, by its size
-
 pub octets_1 : (n : ℕ) → n < 2 ^ 6 → quic_octets n ≡ octets_be 1 (0 + n)
 unfolding quic_octets quic_in
 octets_1 n few = first_of_two _ _ (lt-ltb n (2 ^ 6) few)

@@ -16,6 +16,8 @@ window_code = code_by (List ℕ × (ℕ × ℕ)) (coded× (coded_list coded_ℕ)
     (λ w. (w.octets, (w.position, w.end)))
     (λ c. record { octets = c.0; position = c.1.0; end = c.1.1 }) (λ _. refl)
 
+-- ---- lemmas: proved below this line, so what the words mean is read above it
+
 pub one_rest : IsOne IsRest
 one_rest = record { same = λ w a b u v is other. (is.0 ∙ sym other.0, is.1 ∙ sym other.1) }
 

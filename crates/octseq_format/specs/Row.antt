@@ -14,7 +14,7 @@ use Rattle.octseq.proofs.Windows.{next_and_rest}
 use Rattle.octseq.proofs.WrittenBack.{small_be, as_be}
 use Rattle.octseq.proofs.Written.{length_be, value_be}
 use Rattle.octseq_format.specs.Canonical.{IsSound, IsCanonical, sound_past, each_next, many_next}
-use Rattle.octseq_format.specs.Laws.{Relation, Takes, IsOne, IsOnward, IsMoving, IsReadBack, IsDelimited, back_of}
+use Rattle.octseq_format.specs.Laws.{Relation, TakesOctets, IsOne, IsOnward, IsMoving, IsReadBack, IsDelimited, back_of}
 
 abbrev pub Row : {A : Type 0} → Relation A → Relation (List A)
 Row Is w [] v = v ≡ w
@@ -24,7 +24,7 @@ Row Is w (one ∷ more) v = (u : Window) × Is w one u × Row Is u more v
 abbrev pub Many : {A : Type 0} → ℕ → Relation A → Relation (List A)
 Many count Is w row v = (length row ≡ count) × Row Is w row v
 
--- `count` of them, up to a place
+-- `count` of them, up to an offset
 abbrev pub ManyTo : {A : Type 0} → ℕ → ℕ → Relation A → Relation (List A)
 ManyTo count end Is w row v = Many count Is w row v × (v.position ≡ end)
 
@@ -32,7 +32,7 @@ ManyTo count end Is w row v = Many count Is w row v × (v.position ≡ end)
 abbrev pub Holds : {A : Type 0} → Relation A → Window → ℕ → Type 0
 Holds {A} Is w count = (row : List A) × ∥ ((end : Window) × Many count Is w row end) ∥₁
 
--- and this is the place past them
+-- and this is the offset past them
 abbrev pub HoldsTo : {A : Type 0} → Relation A → Window → ℕ → ℕ → Type 0
 HoldsTo {A} Is w count end = (row : List A) × ∥ ((v : Window) × ManyTo count end Is w row v) ∥₁
 
@@ -52,8 +52,9 @@ row_octets octets said = flat_map octets said
 abbrev pub row_turns : {A : Type 0} → (A → ℕ) → List A → ℕ
 row_turns turns row = sum_by (λ a. 1 + turns a) row
 
--- ---- at most one row
+-- ---- lemmas: proved below this line, so what the words mean is read above it
 
+-- ---- at most one row
 same_cons : {A : Type 0} {a b : A} {more others : List A} → a ≡ b → more ≡ others → a ∷ more ≡ b ∷ others
 same_cons {b = b} {more = more} first second = ap (λ a. a ∷ more) first ∙ ap (λ more. b ∷ more) second
 
@@ -150,7 +151,6 @@ delimited_moved moving delimited = record {
 }
 
 -- ---- onward
-
 pub onward_row : {A : Type 0} (Is : Relation A) {least : ℕ} → IsOnward least Is → IsOnward 0 (Row Is)
 onward_row {A} Is onward = record { on = on; less = less } where
   on : (w : Window) (row : List A) (v : Window) → w.position ≤ w.end → Row Is w row v
@@ -178,12 +178,12 @@ onward_to Is onward = record {
 }
 
 -- ---- read back
-
 module _ {A S : Type 0} (Is : Relation A) (says : A → S) (octets : S → List ℕ) (Fits : S → Type 0)
     (delimited : IsDelimited Is says octets Fits) where
   -- if the octets of each come next, a row of them is there
   pub row_next : (w : Window) (said : List S) (more : List ℕ) → AllByRecursion Fits said
-      → rest w ≡ row_octets octets said ++ more → Takes (Row Is) (map says) w said (length (row_octets octets said))
+      → rest w ≡ row_octets octets said ++ more
+      → TakesOctets (Row Is) (map says) w said (length (row_octets octets said))
   row_next w [] more fits is = record { it = []; tells = refl; is = ap (λ p. at p w) (omega arith) }
   row_next w (one ∷ others) more fits is =
       let x = octets one in
@@ -212,7 +212,6 @@ module _ {A S : Type 0} (Is : Relation A) (says : A → S) (octets : S → List 
   }
 
 -- ---- written as they were read
-
 pub each_once : {S : Type 0} {Fits : S → Type 0} → ((said : S) → IsProp (Fits said)) → (said : List S)
     → IsProp (AllByRecursion Fits said)
 each_once once [] = Unit-prop

@@ -13,6 +13,8 @@ pub record ScaledFit {S : Type 0} (unit : ℕ) (tag : S → ℕ) (Fits : ℕ →
   pub inside : Fits (key * unit) said
   pub told : tag said ≡ key * unit
 
+-- ---- lemmas: proved below this line, so what the words mean is read above it
+
 module _ {A S : Type 0} (unit : ℕ) (tag : S → ℕ) {Is : ByKey A} {says : A → S} {octets : ℕ → S → List ℕ}
     {Fits : ℕ → S → Type 0} where
   pub scaled_read_back : ((key : ℕ) → IsReadBack (Is key) says (octets key) (Fits key)) → (key : ℕ)

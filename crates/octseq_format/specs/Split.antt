@@ -12,6 +12,8 @@ pub record SplitFit {S T : Type 0} (First : S → Type 0) (Second : T → Type 0
   pub one_told : one said.0 ≡ m
   pub two_told : two said.1 ≡ n
 
+-- ---- lemmas: proved below this line, so what the words mean is read above it
+
 -- the upper bits of a number, and its lowest ones, are at most the number
 pub high_below : (bits n : ℕ) → n / 2 ^ bits ≤ n
 high_below bits n = div-le_self n (2 ^ bits)

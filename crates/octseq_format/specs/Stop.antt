@@ -18,69 +18,69 @@ Stop = Window → ℕ → Type 0
 
 -- at the window's position: what isn't there has no parts
 abbrev pub stops_here : Stop
-stops_here w place = place ≡ w.position
+stops_here w offset = offset ≡ w.position
 
 -- where the first part stops, if it isn't there; otherwise past it, where what follows stops
 pub record StopsThen {A : Type 0} (First : Relation A) (one : Stop) (two : A → Stop) (w : Window)
-    (place : ℕ) : Type 0 where
-  pub first : NoneAt First w → one w place
-  pub second : (a : A) (v : Window) → First w a v → two a v place
+    (offset : ℕ) : Type 0 where
+  pub first : NoneAt First w → one w offset
+  pub second : (a : A) (v : Window) → First w a v → two a v offset
 
 -- where the one stops if it holds, otherwise where the other does
-pub record StopsBy (Holds : Type 0) (one other : Stop) (w : Window) (place : ℕ) : Type 0 where
-  pub yes : Holds → one w place
-  pub no : ¬ Holds → other w place
+pub record StopsBy (Holds : Type 0) (one other : Stop) (w : Window) (offset : ℕ) : Type 0 where
+  pub yes : Holds → one w offset
+  pub no : ¬ Holds → other w offset
 
 -- the first value of a row that isn't there
-pub record StopsInRow {A : Type 0} (Is : Relation A) (stop : Stop) (w : Window) (place : ℕ) : Type 0 where
+pub record StopsInRow {A : Type 0} (Is : Relation A) (stop : Stop) (w : Window) (offset : ℕ) : Type 0 where
   pub row : List A
   pub there : Window
   pub passed : Row Is w row there
   pub none : NoneAt Is there
-  pub is : stop there place
+  pub is : stop there offset
 
 -- as many octets as the number says: before them if they aren't there, otherwise in them, or past a value in them
 abbrev pub stops_sized : {A : Type 0} → ℕ → Relation A → Stop → ℕ → Stop
-stops_sized extra Is stop n w place = StopsBy ((extra ≤ n) × (n - extra ≤ left w))
-    (λ w. StopsThen Is stop (λ _. stops_here) (nested (n - extra) w)) stops_here w place
+stops_sized extra Is stop n w offset = StopsBy ((extra ≤ n) × (n - extra ≤ left w))
+    (λ w. StopsThen Is stop (λ _. stops_here) (nested (n - extra) w)) stops_here w offset
 
 -- where reading all octets stops: past a value if more octets follow it
 abbrev pub stops_whole : {A : Type 0} → Relation A → Stop → Stop
-stops_whole Is stop = StopsThen Is stop (λ _ v place. (place ≡ v.position) × (0 < left v))
+stops_whole Is stop = StopsThen Is stop (λ _ v offset. (offset ≡ v.position) × (0 < left v))
 
--- ---- how a place is found
+-- ---- lemmas: proved below this line, so what the words mean is read above it
 
+-- ---- how an offset is found
 module _ {A : Type 0} {First : Relation A} {one : Stop} {two : A → Stop} where
   -- in the first part
-  pub at_first : (w : Window) (place : ℕ) → NoneAt First w → one w place → StopsThen First one two w place
-  at_first w place none is = record { first = λ _. is; second = λ a v there. absurd (none a v there) }
+  pub at_first : (w : Window) (offset : ℕ) → NoneAt First w → one w offset → StopsThen First one two w offset
+  at_first w offset none is = record { first = λ _. is; second = λ a v there. absurd (none a v there) }
 
   -- past it
-  pub at_second : IsOne First → (w v : Window) (a : A) (place : ℕ) → First w a v → two a v place
-      → StopsThen First one two w place
-  at_second single w v a place is stops = record {
+  pub at_second : IsOne First → (w v : Window) (a : A) (offset : ℕ) → First w a v → two a v offset
+      → StopsThen First one two w offset
+  at_second single w v a offset is stops = record {
     first = λ none. absurd (none a v is);
     second = λ b u there.
         let same = single.same w a b v u is there in
-        subst (λ u. two b u place) same.1 (subst (λ b. two b v place) same.0 stops);
+        subst (λ u. two b u offset) same.1 (subst (λ b. two b v offset) same.0 stops);
   }
 
-pub stops_yes : {Holds : Type 0} {one other : Stop} (w : Window) (place : ℕ) → Holds → one w place
-    → StopsBy Holds one other w place
-stops_yes w place holds is = record { yes = λ _. is; no = λ not. absurd (not holds) }
+pub stops_yes : {Holds : Type 0} {one other : Stop} (w : Window) (offset : ℕ) → Holds → one w offset
+    → StopsBy Holds one other w offset
+stops_yes w offset holds is = record { yes = λ _. is; no = λ not. absurd (not holds) }
 
-pub stops_no : {Holds : Type 0} {one other : Stop} (w : Window) (place : ℕ) → ¬ Holds → other w place
-    → StopsBy Holds one other w place
-stops_no w place not is = record { yes = λ holds. absurd (not holds); no = λ _. is }
+pub stops_no : {Holds : Type 0} {one other : Stop} (w : Window) (offset : ℕ) → ¬ Holds → other w offset
+    → StopsBy Holds one other w offset
+stops_no w offset not is = record { yes = λ holds. absurd (not holds); no = λ _. is }
 
 module _ {A : Type 0} {Is : Relation A} {stop : Stop} where
-  pub stops_in_row : (w u : Window) (place : ℕ) → (row : List A) × Row Is w row u → NoneAt Is u → stop u place
-      → StopsInRow Is stop w place
-  stops_in_row w u place passed none is =
+  pub stops_in_row : (w u : Window) (offset : ℕ) → (row : List A) × Row Is w row u → NoneAt Is u → stop u offset
+      → StopsInRow Is stop w offset
+  stops_in_row w u offset passed none is =
       record { row = passed.0; there = u; passed = passed.1; none = none; is = is }
 
 -- ---- what isn't there, by what it is made of
-
 module _ {A B : Type 0} (First : Relation A) (Second : Relation B) where
   pub none_second : (w v : Window) (a : A) → First w a v → NoneAt (First then Second) w → NoneAt Second v
   none_second w v a is none b u second = none (a, b) u (v, is, second)

@@ -5,7 +5,7 @@ use Rattle.octseq.specs.Window.{Window, left, past, rest}
 use Rattle.octseq.proofs.WindowsAfter.{front_comes_next}
 use Rattle.octseq_format.specs.Canonical.{IsCanonical, both_ways}
 use Rattle.octseq_format.specs.Family.{ByKey, any_onward}
-use Rattle.octseq_format.specs.Laws.{Relation, Takes, IsOne, IsOnward, IsReadBack, IsDelimited}
+use Rattle.octseq_format.specs.Laws.{Relation, TakesOctets, IsOne, IsOnward, IsReadBack, IsDelimited}
 use Rattle.octseq_format.specs.Pair.{past_both}
 
 -- the number, and what it decides past it
@@ -22,14 +22,17 @@ pub record TaggedFits {S : Type 0} (Number : ℕ → Type 0) (tag : S → ℕ) (
   pub tag_fits : Number (tag said)
   pub inside : Fits (tag said) said
 
+-- ---- lemmas: proved below this line, so what the words mean is read above it
+
 -- the number of octets with the number before them
 pub tagged_long : (x y : List ℕ) → length (x ++ y) ≡ length x + length y
 tagged_long x y = length-append x y
 
 -- a value that takes its octets, past those of its number
 tagged_taken : {A S : Type 0} {Number : Relation ℕ} {Is : ByKey A} {says : A → S} (w : Window) (said : S) (n : ℕ)
-    (x y : List ℕ) → Takes Number (λ n. n) w n (length x) → Takes (Is n) says (past (length x) w) said (length y)
-    → Takes (Tagged Number Is) says w said (length (x ++ y))
+    (x y : List ℕ) → TakesOctets Number (λ n. n) w n (length x)
+    → TakesOctets (Is n) says (past (length x) w) said (length y)
+    → TakesOctets (Tagged Number Is) says w said (length (x ++ y))
 tagged_taken {Is = Is} w said n x y one two = record {
   it = two.it;
   tells = two.tells;
@@ -129,7 +132,6 @@ module _ {A : Type 0} {Number : Relation ℕ} {Is : ByKey A} where
         canonical_tagged (one ways.0) (family ways.1) (told ways.1)
 
 -- ---- one of two relations, by a question
-
 module _ {A : Type 0} {First Second : Relation A} where
   pub one_by_switch : (first : Bool) → IsOne First → IsOne Second → IsOne (cond first First Second)
   one_by_switch true one other = one

@@ -14,6 +14,8 @@ IsText = IsWhere IsRest rest IsWellFormed
 abbrev pub TextFits : List ℕ → Type 0
 TextFits = WhereFits (λ _. Unit {0}) IsWellFormed
 
+-- ---- lemmas: proved below this line, so what the words mean is read above it
+
 pub one_text : IsOne IsText
 one_text = one_where IsRest rest IsWellFormed one_rest
 

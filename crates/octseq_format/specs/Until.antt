@@ -24,9 +24,9 @@ abbrev pub IsItem : {A : Type 0} → ℕ → Relation ℕ → ByKey A → Relati
 IsItem n Number Is = Tagged Number (IsWhen (IsNot n) Is)
 
 -- an item, or none where the tag is n
-abbrev pub IsNext : {A : Type 0} → ℕ → Relation ℕ → ByKey A → Relation (Option A)
-IsNext n Number Is w None v = Number w n v
-IsNext n Number Is w (Some a) v = IsItem n Number Is w a v
+abbrev pub IsNextItem : {A : Type 0} → ℕ → Relation ℕ → ByKey A → Relation (Option A)
+IsNextItem n Number Is w None v = Number w n v
+IsNextItem n Number Is w (Some a) v = IsItem n Number Is w a v
 
 -- items up to the tag n, and that tag
 abbrev pub IsUntil : {A : Type 0} → ℕ → Relation ℕ → ByKey A → Relation (List A)
@@ -42,13 +42,15 @@ pub record UntilFits {S : Type 0} (n : ℕ) (Number : ℕ → Type 0) (tag : S �
   pub each : AllByRecursion (TaggedFits Number tag (WhenFits (IsNot n) Fits)) said
   pub ends : Number n
 
+-- ---- lemmas: proved below this line, so what the words mean is read above it
+
 module _ {A : Type 0} (n : ℕ) {Number : Relation ℕ} (Is : ByKey A) (number : IsOne Number) where
-  -- a place has an item, or the tag n, but not both
+  -- an offset has an item, or the tag n, but not both
   pub no_item : (w : Window) (a : A) (u v : Window) → IsItem n Number Is w a u → Number w n v → ⊥
   no_item w a u v is ends = is.3.0 (number.same w is.0 n is.1 v is.2 ends).0
 
   -- if neither an item nor the tag n is there, nothing is past another tag
-  pub none_item : (w v : Window) (tag : ℕ) → Number w tag v → NoneAt (IsNext n Number Is) w → NoneAt (Is tag) v
+  pub none_item : (w v : Window) (tag : ℕ) → Number w tag v → NoneAt (IsNextItem n Number Is) w → NoneAt (Is tag) v
   none_item w v tag is none a u item =
       none (Some a) u (tag, v, is, ((λ same. none None v (subst (λ k. Number w k v) same is)), item))
 

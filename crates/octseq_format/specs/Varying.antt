@@ -28,7 +28,7 @@ pub record IsVarying (Whole : List ℕ → Type 0) (reading : List ℕ → ℕ) 
   pub past : v ≡ past many w
 
 -- An encoding has an octet, and none is the front of another.
-pub record AreApart (Whole : List ℕ → Type 0) : Type 0 where
+pub record AreEncodingsApart (Whole : List ℕ → Type 0) : Type 0 where
   pub some : (xs : List ℕ) → Whole xs → 0 < length xs
   pub same : (xs : List ℕ) (j k : ℕ) → j ≤ length xs → k ≤ length xs → Whole (take j xs) → Whole (take k xs) → j ≡ k
 
@@ -44,7 +44,15 @@ pub record AreWritten (Whole : List ℕ → Type 0) (reading : List ℕ → ℕ)
   pub once : (n : ℕ) → IsProp (Fits n)
   pub written : (xs : List ℕ) → AreOctets xs → Whole xs → Fits (reading xs) × (octets (reading xs) ≡ xs)
 
-module _ {Whole : List ℕ → Type 0} (reading : List ℕ → ℕ) (apart : AreApart Whole) where
+-- ---- encodings whose first octet says how many there are
+
+-- There are as many octets as the first one says.
+abbrev pub IsAsLong : (ℕ → ℕ) → List ℕ → Type 0
+IsAsLong long xs = length xs ≡ long (slice_index xs 0)
+
+-- ---- lemmas: proved below this line, so what the words mean is read above it
+
+module _ {Whole : List ℕ → Type 0} (reading : List ℕ → ℕ) (apart : AreEncodingsApart Whole) where
   pub one_varying : IsOne (IsVarying Whole reading)
   one_varying = record {
     same = λ w a b u v is other.
@@ -100,7 +108,7 @@ module _ {Whole : List ℕ → Type 0} {reading : List ℕ → ℕ} {octets : �
         };
   }
 
-  pub canonical_varying : AreApart Whole → AreWritten Whole reading octets Fits
+  pub canonical_varying : AreEncodingsApart Whole → AreWritten Whole reading octets Fits
       → IsCanonical (IsVarying Whole reading) (λ n. n) octets Fits
   canonical_varying apart are = record {
     once = are.once;
@@ -120,17 +128,11 @@ module _ {Whole : List ℕ → Type 0} {reading : List ℕ → ℕ} {octets : �
     on = sound_on (onward_varying reading apart);
   }
 
--- ---- encodings whose first octet says how many there are
-
--- There are as many octets as the first one says.
-abbrev pub IsAsLong : (ℕ → ℕ) → List ℕ → Type 0
-IsAsLong long xs = length xs ≡ long (slice_index xs 0)
-
 first_taken : (xs : List ℕ) (k : ℕ) → 0 < k → slice_index (take k xs) 0 ≡ slice_index xs 0
 first_taken xs k some = get_or-take k xs 0 0 some
 
 module _ (long : ℕ → ℕ) (some : (first : ℕ) → 0 < long first) where
-  pub apart_long : AreApart (IsAsLong long)
+  pub apart_long : AreEncodingsApart (IsAsLong long)
   apart_long = record {
     some = λ xs whole. let least = some (slice_index xs 0) in omega (arith, whole, least);
     same = λ xs j k few less one other.
@@ -165,7 +167,6 @@ after_one [] k few = absurd (omega (arith, few))
 after_one (x ∷ xs) k few = let same : k ≡ suc k - 1 = omega arith in ap (λ k. take k xs) same
 
 -- ---- what leads a window
-
 pub none_varying : {Whole : List ℕ → Type 0} {reading : List ℕ → ℕ} (w : Window) → NoneLeads Whole (rest w)
     → NoneAt (IsVarying Whole reading) w
 none_varying w none number v is = none is.many is.leads.few is.leads.whole

@@ -12,6 +12,8 @@ IsWhere Is says Holds w a v = Is w a v × Holds (says a)
 abbrev pub WhereFits : {S : Type 0} → (S → Type 0) → (S → Type 0) → S → Type 0
 WhereFits Fits Holds said = Fits said × Holds said
 
+-- ---- lemmas: proved below this line, so what the words mean is read above it
+
 module _ {A S : Type 0} (Is : Relation A) (says : A → S) (Holds : S → Type 0) where
   pub one_where : IsOne Is → IsOne (IsWhere Is says Holds)
   one_where one = record { same = λ w a b u v is other. one.same w a b u v is.0 other.0 }

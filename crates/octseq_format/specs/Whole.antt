@@ -4,7 +4,7 @@ use Rattle.std.proofs.Common.{sym, ap, ◌∙◌, arith, length-append}
 use Rattle.std.specs.Coded.{Coded-set, coded_ℕ, ×_prop}
 use Rattle.octseq.specs.Window.{Window, rest}
 use Rattle.octseq_format.specs.Canonical.{IsSound, IsCanonical, many_rest}
-use Rattle.octseq_format.specs.Laws.{Relation, NoneAt, Takes, IsOne, IsOnward, IsReadBack, IsDelimited}
+use Rattle.octseq_format.specs.Laws.{Relation, NoneAt, TakesOctets, IsOne, IsOnward, IsReadBack, IsDelimited}
 
 -- the value, which takes as many octets as its key says
 abbrev pub IsWhole : {A S : Type 0} → (S → ℕ) → (A → S) → Relation A → Relation A
@@ -13,6 +13,8 @@ IsWhole key says Is w a v = Is w a v × (w.position + key (says a) ≡ v.positio
 -- It fits, and its key counts its octets.
 abbrev pub WholeFits : {S : Type 0} → (S → ℕ) → (S → List ℕ) → (S → Type 0) → S → Type 0
 WholeFits key octets Fits said = Fits said × (key said ≡ length (octets said))
+
+-- ---- lemmas: proved below this line, so what the words mean is read above it
 
 -- the octets that say it are as many as it takes, if its encoding is unique
 pub octets_taken : {A S : Type 0} {Is : Relation A} {says : A → S} {octets : S → List ℕ} {Fits : S → Type 0}
@@ -45,7 +47,8 @@ module _ {A S : Type 0} (key : S → ℕ) (says : A → S) {Is : Relation A} whe
 
   -- a value that takes its octets, whose key counts them
   whole_taken : (octets : S → List ℕ) (w : Window) (said : S) → key said ≡ length (octets said)
-      → Takes Is says w said (length (octets said)) → Takes (IsWhole key says Is) says w said (length (octets said))
+      → TakesOctets Is says w said (length (octets said))
+      → TakesOctets (IsWhole key says Is) says w said (length (octets said))
   whole_taken octets w said many taken = record {
     it = taken.it;
     tells = taken.tells;

@@ -25,10 +25,11 @@ pub struct After<A, F> {
 
 impl<A, F: TellsKey> TellsKey for After<A, F> {}
 
-impl<R: AsOctets + Copy, A: Format<R, Delimited = Yes>, F: Family<R>> Family<R> for After<A, F> {
+impl<R: AsOctets + Copy, A: Format<R, SelfDelimiting = Yes>, F: Family<R>> Family<R>
+    for After<A, F> {
     type Value = (A::Value, F::Value);
 
-    type Delimited = F::Delimited;
+    type SelfDelimiting = F::SelfDelimiting;
 
     ghost Found = { A.Found × F.Found };
 

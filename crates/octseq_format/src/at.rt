@@ -18,9 +18,9 @@ pub struct At<const KEY: usize, F> {
 impl<R: AsOctets + Copy, const KEY: usize, F: Family<R>> Format<R> for At<KEY, F> {
     type Value = F::Value;
 
-    type Delimited = F::Delimited;
+    type SelfDelimiting = F::SelfDelimiting;
 
-    type Moving = No;
+    type NonEmpty = No;
 
     ghost Found = { F.Found };
 

@@ -113,9 +113,9 @@ pub(crate) fn fitting<const N: u32>(number: usize) -> Option<usize>
 
 /// An unsigned number of `N` bits.
 #[derive(Debug)]
-pub struct Low<const N: u32>;
+pub struct UInt<const N: u32>;
 
-impl<const N: u32> BitFields for Low<N> {
+impl<const N: u32> BitFields for UInt<N> {
     type Value = usize;
 
     ghost Said = { ℕ };
@@ -329,9 +329,9 @@ pub struct Bits<L, B> {
 impl<R: AsOctets + Copy, L: Number, B: BitFields> Format<R> for Bits<L, B> {
     type Value = B::Value;
 
-    type Delimited = Yes;
+    type SelfDelimiting = Yes;
 
-    type Moving = Yes;
+    type NonEmpty = Yes;
 
     ghost Found = { B.Said };
 
@@ -439,9 +439,9 @@ pub struct KeyBits<L, B, K> {
 impl<R: AsOctets + Copy, L: Number, B: BitFields, K: Reckoning> Format<R> for KeyBits<L, B, K> {
     type Value = B::Value;
 
-    type Delimited = Yes;
+    type SelfDelimiting = Yes;
 
-    type Moving = Yes;
+    type NonEmpty = Yes;
 
     ghost Found = { B.Said };
 

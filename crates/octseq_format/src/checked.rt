@@ -45,12 +45,13 @@ pub struct Checked<A, S> {
     checksum: PhantomData<S>,
 }
 
-impl<R: AsOctets + Copy, A: Format<R, Delimited = Yes>, S: Checksum> Format<R> for Checked<A, S> {
+impl<R: AsOctets + Copy, A: Format<R, SelfDelimiting = Yes>, S: Checksum> Format<R>
+    for Checked<A, S> {
     type Value = A::Value;
 
-    type Delimited = Yes;
+    type SelfDelimiting = Yes;
 
-    type Moving = Yes;
+    type NonEmpty = Yes;
 
     ghost Found = { A.Found };
 
@@ -142,19 +143,22 @@ impl<R: AsOctets + Copy, A: Format<R, Delimited = Yes>, S: Checksum> Format<R> f
 
     ghost onward = { onward_checked (cut_sum S.of S.Sum.width) A.onward S.Sum.onward };
 
-    ghost read_back = { checked_read_back (cut_sum S.of S.Sum.width) (sums_cut S.of S.Sum.each S.Sum.as_long) (A.delimited refl) S.Sum.delimited };
+    ghost read_back = { checked_read_back (cut_sum S.of S.Sum.width) (sums_cut S.of S.Sum.each S.Sum.as_long)
+        (A.delimited refl) S.Sum.delimited };
 
-    ghost delimited = { λ _. delimited_checked (cut_sum S.of S.Sum.width) (sums_cut S.of S.Sum.each S.Sum.as_long) (A.delimited refl) S.Sum.delimited };
+    ghost delimited = { λ _. delimited_checked (cut_sum S.of S.Sum.width) (sums_cut S.of S.Sum.each S.Sum.as_long)
+        (A.delimited refl) S.Sum.delimited };
 
     ghost moving = { λ _. some_more A.least S.Sum.moving };
 }
 
 impl<F: TellsKey, S> TellsKey for Checked<F, S> {}
 
-impl<R: AsOctets + Copy, F: Family<R, Delimited = Yes>, S: Checksum> Family<R> for Checked<F, S> {
+impl<R: AsOctets + Copy, F: Family<R, SelfDelimiting = Yes>, S: Checksum> Family<R>
+    for Checked<F, S> {
     type Value = F::Value;
 
-    type Delimited = Yes;
+    type SelfDelimiting = Yes;
 
     ghost Found = { F.Found };
 

@@ -25,13 +25,13 @@ impl<A: TellsKey, B: TellsKey> TellsKey for (A, B) {}
 
 impl<R: AsOctets + Copy, A: Family<R>, B: Family<R>> Family<R> for (A, B)
 where
-    A::Delimited: And<B::Delimited>,
+    A::SelfDelimiting: And<B::SelfDelimiting>,
 {
     ghost use Rattle.octseq_format.specs.OneOf.{one_of_2};
 
     type Value = OneOf2<A::Value, B::Value>;
 
-    type Delimited = <A::Delimited as And<B::Delimited>>::Joined;
+    type SelfDelimiting = <A::SelfDelimiting as And<B::SelfDelimiting>>::Joined;
 
     ghost Found = { A.Found ⊎ B.Found };
 
@@ -145,8 +145,8 @@ where
 
     ghost read_back = { either_read_back A.covers A.read_back B.read_back };
 
-    ghost delimited = { λ yes. delimited_either A.covers (A.delimited (A.Delimited.both yes).0) (B.delimited
-        ((A.Delimited.both yes).1)) };
+    ghost delimited = { λ yes. delimited_either A.covers (A.delimited (A.SelfDelimiting.both yes).0) (B.delimited
+        ((A.SelfDelimiting.both yes).1)) };
 
     ghost canonical = { λ yes key. not_one_way yes };
 
@@ -168,14 +168,16 @@ impl<A: TellsKey, B: TellsKey, C: TellsKey> TellsKey for (A, B, C) {}
 
 impl<R: AsOctets + Copy, A: Family<R>, B: Family<R>, C: Family<R>> Family<R> for (A, B, C)
 where
-    B::Delimited: And<C::Delimited>,
-    A::Delimited: And<<B::Delimited as And<C::Delimited>>::Joined>,
+    B::SelfDelimiting: And<C::SelfDelimiting>,
+    A::SelfDelimiting: And<<B::SelfDelimiting as And<C::SelfDelimiting>>::Joined>,
 {
     ghost use Rattle.octseq_format.specs.OneOf.{one_of_3};
 
     type Value = OneOf3<A::Value, B::Value, C::Value>;
 
-    type Delimited = <A::Delimited as And<<B::Delimited as And<C::Delimited>>::Joined>>::Joined;
+    type SelfDelimiting = <A::SelfDelimiting as And<
+        <B::SelfDelimiting as And<C::SelfDelimiting>>::Joined,
+    >>::Joined;
 
     ghost Found = { A.Found ⊎ (B.Found ⊎ C.Found) };
 
@@ -289,9 +291,10 @@ where
 
     ghost read_back = { either_read_back A.covers A.read_back (either_read_back B.covers B.read_back C.read_back) };
 
-    ghost delimited = { λ yes. delimited_either A.covers (A.delimited (A.Delimited.both yes).0) (delimited_either
-        B.covers (B.delimited (B.Delimited.both ((A.Delimited.both yes).1)).0) (C.delimited ((B.Delimited.both
-        ((A.Delimited.both yes).1)).1))) };
+    ghost delimited = { λ yes. delimited_either A.covers (A.delimited (A.SelfDelimiting.both yes).0) (delimited_either
+        B.covers (B.delimited (B.SelfDelimiting.both ((A.SelfDelimiting.both yes).1)).0)
+        (C.delimited ((B.SelfDelimiting.both
+        ((A.SelfDelimiting.both yes).1)).1))) };
 
     ghost canonical = { λ yes key. not_one_way yes };
 
@@ -316,16 +319,18 @@ impl<A: TellsKey, B: TellsKey, C: TellsKey, D: TellsKey> TellsKey for (A, B, C, 
 impl<R: AsOctets + Copy, A: Family<R>, B: Family<R>, C: Family<R>, D: Family<R>> Family<R>
     for (A, B, C, D)
 where
-    C::Delimited: And<D::Delimited>,
-    B::Delimited: And<<C::Delimited as And<D::Delimited>>::Joined>,
-    A::Delimited: And<<B::Delimited as And<<C::Delimited as And<D::Delimited>>::Joined>>::Joined>,
+    C::SelfDelimiting: And<D::SelfDelimiting>,
+    B::SelfDelimiting: And<<C::SelfDelimiting as And<D::SelfDelimiting>>::Joined>,
+    A::SelfDelimiting: And<
+        <B::SelfDelimiting as And<<C::SelfDelimiting as And<D::SelfDelimiting>>::Joined>>::Joined,
+    >,
 {
     ghost use Rattle.octseq_format.specs.OneOf.{one_of_4};
 
     type Value = OneOf4<A::Value, B::Value, C::Value, D::Value>;
 
-    type Delimited = <A::Delimited as And<
-        <B::Delimited as And<<C::Delimited as And<D::Delimited>>::Joined>>::Joined,
+    type SelfDelimiting = <A::SelfDelimiting as And<
+        <B::SelfDelimiting as And<<C::SelfDelimiting as And<D::SelfDelimiting>>::Joined>>::Joined,
     >>::Joined;
 
     ghost Found = { A.Found ⊎ (B.Found ⊎ (C.Found ⊎ D.Found)) };
@@ -453,10 +458,12 @@ where
     ghost read_back = { either_read_back A.covers A.read_back (either_read_back B.covers B.read_back (either_read_back
         C.covers C.read_back D.read_back)) };
 
-    ghost delimited = { λ yes. delimited_either A.covers (A.delimited (A.Delimited.both yes).0) (delimited_either
-        B.covers (B.delimited (B.Delimited.both ((A.Delimited.both yes).1)).0) (delimited_either C.covers (C.delimited
-        (C.Delimited.both ((B.Delimited.both ((A.Delimited.both yes).1)).1)).0) (D.delimited ((C.Delimited.both
-        ((B.Delimited.both ((A.Delimited.both yes).1)).1)).1)))) };
+    ghost delimited = { λ yes. delimited_either A.covers (A.delimited (A.SelfDelimiting.both yes).0) (delimited_either
+        B.covers (B.delimited (B.SelfDelimiting.both ((A.SelfDelimiting.both yes).1)).0)
+        (delimited_either C.covers (C.delimited
+        (C.SelfDelimiting.both ((B.SelfDelimiting.both ((A.SelfDelimiting.both yes).1)).1)).0)
+        (D.delimited ((C.SelfDelimiting.both
+        ((B.SelfDelimiting.both ((A.SelfDelimiting.both yes).1)).1)).1)))) };
 
     ghost canonical = { λ yes key. not_one_way yes };
 
@@ -490,12 +497,16 @@ impl<
     E: Family<R>,
 > Family<R> for (A, B, C, D, E)
 where
-    D::Delimited: And<E::Delimited>,
-    C::Delimited: And<<D::Delimited as And<E::Delimited>>::Joined>,
-    B::Delimited: And<<C::Delimited as And<<D::Delimited as And<E::Delimited>>::Joined>>::Joined>,
-    A::Delimited: And<
-        <B::Delimited as And<
-            <C::Delimited as And<<D::Delimited as And<E::Delimited>>::Joined>>::Joined,
+    D::SelfDelimiting: And<E::SelfDelimiting>,
+    C::SelfDelimiting: And<<D::SelfDelimiting as And<E::SelfDelimiting>>::Joined>,
+    B::SelfDelimiting: And<
+        <C::SelfDelimiting as And<<D::SelfDelimiting as And<E::SelfDelimiting>>::Joined>>::Joined,
+    >,
+    A::SelfDelimiting: And<
+        <B::SelfDelimiting as And<
+            <C::SelfDelimiting as And<
+                <D::SelfDelimiting as And<E::SelfDelimiting>>::Joined,
+            >>::Joined,
         >>::Joined,
     >,
 {
@@ -503,9 +514,11 @@ where
 
     type Value = OneOf5<A::Value, B::Value, C::Value, D::Value, E::Value>;
 
-    type Delimited = <A::Delimited as And<
-        <B::Delimited as And<
-            <C::Delimited as And<<D::Delimited as And<E::Delimited>>::Joined>>::Joined,
+    type SelfDelimiting = <A::SelfDelimiting as And<
+        <B::SelfDelimiting as And<
+            <C::SelfDelimiting as And<
+                <D::SelfDelimiting as And<E::SelfDelimiting>>::Joined,
+            >>::Joined,
         >>::Joined,
     >>::Joined;
 
@@ -658,11 +671,15 @@ where
     ghost read_back = { either_read_back A.covers A.read_back (either_read_back B.covers B.read_back (either_read_back
         C.covers C.read_back (either_read_back D.covers D.read_back E.read_back))) };
 
-    ghost delimited = { λ yes. delimited_either A.covers (A.delimited (A.Delimited.both yes).0) (delimited_either
-        B.covers (B.delimited (B.Delimited.both ((A.Delimited.both yes).1)).0) (delimited_either C.covers (C.delimited
-        (C.Delimited.both ((B.Delimited.both ((A.Delimited.both yes).1)).1)).0) (delimited_either D.covers (D.delimited
-        (D.Delimited.both ((C.Delimited.both ((B.Delimited.both ((A.Delimited.both yes).1)).1)).1)).0) (E.delimited
-        ((D.Delimited.both ((C.Delimited.both ((B.Delimited.both ((A.Delimited.both yes).1)).1)).1)).1))))) };
+    ghost delimited = { λ yes. delimited_either A.covers (A.delimited (A.SelfDelimiting.both yes).0) (delimited_either
+        B.covers (B.delimited (B.SelfDelimiting.both ((A.SelfDelimiting.both yes).1)).0)
+        (delimited_either C.covers (C.delimited
+        (C.SelfDelimiting.both ((B.SelfDelimiting.both ((A.SelfDelimiting.both yes).1)).1)).0)
+        (delimited_either D.covers (D.delimited
+        (D.SelfDelimiting.both
+        ((C.SelfDelimiting.both ((B.SelfDelimiting.both ((A.SelfDelimiting.both yes).1)).1)).1)).0) (E.delimited
+        ((D.SelfDelimiting.both
+        ((C.SelfDelimiting.both ((B.SelfDelimiting.both ((A.SelfDelimiting.both yes).1)).1)).1)).1))))) };
 
     ghost canonical = { λ yes key. not_one_way yes };
 

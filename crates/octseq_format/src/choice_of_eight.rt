@@ -58,36 +58,46 @@ impl<
     H: Family<R>,
 > Family<R> for (A, B, C, D, E, F, G, H)
 where
-    G::Delimited: And<H::Delimited>,
-    F::Delimited: And<<G::Delimited as And<H::Delimited>>::Joined>,
-    E::Delimited: And<<F::Delimited as And<<G::Delimited as And<H::Delimited>>::Joined>>::Joined>,
-    D::Delimited: And<
-        <E::Delimited as And<
-            <F::Delimited as And<<G::Delimited as And<H::Delimited>>::Joined>>::Joined,
-        >>::Joined,
+    G::SelfDelimiting: And<H::SelfDelimiting>,
+    F::SelfDelimiting: And<<G::SelfDelimiting as And<H::SelfDelimiting>>::Joined>,
+    E::SelfDelimiting: And<
+        <F::SelfDelimiting as And<<G::SelfDelimiting as And<H::SelfDelimiting>>::Joined>>::Joined,
     >,
-    C::Delimited: And<
-        <D::Delimited as And<
-            <E::Delimited as And<
-                <F::Delimited as And<<G::Delimited as And<H::Delimited>>::Joined>>::Joined,
+    D::SelfDelimiting: And<
+        <E::SelfDelimiting as And<
+            <F::SelfDelimiting as And<
+                <G::SelfDelimiting as And<H::SelfDelimiting>>::Joined,
             >>::Joined,
         >>::Joined,
     >,
-    B::Delimited: And<
-        <C::Delimited as And<
-            <D::Delimited as And<
-                <E::Delimited as And<
-                    <F::Delimited as And<<G::Delimited as And<H::Delimited>>::Joined>>::Joined,
+    C::SelfDelimiting: And<
+        <D::SelfDelimiting as And<
+            <E::SelfDelimiting as And<
+                <F::SelfDelimiting as And<
+                    <G::SelfDelimiting as And<H::SelfDelimiting>>::Joined,
                 >>::Joined,
             >>::Joined,
         >>::Joined,
     >,
-    A::Delimited: And<
-        <B::Delimited as And<
-            <C::Delimited as And<
-                <D::Delimited as And<
-                    <E::Delimited as And<
-                        <F::Delimited as And<<G::Delimited as And<H::Delimited>>::Joined>>::Joined,
+    B::SelfDelimiting: And<
+        <C::SelfDelimiting as And<
+            <D::SelfDelimiting as And<
+                <E::SelfDelimiting as And<
+                    <F::SelfDelimiting as And<
+                        <G::SelfDelimiting as And<H::SelfDelimiting>>::Joined,
+                    >>::Joined,
+                >>::Joined,
+            >>::Joined,
+        >>::Joined,
+    >,
+    A::SelfDelimiting: And<
+        <B::SelfDelimiting as And<
+            <C::SelfDelimiting as And<
+                <D::SelfDelimiting as And<
+                    <E::SelfDelimiting as And<
+                        <F::SelfDelimiting as And<
+                            <G::SelfDelimiting as And<H::SelfDelimiting>>::Joined,
+                        >>::Joined,
                     >>::Joined,
                 >>::Joined,
             >>::Joined,
@@ -107,12 +117,14 @@ where
         H::Value,
     >;
 
-    type Delimited = <A::Delimited as And<
-        <B::Delimited as And<
-            <C::Delimited as And<
-                <D::Delimited as And<
-                    <E::Delimited as And<
-                        <F::Delimited as And<<G::Delimited as And<H::Delimited>>::Joined>>::Joined,
+    type SelfDelimiting = <A::SelfDelimiting as And<
+        <B::SelfDelimiting as And<
+            <C::SelfDelimiting as And<
+                <D::SelfDelimiting as And<
+                    <E::SelfDelimiting as And<
+                        <F::SelfDelimiting as And<
+                            <G::SelfDelimiting as And<H::SelfDelimiting>>::Joined,
+                        >>::Joined,
                     >>::Joined,
                 >>::Joined,
             >>::Joined,
@@ -332,17 +344,26 @@ where
         C.covers C.read_back (either_read_back D.covers D.read_back (either_read_back E.covers E.read_back
         (either_read_back F.covers F.read_back (either_read_back G.covers G.read_back H.read_back)))))) };
 
-    ghost delimited = { λ yes. delimited_either A.covers (A.delimited (A.Delimited.both yes).0) (delimited_either
-        B.covers (B.delimited (B.Delimited.both ((A.Delimited.both yes).1)).0) (delimited_either C.covers (C.delimited
-        (C.Delimited.both ((B.Delimited.both ((A.Delimited.both yes).1)).1)).0) (delimited_either D.covers (D.delimited
-        (D.Delimited.both ((C.Delimited.both ((B.Delimited.both ((A.Delimited.both yes).1)).1)).1)).0) (delimited_either
-        E.covers (E.delimited (E.Delimited.both ((D.Delimited.both ((C.Delimited.both ((B.Delimited.both
-        ((A.Delimited.both yes).1)).1)).1)).1)).0) (delimited_either F.covers (F.delimited (F.Delimited.both
-        ((E.Delimited.both ((D.Delimited.both ((C.Delimited.both ((B.Delimited.both ((A.Delimited.both
-        yes).1)).1)).1)).1)).1)).0) (delimited_either G.covers (G.delimited (G.Delimited.both ((F.Delimited.both
-        ((E.Delimited.both ((D.Delimited.both ((C.Delimited.both ((B.Delimited.both ((A.Delimited.both
-        yes).1)).1)).1)).1)).1)).1)).0) (H.delimited ((G.Delimited.both ((F.Delimited.both ((E.Delimited.both
-        ((D.Delimited.both ((C.Delimited.both ((B.Delimited.both ((A.Delimited.both
+    ghost delimited = { λ yes. delimited_either A.covers (A.delimited (A.SelfDelimiting.both yes).0) (delimited_either
+        B.covers (B.delimited (B.SelfDelimiting.both ((A.SelfDelimiting.both yes).1)).0)
+        (delimited_either C.covers (C.delimited
+        (C.SelfDelimiting.both ((B.SelfDelimiting.both ((A.SelfDelimiting.both yes).1)).1)).0)
+        (delimited_either D.covers (D.delimited
+        (D.SelfDelimiting.both
+        ((C.SelfDelimiting.both ((B.SelfDelimiting.both ((A.SelfDelimiting.both yes).1)).1)).1)).0)
+        (delimited_either
+        E.covers (E.delimited
+        (E.SelfDelimiting.both ((D.SelfDelimiting.both ((C.SelfDelimiting.both ((B.SelfDelimiting.both
+        ((A.SelfDelimiting.both yes).1)).1)).1)).1)).0) (delimited_either F.covers (F.delimited (F.SelfDelimiting.both
+        ((E.SelfDelimiting.both
+        ((D.SelfDelimiting.both ((C.SelfDelimiting.both ((B.SelfDelimiting.both ((A.SelfDelimiting.both
+        yes).1)).1)).1)).1)).1)).0)
+        (delimited_either G.covers (G.delimited (G.SelfDelimiting.both ((F.SelfDelimiting.both
+        ((E.SelfDelimiting.both
+        ((D.SelfDelimiting.both ((C.SelfDelimiting.both ((B.SelfDelimiting.both ((A.SelfDelimiting.both
+        yes).1)).1)).1)).1)).1)).1)).0)
+        (H.delimited ((G.SelfDelimiting.both ((F.SelfDelimiting.both ((E.SelfDelimiting.both
+        ((D.SelfDelimiting.both ((C.SelfDelimiting.both ((B.SelfDelimiting.both ((A.SelfDelimiting.both
         yes).1)).1)).1)).1)).1)).1)).1)))))))) };
 
     ghost canonical = { λ yes key. not_one_way yes };

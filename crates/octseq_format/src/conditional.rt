@@ -41,7 +41,7 @@ impl<F> TellsKey for If<IsSet, F> {}
 impl<R: AsOctets + Copy, S: Switch, F: Format<R>> Family<R> for If<S, F> {
     type Value = Option<F::Value>;
 
-    type Delimited = F::Delimited;
+    type SelfDelimiting = F::SelfDelimiting;
 
     ghost Found = { Option F.Found };
 

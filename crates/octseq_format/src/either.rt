@@ -22,7 +22,7 @@ use octseq::{AsOctets, Malformed, OctetsBuilder, Parser, Truncate, Turns};
 use std::alloc::AllocError;
 use std::marker::PhantomData;
 
-/// A format that is never at the same place as `B`.
+/// A format that is never at the same offset as `B`.
 pub trait Apart<R: AsOctets + Copy, B: Format<R>>: Format<R> {
     ghost apart: { AreApart Self.is_at B.is_at };
 }
@@ -44,7 +44,7 @@ impl<
     R: AsOctets + Copy,
     N: Number,
     const END: usize,
-    F: Family<R, Delimited = Yes> + TellsKey,
+    F: Family<R, SelfDelimiting = Yes> + TellsKey,
 > Apart<R, (Until<N, END, F>, Rest)> for Repeated<Tagged<N, Unless<END, F>>> {
     ghost apart = { lists_apart END N.one N.onward N.moving F.one F.onward IsRest };
 }
@@ -54,9 +54,9 @@ impl<R: AsOctets + Copy, A: Apart<R, B>, B: Format<R>> Format<R> for Either<A, B
 
     type Value = OneOf2<A::Value, B::Value>;
 
-    type Delimited = No;
+    type SelfDelimiting = No;
 
-    type Moving = No;
+    type NonEmpty = No;
 
     ghost Found = { A.Found ⊎ B.Found };
 

@@ -1,11 +1,11 @@
 //! Octets up to the first zero.
 ghost use Rattle.std.specs.Prelude.{◌≡◌, ◌≤◌, ℕ, List, length, IfSome, IsNone, false};
 ghost use Rattle.std.proofs.Common.{rules};
-ghost use Rattle.octseq.specs.Window.{Window as Place, rest};
-ghost use Rattle.octseq_format.specs.Ended.{EndsAt, HasNoZero, IsEnded, ended_octets, one_ended, onward_ended};
+ghost use Rattle.octseq.specs.Window.{Window as ParserWindow, rest};
+ghost use Rattle.octseq_format.specs.Ended.{EndsAtZero, HasNoZero, IsEnded, ended_octets, one_ended, onward_ended};
 ghost use Rattle.octseq_format.specs.Ended.{delimited_ended, ended_read_back};
 ghost use Rattle.octseq_format.specs.Canonical.{not_one_way};
-ghost use Rattle.octseq_format.specs.Place.{place};
+ghost use Rattle.octseq_format.specs.WindowOf.{window_of};
 ghost use Rattle.octseq_format.specs.Rest.{window_code};
 ghost use Rattle.octseq_format.specs.Stop.{stops_here};
 
@@ -18,7 +18,7 @@ use std::alloc::AllocError;
 
 /// Returns the index of the first zero.
 fn first_zero(octets: &[u8]) -> Option<usize>
-    ensures some { IfSome result (λ n. EndsAt octets.now n) }
+    ensures some { IfSome result (λ n. EndsAtZero octets.now n) }
     ensures none { IsNone result → HasNoZero octets.now }
 {
     memchr(0, octets)
@@ -31,13 +31,13 @@ pub struct ZeroEnded;
 impl<R: AsOctets + Copy> Format<R> for ZeroEnded {
     type Value = Window<R>;
 
-    type Delimited = Yes;
+    type SelfDelimiting = Yes;
 
-    type Moving = Yes;
+    type NonEmpty = Yes;
 
-    ghost Found = { Place };
+    ghost Found = { ParserWindow };
 
-    ghost found = { λ window. place window };
+    ghost found = { λ window. window_of window };
 
     ghost is_at = { IsEnded };
 

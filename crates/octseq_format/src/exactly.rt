@@ -13,16 +13,16 @@ use std::marker::PhantomData;
 
 /// The number `N`, as `L` encodes it.
 #[derive(Debug)]
-pub struct Exactly<L, const N: usize> {
+pub struct Const<L, const N: usize> {
     number: PhantomData<L>,
 }
 
-impl<R: AsOctets + Copy, L: Number, const N: usize> Format<R> for Exactly<L, N> {
+impl<R: AsOctets + Copy, L: Number, const N: usize> Format<R> for Const<L, N> {
     type Value = ();
 
-    type Delimited = Yes;
+    type SelfDelimiting = Yes;
 
-    type Moving = Yes;
+    type NonEmpty = Yes;
 
     ghost Found = { Unit {0} };
 

@@ -33,7 +33,7 @@ pub struct Through<K, F> {
 impl<R: AsOctets + Copy, K: Reckoning, F: Family<R>> Family<R> for Through<K, F> {
     type Value = F::Value;
 
-    type Delimited = F::Delimited;
+    type SelfDelimiting = F::SelfDelimiting;
 
     ghost Found = { F.Found };
 
@@ -161,7 +161,7 @@ pub struct Within<N, F> {
 impl<R: AsOctets + Copy, N: Number, F: Family<R>> Family<R> for Within<N, F> {
     type Value = F::Value;
 
-    type Delimited = Yes;
+    type SelfDelimiting = Yes;
 
     ghost Found = { F.Found };
 
@@ -280,10 +280,11 @@ pub struct Then<F, G> {
     second: PhantomData<G>,
 }
 
-impl<R: AsOctets + Copy, F: Family<R, Delimited = Yes>, G: Family<R>> Family<R> for Then<F, G> {
+impl<R: AsOctets + Copy, F: Family<R, SelfDelimiting = Yes>, G: Family<R>> Family<R>
+    for Then<F, G> {
     type Value = (F::Value, G::Value);
 
-    type Delimited = G::Delimited;
+    type SelfDelimiting = G::SelfDelimiting;
 
     ghost Found = { F.Found × G.Found };
 
@@ -399,7 +400,7 @@ impl<T, F: TellsKey> TellsKey for When<T, F> {}
 impl<R: AsOctets + Copy, T: Test, F: Family<R>> Family<R> for When<T, F> {
     type Value = F::Value;
 
-    type Delimited = F::Delimited;
+    type SelfDelimiting = F::SelfDelimiting;
 
     ghost Found = { F.Found };
 
@@ -528,7 +529,7 @@ impl<R: AsOctets + Copy, S: Switch, N: Number, M: Number, F: Family<R>> Family<R
     for WithinBy<S, N, M, F> {
     type Value = F::Value;
 
-    type Delimited = Yes;
+    type SelfDelimiting = Yes;
 
     ghost Found = { F.Found };
 

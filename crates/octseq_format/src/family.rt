@@ -42,7 +42,7 @@ pub trait Family<R: AsOctets + Copy> {
     type Value: Drop;
 
     /// Whether the octets show where a value ends, whatever follows.
-    type Delimited: Answer;
+    type SelfDelimiting: Answer;
 
     ghost Found: { Type 0 };
 
@@ -178,7 +178,7 @@ pub trait Family<R: AsOctets + Copy> {
     ghost read_back: { (key : ℕ) → IsReadBack (is_at key) says (octets key) (fits key) };
 
     // If its octets come next, it is read back, where they show where it ends.
-    ghost delimited: { IsTrue Self.Delimited.yes
+    ghost delimited: { IsTrue Self.SelfDelimiting.yes
         → (key : ℕ) → IsDelimited (is_at key) says (octets key) (fits key) };
 
     // If the encoding is unique, what was read is written as the octets it was read from, and tells its number.
@@ -201,7 +201,7 @@ impl<const N: usize, F> TellsKey for Case<N, F> {}
 impl<R: AsOctets + Copy, const N: usize, F: Format<R>> Family<R> for Case<N, F> {
     type Value = F::Value;
 
-    type Delimited = F::Delimited;
+    type SelfDelimiting = F::SelfDelimiting;
 
     ghost Found = { F.Found };
 
@@ -309,7 +309,7 @@ impl<F> TellsKey for Others<F> {}
 impl<R: AsOctets + Copy, F: Format<R>> Family<R> for Others<F> {
     type Value = (usize, F::Value);
 
-    type Delimited = F::Delimited;
+    type SelfDelimiting = F::SelfDelimiting;
 
     ghost Found = { ℕ × F.Found };
 
@@ -411,7 +411,7 @@ pub struct Any<F> {
 impl<R: AsOctets + Copy, F: Format<R>> Family<R> for Any<F> {
     type Value = F::Value;
 
-    type Delimited = F::Delimited;
+    type SelfDelimiting = F::SelfDelimiting;
 
     ghost Found = { F.Found };
 

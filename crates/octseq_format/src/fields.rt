@@ -32,9 +32,9 @@ pub struct Of<S> {
 impl<R: AsOctets + Copy, S: Fields<R>> Format<R> for Of<S> {
     type Value = S;
 
-    type Delimited = <S::Format as Format<R>>::Delimited;
+    type SelfDelimiting = <S::Format as Format<R>>::SelfDelimiting;
 
-    type Moving = <S::Format as Format<R>>::Moving;
+    type NonEmpty = <S::Format as Format<R>>::NonEmpty;
 
     ghost Found = { S.Format.Found };
 

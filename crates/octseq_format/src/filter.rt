@@ -34,9 +34,9 @@ pub struct Where<L, T> {
 impl<R: AsOctets + Copy, L: Number, T: Test> Format<R> for Where<L, T> {
     type Value = usize;
 
-    type Delimited = Yes;
+    type SelfDelimiting = Yes;
 
-    type Moving = Yes;
+    type NonEmpty = Yes;
 
     ghost Found = { ℕ };
 

@@ -2,7 +2,7 @@
 ghost use Rattle.std.specs.Prelude.{◌≡◌, ◌≤◌, ◌<◌, ◌↔◌, ◌+◌, ◌*◌, ◌++◌, ℕ, List, length, Bool, true, IsTrue, IsFalse};
 ghost use Rattle.std.specs.Prelude.{IsErr, IfOk, OnOk, OnErr, IsNone, IsSome, IfSome};
 ghost use Rattle.std.specs.Coded.{Coded};
-ghost use Rattle.octseq.specs.Limit.{IsPast, IsWithin};
+ghost use Rattle.octseq.specs.Limit.{ExceedsLimit, IsWithin};
 ghost use Rattle.octseq.specs.Parser.{window, sequence};
 ghost use Rattle.octseq.specs.Refusal.{IsShort, IsMemory, IsMalformed, write_error};
 ghost use Rattle.octseq.specs.Window.{Window, left, whole, past};
@@ -25,12 +25,12 @@ pub trait Format<R: AsOctets + Copy> {
     type Value: Drop;
 
     /// Whether the octets show where a value ends, whatever follows.
-    type Delimited: Answer;
+    type SelfDelimiting: Answer;
 
     /// Whether a value is known to take at least one octet.
-    type Moving: Answer;
+    type NonEmpty: Answer;
 
-    // What contracts see of a value: what it says, and the places where that was found.
+    // What contracts see of a value: what it says, and the offsets where that was found.
     ghost Found: { Type 0 };
 
     ghost found: { Self.Value → Found };
@@ -49,7 +49,7 @@ pub trait Format<R: AsOctets + Copy> {
     // It has octets: its lengths fit their fields.
     ghost fits: { Said → Type 0 };
 
-    // At most one value is at a place.
+    // At most one value is at an offset.
     ghost one: { IsOne is_at };
 
     // Two of them are equal in at most one way.
@@ -179,8 +179,8 @@ pub trait Format<R: AsOctets + Copy> {
 
     /// Returns the position where reading all the octets stops, or `None` if they are a value: that of the first part
     /// that isn't there, or of the octets that are left after a value.
-    final fn place_of_fault(from: R) -> Option<usize>
-        ensures some { IfSome result (λ place. stops_whole is_at stops (whole (R.content from)) place) }
+    final fn fault_offset(from: R) -> Option<usize>
+        ensures some { IfSome result (λ offset. stops_whole is_at stops (whole (R.content from)) offset) }
         ensures none { IsNone result → (value : Found) × is_at (whole (R.content from)) value
             (past (length (R.content from)) (whole (R.content from))) }
     {
@@ -211,7 +211,7 @@ pub trait Format<R: AsOctets + Copy> {
         ensures err { OnErr result (B.content builder.new ≡ B.content builder.old) }
         ensures malformed { IsMalformed write_error result ↔ ¬ HasOctets octets fits (says (found value.now)) }
         ensures short { IsShort write_error result ↔ HasOctets octets fits (says (found value.now))
-            × IsPast B.limit (length (B.content builder.old) + length (octets (says (found value.now)))) }
+            × ExceedsLimit B.limit (length (B.content builder.old) + length (octets (says (found value.now)))) }
         ensures memory { IsMemory write_error result → B.asks ≡ true }
         ensures borrows { B.borrows builder.new ≡ B.borrows builder.old }
     {
@@ -243,7 +243,7 @@ pub trait Format<R: AsOctets + Copy> {
         ensures fit { OnOk result (HasOctets octets fits (says (found value.now))) }
         ensures malformed { IsMalformed write_error result ↔ ¬ HasOctets octets fits (says (found value.now)) }
         ensures short { IsShort write_error result ↔ HasOctets octets fits (says (found value.now))
-            × IsPast B.limit (length (octets (says (found value.now)))) }
+            × ExceedsLimit B.limit (length (octets (says (found value.now)))) }
         ensures memory { IsMemory write_error result → B.asks ≡ true }
     {
         let Some(len) = Self::compose_len(value) else {
@@ -271,9 +271,9 @@ pub trait Format<R: AsOctets + Copy> {
     ghost read_back: { IsReadBack is_at says octets fits };
 
     // If its octets come next, it is read back, where they show where it ends.
-    ghost delimited: { IsTrue Self.Delimited.yes → IsDelimited is_at says octets fits };
+    ghost delimited: { IsTrue Self.SelfDelimiting.yes → IsDelimited is_at says octets fits };
 
-    ghost moving: { IsTrue Self.Moving.yes → 0 < least };
+    ghost moving: { IsTrue Self.NonEmpty.yes → 0 < least };
 }
 
 /// The greatest number of octets that are put together in an array, to be appended at once.
@@ -290,8 +290,8 @@ fn are_few<R: AsOctets + Copy, F: Format<R>>() -> bool
     }
 }
 
-/// Appends the octets of a value as [`put`](Format::put) does: at once if it is known that they are few, and the builder
-/// has no limit.
+/// Appends the octets of a value as [`put`](Format::put) does: at once if it is known that they are few, and the
+/// builder has no limit.
 #[inline(always)]
 pub(crate) fn put_at_once<B: OctetsBuilder + Truncate, R: AsOctets + Copy, F: Format<R>>(
     builder: &mut B,
@@ -328,7 +328,7 @@ pub(crate) fn end_or_fault<R: AsOctets + Copy, F: Format<R>>(parser: &Parser<R>)
 /// Whether `before` octets and `len` more are within a limit. Always, if there is none.
 pub(crate) fn has_room(limit: Option<usize>, before: usize, len: usize) -> bool
     ensures within { IsTrue result → IsWithin limit (before + len) }
-    ensures past { IsFalse result ↔ IsPast limit (before + len) }
+    ensures past { IsFalse result ↔ ExceedsLimit limit (before + len) }
 {
     match limit {
         None => true,

@@ -1,6 +1,6 @@
 //! Big-endian and little-endian integers.
 ghost use Rattle.std.specs.Prelude.{◌≡◌, ℕ, ◌+◌, ◌<◌, ◌++◌, length, true, IsErr, IsTrue, IsFalse, OnOk, OnErr, IfOk};
-ghost use Rattle.octseq.specs.Limit.{IsPast, IsWithin};
+ghost use Rattle.octseq.specs.Limit.{ExceedsLimit, IsWithin};
 ghost use Rattle.octseq.specs.Parser.{window, sequence, Takes};
 ghost use Rattle.octseq.specs.Window.{Window, next};
 ghost use Rattle.std.proofs.Common.{rules};
@@ -501,9 +501,9 @@ impl<R: AsOctets + Copy, T: Integer> Format<R> for Be<T> {
 
     type Value = T::Value;
 
-    type Delimited = Yes;
+    type SelfDelimiting = Yes;
 
-    type Moving = Yes;
+    type NonEmpty = Yes;
 
     ghost Found = { T.kind.Number };
 
@@ -606,9 +606,9 @@ impl<R: AsOctets + Copy, T: Integer> Format<R> for Le<T> {
 
     type Value = T::Value;
 
-    type Delimited = Yes;
+    type SelfDelimiting = Yes;
 
-    type Moving = Yes;
+    type NonEmpty = Yes;
 
     ghost Found = { T.kind.Number };
 

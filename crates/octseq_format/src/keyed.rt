@@ -24,12 +24,13 @@ pub struct Keyed<H, F> {
     family: PhantomData<F>,
 }
 
-impl<R: AsOctets + Copy, H: Format<R, Delimited = Yes>, F: Family<R>> Format<R> for Keyed<H, F> {
+impl<R: AsOctets + Copy, H: Format<R, SelfDelimiting = Yes>, F: Family<R>> Format<R>
+    for Keyed<H, F> {
     type Value = (H::Value, F::Value);
 
-    type Delimited = F::Delimited;
+    type SelfDelimiting = F::SelfDelimiting;
 
-    type Moving = H::Moving;
+    type NonEmpty = H::NonEmpty;
 
     ghost Found = { H.Found × F.Found };
 
@@ -161,9 +162,9 @@ pub struct Key<N, K> {
 impl<R: AsOctets + Copy, N: Number, K: Reckoning> Format<R> for Key<N, K> {
     type Value = usize;
 
-    type Delimited = Yes;
+    type SelfDelimiting = Yes;
 
-    type Moving = Yes;
+    type NonEmpty = Yes;
 
     ghost Found = { ℕ };
 

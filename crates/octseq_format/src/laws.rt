@@ -17,10 +17,11 @@ use octseq::AsOctets;
 pub fn are_octets(octets: &[u8])
     ensures { AreOctets octets.now }
 {
+    // A slice that is read is known to hold octets.
     let _octets = octets;
 }
 
-/// At most one value is at a place, with one end.
+/// At most one value is at an offset, with one end.
 pub fn one_reading<R: AsOctets + Copy, F: Format<R>>()
     ensures { (w : Window) (a b : F.Found) (u v : Window) → F.is_at w a u → F.is_at w b v → (a ≡ b) × (u ≡ v) }
 {}
@@ -32,7 +33,7 @@ pub fn whole_is_read_back<R: AsOctets + Copy, F: Format<R>>()
 {}
 
 /// The same wherever the octets come next, whatever follows them, if the format shows where a value ends.
-pub fn next_is_read_back<R: AsOctets + Copy, F: Format<R, Delimited = Yes>>()
+pub fn next_is_read_back<R: AsOctets + Copy, F: Format<R, SelfDelimiting = Yes>>()
     ensures { (w : Window) (said : F.Said) (more : List ℕ) → F.fits said → rest w ≡ F.octets said ++ more
         → (found : F.Found) × (F.says found ≡ said) × F.is_at w found (past (length (F.octets said)) w) }
 {}
@@ -51,7 +52,7 @@ pub fn parse_composed<R: AsOctets + Copy, F: Format<R>>(octets: R, value: &F::Va
 
 /// Reads octets that were composed of values, one after another, as [`append_all`](crate::append_all) does: a list that
 /// wasn't read. It never fails, and what it reads says the same.
-pub fn parse_all_composed<R: AsOctets + Copy, F: Format<R, Delimited = Yes, Moving = Yes>>(
+pub fn parse_all_composed<R: AsOctets + Copy, F: Format<R, SelfDelimiting = Yes, NonEmpty = Yes>>(
     octets: R,
     values: &[F::Value],
 ) -> Walk<R, F>

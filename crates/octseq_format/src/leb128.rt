@@ -22,10 +22,10 @@ fn groups_value(octets: &[u8]) -> Option<usize>
     ensures none { IsNone result → 2 ^ 64 ≤ leb128 octets.now }
 {
     let mut number: usize = 0;
-    let mut place = octets.len();
-    while place > 0 {
-        place -= 1;
-        let group = usize::from(octets[place] % 128);
+    let mut offset = octets.len();
+    while offset > 0 {
+        offset -= 1;
+        let group = usize::from(octets[offset] % 128);
         number = number.checked_mul(128)?.checked_add(group)?;
     }
     Some(number)
@@ -38,9 +38,9 @@ fn chain_len<const MAX: usize>(octets: &[u8]) -> Option<usize>
     ensures some { IfSome result (λ len. (len ≤ length octets.now) × (len ≤ MAX) × IsChained (take len octets.now)) }
     ensures none { IsNone result → (k : ℕ) → k ≤ length octets.now → k ≤ MAX → IsChained (take k octets.now) → ⊥ }
 {
-    for place in 0..octets.len().min(MAX) {
-        if octets[place] < 128 {
-            return Some(place + 1);
+    for offset in 0..octets.len().min(MAX) {
+        if octets[offset] < 128 {
+            return Some(offset + 1);
         }
     }
     None

@@ -19,9 +19,9 @@ pub struct Nested;
 impl<R: AsOctets + Copy> Format<R> for Nested {
     type Value = Parser<R>;
 
-    type Delimited = No;
+    type SelfDelimiting = No;
 
-    type Moving = No;
+    type NonEmpty = No;
 
     ghost Found = { Window };
 

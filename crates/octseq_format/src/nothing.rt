@@ -19,9 +19,9 @@ pub struct Nothing;
 impl<R: AsOctets + Copy> Format<R> for Nothing {
     type Value = ();
 
-    type Delimited = Yes;
+    type SelfDelimiting = Yes;
 
-    type Moving = No;
+    type NonEmpty = No;
 
     ghost Found = { Unit {0} };
 

@@ -38,7 +38,7 @@ pub trait Number {
 
     ghost fits: { ℕ → Type 0 };
 
-    // At most one number is at a place.
+    // At most one number is at an offset.
     ghost one: { IsOne is_at };
 
     // The minimum number of octets.

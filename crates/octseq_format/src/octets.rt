@@ -11,18 +11,18 @@ use std::alloc::AllocError;
 
 /// The next `N` octets, as an array.
 #[derive(Debug)]
-pub struct Octets<const N: usize>;
+pub struct OctetArray<const N: usize>;
 
-impl<R: AsOctets + Copy, const N: usize> Format<R> for Octets<N> {
+impl<R: AsOctets + Copy, const N: usize> Format<R> for OctetArray<N> {
     ghost use Rattle.octseq_format.specs.Fixed.{delimited_fixed};
     ghost use Rattle.octseq_format.specs.Fixed.{IsFixed, one_fixed, onward_fixed, fixed_read_back, canonical_fixed};
     ghost use Rattle.octseq_format.specs.Octets.{are_octets};
 
     type Value = [u8; N];
 
-    type Delimited = Yes;
+    type SelfDelimiting = Yes;
 
-    type Moving = No;
+    type NonEmpty = No;
 
     ghost Found = { List ℕ };
 

@@ -21,9 +21,9 @@ pub struct Optional<A> {
 impl<R: AsOctets + Copy, A: Format<R>> Format<R> for Optional<A> {
     type Value = Option<A::Value>;
 
-    type Delimited = No;
+    type SelfDelimiting = No;
 
-    type Moving = No;
+    type NonEmpty = No;
 
     ghost Found = { Option A.Found };
 

@@ -3,7 +3,7 @@ ghost use Rattle.std.specs.Prelude.{◌≡◌, ◌≤◌, ◌+◌, ◌++◌, len
 ghost use Rattle.std.specs.Prelude.{IsTrue, IsFalse, IsErr, OnOk, OnErr};
 ghost use Rattle.octseq.specs.Limit.{IsWithin};
 ghost use Rattle.octseq.specs.Parser.{window, sequence};
-ghost use Rattle.octseq.specs.Parts.{IsFront};
+ghost use Rattle.octseq.specs.Parts.{StartsWith};
 ghost use Rattle.octseq.specs.Window.{left};
 ghost use Rattle.octseq_format.specs.Answer.{not_so};
 ghost use Rattle.octseq_format.specs.Exactly.{coded_unit};
@@ -56,7 +56,7 @@ fn parse_zeros<R: AsOctets>(parser: &mut Parser<R>, len: usize) -> Result<(), Ma
 fn put_zeros<B: OctetsBuilder>(builder: &mut B, len: usize) -> Result<(), AllocError>
     requires { IsWithin B.limit (length (B.content builder.now) + len) }
     ensures ok { OnOk result (B.content builder.new ≡ B.content builder.old ++ replicate len 0) }
-    ensures front { OnErr result (IsFront (B.content builder.old) (B.content builder.new)) }
+    ensures front { OnErr result (StartsWith (B.content builder.old) (B.content builder.new)) }
     ensures memory { IsErr result → B.asks ≡ true }
     ensures borrows { B.borrows builder.new ≡ B.borrows builder.old }
 {
@@ -73,9 +73,9 @@ pub struct Zeros<const N: usize>;
 impl<R: AsOctets + Copy, const N: usize> Format<R> for Zeros<N> {
     type Value = ();
 
-    type Delimited = Yes;
+    type SelfDelimiting = Yes;
 
-    type Moving = No;
+    type NonEmpty = No;
 
     ghost Found = { Unit {0} };
 
@@ -186,12 +186,13 @@ pub struct Padded<const N: usize, A> {
     inside: PhantomData<A>,
 }
 
-impl<R: AsOctets + Copy, const N: usize, A: Format<R, Delimited = Yes>> Format<R> for Padded<N, A> {
+impl<R: AsOctets + Copy, const N: usize, A: Format<R, SelfDelimiting = Yes>> Format<R>
+    for Padded<N, A> {
     type Value = A::Value;
 
-    type Delimited = Yes;
+    type SelfDelimiting = Yes;
 
-    type Moving = A::Moving;
+    type NonEmpty = A::NonEmpty;
 
     ghost Found = { A.Found };
 

@@ -1,9 +1,9 @@
 //! The octets that are left.
 ghost use Rattle.std.specs.Prelude.{ℕ, List, true};
 ghost use Rattle.octseq.specs.Parser.{window};
-ghost use Rattle.octseq.specs.Window.{Window as Place, rest};
+ghost use Rattle.octseq.specs.Window.{Window as ParserWindow, rest};
 ghost use Rattle.octseq_format.specs.Answer.{not_so};
-ghost use Rattle.octseq_format.specs.Place.{place};
+ghost use Rattle.octseq_format.specs.WindowOf.{window_of};
 ghost use Rattle.octseq_format.specs.Rest.{IsRest, window_code, one_rest, onward_rest, rest_read_back};
 ghost use Rattle.octseq_format.specs.Rest.{canonical_rest};
 ghost use Rattle.octseq_format.specs.Stop.{stops_here};
@@ -21,13 +21,13 @@ pub struct Rest;
 impl<R: AsOctets + Copy> Format<R> for Rest {
     type Value = Window<R>;
 
-    type Delimited = No;
+    type SelfDelimiting = No;
 
-    type Moving = No;
+    type NonEmpty = No;
 
-    ghost Found = { Place };
+    ghost Found = { ParserWindow };
 
-    ghost found = { λ window. place window };
+    ghost found = { λ window. window_of window };
 
     ghost is_at = { IsRest };
 

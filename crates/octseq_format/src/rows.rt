@@ -5,7 +5,7 @@ ghost use Rattle.std.specs.Coded.{coded_list};
 ghost use Rattle.std.specs.List.{AllByRecursion};
 ghost use Rattle.octseq.specs.Limit.{IsWithin};
 ghost use Rattle.octseq.specs.Parser.{window, sequence};
-ghost use Rattle.octseq.specs.Parts.{IsFront};
+ghost use Rattle.octseq.specs.Parts.{StartsWith};
 ghost use Rattle.octseq.specs.Window.{Window, left};
 ghost use Rattle.octseq_format.specs.Laws.{HasOctets, NoneAt};
 ghost use Rattle.octseq_format.specs.Row.{Many, Row, RowTo, row_octets, row_turns};
@@ -22,7 +22,7 @@ use std::alloc::AllocError;
 use std::marker::PhantomData;
 
 /// Reads `count` items.
-fn pass_many<R: AsOctets + Copy, F: Format<R, Delimited = Yes, Moving = Yes>>(
+fn skip_many<R: AsOctets + Copy, F: Format<R, SelfDelimiting = Yes, NonEmpty = Yes>>(
     parser: &mut Parser<R>,
     count: usize,
     turns: &mut Turns,
@@ -53,7 +53,7 @@ fn pass_many<R: AsOctets + Copy, F: Format<R, Delimited = Yes, Moving = Yes>>(
 /// # Errors
 ///
 /// `Malformed` if there are fewer. The parser is then unchanged.
-pub fn parse_many<R: AsOctets + Copy, F: Format<R, Delimited = Yes, Moving = Yes>>(
+pub fn parse_many<R: AsOctets + Copy, F: Format<R, SelfDelimiting = Yes, NonEmpty = Yes>>(
     parser: &mut Parser<R>,
     count: usize,
     turns: &mut Turns,
@@ -72,14 +72,14 @@ pub fn parse_many<R: AsOctets + Copy, F: Format<R, Delimited = Yes, Moving = Yes
 {
     let first = *parser;
     let mut ahead = first;
-    pass_many::<R, F>(&mut ahead, count, turns)?;
+    skip_many::<R, F>(&mut ahead, count, turns)?;
     *parser = ahead;
     Ok(Walk::at(first, count, ahead.pos()))
 }
 
 /// Returns the position where reading as many items stops.
 #[tactic(auto, using(crate::specs::Stop::stops_in_row))]
-pub(crate) fn fault_in_many<R: AsOctets + Copy, F: Format<R, Delimited = Yes, Moving = Yes>>(
+pub(crate) fn fault_in_many<R: AsOctets + Copy, F: Format<R, SelfDelimiting = Yes, NonEmpty = Yes>>(
     parser: &Parser<R>,
     count: usize,
 ) -> usize
@@ -87,14 +87,14 @@ pub(crate) fn fault_in_many<R: AsOctets + Copy, F: Format<R, Delimited = Yes, Mo
     ensures { StopsInRow F.is_at F.stops (window parser.now) result }
 {
     let mut ahead = *parser;
-    match pass_many::<R, F>(&mut ahead, count, &mut Turns::new()) {
+    match skip_many::<R, F>(&mut ahead, count, &mut Turns::new()) {
         Ok(()) => unreachable!(),
         Err(_) => F::fault(&ahead),
     }
 }
 
 /// Reads all items up to the end of the window. Returns how many there are.
-fn pass_all<R: AsOctets + Copy, F: Format<R, Delimited = Yes, Moving = Yes>>(
+fn skip_all<R: AsOctets + Copy, F: Format<R, SelfDelimiting = Yes, NonEmpty = Yes>>(
     parser: &mut Parser<R>,
     turns: &mut Turns,
 ) -> Result<usize, Malformed>
@@ -151,7 +151,7 @@ pub(crate) fn put_items<B: OctetsBuilder + Truncate, R: AsOctets + Copy, F: Form
         + length (row_octets F.octets (map F.says (items_left walk)))) }
     ensures ok { OnOk result (B.content builder.new
         ≡ B.content builder.old ++ row_octets F.octets (map F.says (items_left walk))) }
-    ensures front { OnErr result (IsFront (B.content builder.old) (B.content builder.new)) }
+    ensures front { OnErr result (StartsWith (B.content builder.old) (B.content builder.new)) }
     ensures memory { IsErr result → B.asks ≡ true }
     ensures borrows { B.borrows builder.new ≡ B.borrows builder.old }
 {
@@ -172,7 +172,8 @@ pub struct Repeated<F> {
     item: PhantomData<F>,
 }
 
-impl<R: AsOctets + Copy, F: Format<R, Delimited = Yes, Moving = Yes>> Format<R> for Repeated<F> {
+impl<R: AsOctets + Copy, F: Format<R, SelfDelimiting = Yes, NonEmpty = Yes>> Format<R>
+    for Repeated<F> {
     ghost use Rattle.octseq_format.specs.Laws.{moving_of};
     ghost use Rattle.octseq_format.specs.Row.{Moved, one_to, one_moved, moving_moved, onward_to};
     ghost use Rattle.octseq_format.specs.Row.{onward_moved, delimited_moved, to_read_back};
@@ -180,9 +181,9 @@ impl<R: AsOctets + Copy, F: Format<R, Delimited = Yes, Moving = Yes>> Format<R> 
 
     type Value = Walk<R, F>;
 
-    type Delimited = No;
+    type SelfDelimiting = No;
 
-    type Moving = No;
+    type NonEmpty = No;
 
     ghost Found = { List F.Found };
 
@@ -218,7 +219,7 @@ impl<R: AsOctets + Copy, F: Format<R, Delimited = Yes, Moving = Yes>> Format<R> 
     fn parse_counted(parser: &mut Parser<R>, turns: &mut Turns) -> Result<Walk<R, F>, Malformed> {
         let first = *parser;
         let mut ahead = first;
-        let count = pass_all::<R, F>(&mut ahead, turns)?;
+        let count = skip_all::<R, F>(&mut ahead, turns)?;
         *parser = ahead;
         Ok(Walk::at(first, count, ahead.pos()))
     }
@@ -226,7 +227,7 @@ impl<R: AsOctets + Copy, F: Format<R, Delimited = Yes, Moving = Yes>> Format<R> 
     #[tactic(auto, using(crate::specs::Stop::stops_in_row, crate::proofs::RowSteps::not_all))]
     fn fault(parser: &Parser<R>) -> usize {
         let mut ahead = *parser;
-        match pass_all::<R, F>(&mut ahead, &mut Turns::new()) {
+        match skip_all::<R, F>(&mut ahead, &mut Turns::new()) {
             Ok(_) => unreachable!(),
             Err(_) => F::fault(&ahead),
         }

@@ -38,8 +38,8 @@ fn units<const UNIT: usize>(number: usize) -> Option<usize>
     Some(number / UNIT)
 }
 
-/// `F` for `UNIT` times the number: `Scaled<4, Sized<A, 0>>` takes a length in words of four octets. The value tells the
-/// number. If `UNIT` is 0, no number has a format.
+/// `F` for `UNIT` times the number: `Scaled<4, Sized<A, 0>>` takes a length in words of four octets. The value tells
+/// the number. If `UNIT` is 0, no number has a format.
 #[derive(Debug)]
 pub struct Scaled<const UNIT: usize, F> {
     family: PhantomData<F>,
@@ -50,7 +50,7 @@ impl<const UNIT: usize, F: TellsKey> TellsKey for Scaled<UNIT, F> {}
 impl<R: AsOctets + Copy, const UNIT: usize, F: Family<R>> Family<R> for Scaled<UNIT, F> {
     type Value = F::Value;
 
-    type Delimited = F::Delimited;
+    type SelfDelimiting = F::SelfDelimiting;
 
     ghost Found = { F.Found };
 

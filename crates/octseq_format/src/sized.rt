@@ -37,7 +37,7 @@ impl<A, const EXTRA: usize> TellsKey for Sized<A, EXTRA> {}
 impl<R: AsOctets + Copy, A: Format<R>, const EXTRA: usize> Family<R> for Sized<A, EXTRA> {
     type Value = A::Value;
 
-    type Delimited = Yes;
+    type SelfDelimiting = Yes;
 
     ghost Found = { A.Found };
 
@@ -159,10 +159,11 @@ pub struct ManyBy<A> {
 
 impl<A> TellsKey for ManyBy<A> {}
 
-impl<R: AsOctets + Copy, A: Format<R, Delimited = Yes, Moving = Yes>> Family<R> for ManyBy<A> {
+impl<R: AsOctets + Copy, A: Format<R, SelfDelimiting = Yes, NonEmpty = Yes>> Family<R>
+    for ManyBy<A> {
     type Value = Walk<R, A>;
 
-    type Delimited = Yes;
+    type SelfDelimiting = Yes;
 
     ghost Found = { List A.Found };
 

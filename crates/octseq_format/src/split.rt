@@ -8,7 +8,7 @@ ghost use Rattle.octseq_format.specs.Split.{SplitFit, fewer_read_back, fewer_del
 ghost use Rattle.octseq_format.specs.Stop.{StopsThen};
 
 use crate::answer::Yes;
-use crate::bits::{Low, fitting, joined, parted};
+use crate::bits::{UInt, fitting, joined, parted};
 use crate::family::{Family, TellsKey};
 use octseq::{AsOctets, Malformed, OctetsBuilder, Parser, Truncate, Turns};
 use std::alloc::AllocError;
@@ -58,13 +58,13 @@ impl<const N: u32> Cut for HighFirst<N> {
 
     #[inline(always)]
     fn cut(number: usize) -> (usize, usize) {
-        parted::<Low<N>>(number)
+        parted::<UInt<N>>(number)
     }
 
     #[inline(always)]
     #[tactic(auto, using(crate::proofs::BitSteps::some_power, crate::proofs::BitSteps::cut_bits))]
     fn join(one: usize, two: usize) -> Option<usize> {
-        joined::<Low<N>>(one, fitting::<N>(two)?)
+        joined::<UInt<N>>(one, fitting::<N>(two)?)
     }
 }
 
@@ -85,14 +85,14 @@ impl<const N: u32> Cut for LowFirst<N> {
 
     #[inline(always)]
     fn cut(number: usize) -> (usize, usize) {
-        let (high, low) = parted::<Low<N>>(number);
+        let (high, low) = parted::<UInt<N>>(number);
         (low, high)
     }
 
     #[inline(always)]
     #[tactic(auto, using(crate::proofs::BitSteps::some_power, crate::proofs::BitSteps::cut_bits))]
     fn join(one: usize, two: usize) -> Option<usize> {
-        joined::<Low<N>>(two, fitting::<N>(one)?)
+        joined::<UInt<N>>(two, fitting::<N>(one)?)
     }
 }
 
@@ -107,11 +107,11 @@ pub struct Split<C, F, G> {
 
 impl<C, F: TellsKey, G: TellsKey> TellsKey for Split<C, F, G> {}
 
-impl<R: AsOctets + Copy, C: Cut, F: Family<R, Delimited = Yes>, G: Family<R>> Family<R>
+impl<R: AsOctets + Copy, C: Cut, F: Family<R, SelfDelimiting = Yes>, G: Family<R>> Family<R>
     for Split<C, F, G> {
     type Value = (F::Value, G::Value);
 
-    type Delimited = G::Delimited;
+    type SelfDelimiting = G::SelfDelimiting;
 
     ghost Found = { F.Found × G.Found };
 

@@ -22,9 +22,9 @@ pub struct Tagged<N, F> {
 impl<R: AsOctets + Copy, N: Number, F: Family<R> + TellsKey> Format<R> for Tagged<N, F> {
     type Value = F::Value;
 
-    type Delimited = F::Delimited;
+    type SelfDelimiting = F::SelfDelimiting;
 
-    type Moving = Yes;
+    type NonEmpty = Yes;
 
     ghost Found = { F.Found };
 

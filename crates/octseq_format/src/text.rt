@@ -1,7 +1,7 @@
 //! Octets that are UTF-8.
 ghost use Rattle.std.specs.Prelude.{ℕ, List, false};
-ghost use Rattle.octseq.specs.Window.{Window as Place, rest};
-ghost use Rattle.octseq_format.specs.Place.{place};
+ghost use Rattle.octseq.specs.Window.{Window as ParserWindow, rest};
+ghost use Rattle.octseq_format.specs.WindowOf.{window_of};
 ghost use Rattle.octseq_format.specs.Rest.{window_code};
 ghost use Rattle.octseq_format.specs.Canonical.{not_one_way};
 ghost use Rattle.octseq_format.specs.Text.{IsText, TextFits, one_text, onward_text, text_read_back};
@@ -23,13 +23,13 @@ pub struct Text;
 impl<R: AsOctets + Copy> Format<R> for Text {
     type Value = Window<R>;
 
-    type Delimited = No;
+    type SelfDelimiting = No;
 
-    type Moving = No;
+    type NonEmpty = No;
 
-    ghost Found = { Place };
+    ghost Found = { ParserWindow };
 
-    ghost found = { λ window. place window };
+    ghost found = { λ window. window_of window };
 
     ghost is_at = { IsText };
 

@@ -47,15 +47,15 @@ pub(crate) fn put_or_cut<B: OctetsBuilder + Truncate, R: AsOctets + Copy, F: For
     appended
 }
 
-impl<R: AsOctets + Copy, A: Format<R, Delimited = Yes>, B: Format<R>> Format<R> for (A, B)
+impl<R: AsOctets + Copy, A: Format<R, SelfDelimiting = Yes>, B: Format<R>> Format<R> for (A, B)
 where
-    A::Moving: Or<B::Moving>,
+    A::NonEmpty: Or<B::NonEmpty>,
 {
     type Value = (A::Value, B::Value);
 
-    type Delimited = B::Delimited;
+    type SelfDelimiting = B::SelfDelimiting;
 
-    type Moving = <A::Moving as Or<B::Moving>>::Joined;
+    type NonEmpty = <A::NonEmpty as Or<B::NonEmpty>>::Joined;
 
     ghost Found = { A.Found × B.Found };
 
@@ -160,24 +160,24 @@ where
 
     ghost delimited = { λ yes. A.delimited refl delimited_then B.delimited yes };
 
-    ghost moving = { λ yes. some_either A.moving B.moving (A.Moving.either yes) };
+    ghost moving = { λ yes. some_either A.moving B.moving (A.NonEmpty.either yes) };
 }
 
 impl<
     R: AsOctets + Copy,
-    A: Format<R, Delimited = Yes>,
-    B: Format<R, Delimited = Yes>,
+    A: Format<R, SelfDelimiting = Yes>,
+    B: Format<R, SelfDelimiting = Yes>,
     C: Format<R>,
 > Format<R> for (A, B, C)
 where
-    B::Moving: Or<C::Moving>,
-    A::Moving: Or<<B::Moving as Or<C::Moving>>::Joined>,
+    B::NonEmpty: Or<C::NonEmpty>,
+    A::NonEmpty: Or<<B::NonEmpty as Or<C::NonEmpty>>::Joined>,
 {
     type Value = (A::Value, B::Value, C::Value);
 
-    type Delimited = C::Delimited;
+    type SelfDelimiting = C::SelfDelimiting;
 
-    type Moving = <A::Moving as Or<<B::Moving as Or<C::Moving>>::Joined>>::Joined;
+    type NonEmpty = <A::NonEmpty as Or<<B::NonEmpty as Or<C::NonEmpty>>::Joined>>::Joined;
 
     ghost Found = { A.Found × (B.Found × C.Found) };
 
@@ -271,28 +271,28 @@ where
 
     ghost delimited = { λ yes. A.delimited refl delimited_then B.delimited refl delimited_then C.delimited yes };
 
-    ghost moving = { λ yes. some_either A.moving (λ yes. some_either B.moving C.moving (B.Moving.either yes))
-        (A.Moving.either yes) };
+    ghost moving = { λ yes. some_either A.moving (λ yes. some_either B.moving C.moving (B.NonEmpty.either yes))
+        (A.NonEmpty.either yes) };
 }
 
 impl<
     R: AsOctets + Copy,
-    A: Format<R, Delimited = Yes>,
-    B: Format<R, Delimited = Yes>,
-    C: Format<R, Delimited = Yes>,
+    A: Format<R, SelfDelimiting = Yes>,
+    B: Format<R, SelfDelimiting = Yes>,
+    C: Format<R, SelfDelimiting = Yes>,
     D: Format<R>,
 > Format<R> for (A, B, C, D)
 where
-    C::Moving: Or<D::Moving>,
-    B::Moving: Or<<C::Moving as Or<D::Moving>>::Joined>,
-    A::Moving: Or<<B::Moving as Or<<C::Moving as Or<D::Moving>>::Joined>>::Joined>,
+    C::NonEmpty: Or<D::NonEmpty>,
+    B::NonEmpty: Or<<C::NonEmpty as Or<D::NonEmpty>>::Joined>,
+    A::NonEmpty: Or<<B::NonEmpty as Or<<C::NonEmpty as Or<D::NonEmpty>>::Joined>>::Joined>,
 {
     type Value = (A::Value, B::Value, C::Value, D::Value);
 
-    type Delimited = D::Delimited;
+    type SelfDelimiting = D::SelfDelimiting;
 
-    type Moving = <A::Moving as Or<
-        <B::Moving as Or<<C::Moving as Or<D::Moving>>::Joined>>::Joined,
+    type NonEmpty = <A::NonEmpty as Or<
+        <B::NonEmpty as Or<<C::NonEmpty as Or<D::NonEmpty>>::Joined>>::Joined,
     >>::Joined;
 
     ghost Found = { A.Found × (B.Found × (C.Found × D.Found)) };
@@ -394,31 +394,35 @@ where
         delimited_then D.delimited yes };
 
     ghost moving = { λ yes. some_either A.moving (λ yes. some_either B.moving (λ yes. some_either C.moving D.moving
-        (C.Moving.either yes)) (B.Moving.either yes)) (A.Moving.either yes) };
+        (C.NonEmpty.either yes)) (B.NonEmpty.either yes)) (A.NonEmpty.either yes) };
 }
 
 impl<
     R: AsOctets + Copy,
-    A: Format<R, Delimited = Yes>,
-    B: Format<R, Delimited = Yes>,
-    C: Format<R, Delimited = Yes>,
-    D: Format<R, Delimited = Yes>,
+    A: Format<R, SelfDelimiting = Yes>,
+    B: Format<R, SelfDelimiting = Yes>,
+    C: Format<R, SelfDelimiting = Yes>,
+    D: Format<R, SelfDelimiting = Yes>,
     E: Format<R>,
 > Format<R> for (A, B, C, D, E)
 where
-    D::Moving: Or<E::Moving>,
-    C::Moving: Or<<D::Moving as Or<E::Moving>>::Joined>,
-    B::Moving: Or<<C::Moving as Or<<D::Moving as Or<E::Moving>>::Joined>>::Joined>,
-    A::Moving: Or<
-        <B::Moving as Or<<C::Moving as Or<<D::Moving as Or<E::Moving>>::Joined>>::Joined>>::Joined,
+    D::NonEmpty: Or<E::NonEmpty>,
+    C::NonEmpty: Or<<D::NonEmpty as Or<E::NonEmpty>>::Joined>,
+    B::NonEmpty: Or<<C::NonEmpty as Or<<D::NonEmpty as Or<E::NonEmpty>>::Joined>>::Joined>,
+    A::NonEmpty: Or<
+        <B::NonEmpty as Or<
+            <C::NonEmpty as Or<<D::NonEmpty as Or<E::NonEmpty>>::Joined>>::Joined,
+        >>::Joined,
     >,
 {
     type Value = (A::Value, B::Value, C::Value, D::Value, E::Value);
 
-    type Delimited = E::Delimited;
+    type SelfDelimiting = E::SelfDelimiting;
 
-    type Moving = <A::Moving as Or<
-        <B::Moving as Or<<C::Moving as Or<<D::Moving as Or<E::Moving>>::Joined>>::Joined>>::Joined,
+    type NonEmpty = <A::NonEmpty as Or<
+        <B::NonEmpty as Or<
+            <C::NonEmpty as Or<<D::NonEmpty as Or<E::NonEmpty>>::Joined>>::Joined,
+        >>::Joined,
     >>::Joined;
 
     ghost Found = { A.Found × (B.Found × (C.Found × (D.Found × E.Found))) };
@@ -525,42 +529,44 @@ where
         delimited_then D.delimited refl delimited_then E.delimited yes };
 
     ghost moving = { λ yes. some_either A.moving (λ yes. some_either B.moving (λ yes. some_either C.moving (λ yes.
-        some_either D.moving E.moving (D.Moving.either yes)) (C.Moving.either yes)) (B.Moving.either yes))
-        (A.Moving.either yes) };
+        some_either D.moving E.moving (D.NonEmpty.either yes)) (C.NonEmpty.either yes)) (B.NonEmpty.either yes))
+        (A.NonEmpty.either yes) };
 }
 
 impl<
     R: AsOctets + Copy,
-    A: Format<R, Delimited = Yes>,
-    B: Format<R, Delimited = Yes>,
-    C: Format<R, Delimited = Yes>,
-    D: Format<R, Delimited = Yes>,
-    E: Format<R, Delimited = Yes>,
+    A: Format<R, SelfDelimiting = Yes>,
+    B: Format<R, SelfDelimiting = Yes>,
+    C: Format<R, SelfDelimiting = Yes>,
+    D: Format<R, SelfDelimiting = Yes>,
+    E: Format<R, SelfDelimiting = Yes>,
     F: Format<R>,
 > Format<R> for (A, B, C, D, E, F)
 where
-    E::Moving: Or<F::Moving>,
-    D::Moving: Or<<E::Moving as Or<F::Moving>>::Joined>,
-    C::Moving: Or<<D::Moving as Or<<E::Moving as Or<F::Moving>>::Joined>>::Joined>,
-    B::Moving: Or<
-        <C::Moving as Or<<D::Moving as Or<<E::Moving as Or<F::Moving>>::Joined>>::Joined>>::Joined,
+    E::NonEmpty: Or<F::NonEmpty>,
+    D::NonEmpty: Or<<E::NonEmpty as Or<F::NonEmpty>>::Joined>,
+    C::NonEmpty: Or<<D::NonEmpty as Or<<E::NonEmpty as Or<F::NonEmpty>>::Joined>>::Joined>,
+    B::NonEmpty: Or<
+        <C::NonEmpty as Or<
+            <D::NonEmpty as Or<<E::NonEmpty as Or<F::NonEmpty>>::Joined>>::Joined,
+        >>::Joined,
     >,
-    A::Moving: Or<
-        <B::Moving as Or<
-            <C::Moving as Or<
-                <D::Moving as Or<<E::Moving as Or<F::Moving>>::Joined>>::Joined,
+    A::NonEmpty: Or<
+        <B::NonEmpty as Or<
+            <C::NonEmpty as Or<
+                <D::NonEmpty as Or<<E::NonEmpty as Or<F::NonEmpty>>::Joined>>::Joined,
             >>::Joined,
         >>::Joined,
     >,
 {
     type Value = (A::Value, B::Value, C::Value, D::Value, E::Value, F::Value);
 
-    type Delimited = F::Delimited;
+    type SelfDelimiting = F::SelfDelimiting;
 
-    type Moving = <A::Moving as Or<
-        <B::Moving as Or<
-            <C::Moving as Or<
-                <D::Moving as Or<<E::Moving as Or<F::Moving>>::Joined>>::Joined,
+    type NonEmpty = <A::NonEmpty as Or<
+        <B::NonEmpty as Or<
+            <C::NonEmpty as Or<
+                <D::NonEmpty as Or<<E::NonEmpty as Or<F::NonEmpty>>::Joined>>::Joined,
             >>::Joined,
         >>::Joined,
     >>::Joined;
@@ -686,6 +692,6 @@ where
         delimited_then D.delimited refl delimited_then E.delimited refl delimited_then F.delimited yes };
 
     ghost moving = { λ yes. some_either A.moving (λ yes. some_either B.moving (λ yes. some_either C.moving (λ yes.
-        some_either D.moving (λ yes. some_either E.moving F.moving (E.Moving.either yes)) (D.Moving.either yes))
-        (C.Moving.either yes)) (B.Moving.either yes)) (A.Moving.either yes) };
+        some_either D.moving (λ yes. some_either E.moving F.moving (E.NonEmpty.either yes)) (D.NonEmpty.either yes))
+        (C.NonEmpty.either yes)) (B.NonEmpty.either yes)) (A.NonEmpty.either yes) };
 }

@@ -11,7 +11,7 @@ ghost use Rattle.octseq_format.specs.Optional.{optional_says, optional_turns};
 ghost use Rattle.octseq_format.specs.Row.{Many, Row, row_turns};
 ghost use Rattle.octseq_format.specs.Stop.{StopsThen, StopsBy, StopsInRow, stops_here};
 ghost use Rattle.octseq_format.specs.Turns.{TakesTurns};
-ghost use Rattle.octseq_format.specs.Until.{IsNot, IsItem, IsNext, IsUntil, until_octets};
+ghost use Rattle.octseq_format.specs.Until.{IsNot, IsItem, IsNextItem, IsUntil, until_octets};
 ghost use Rattle.octseq_format.specs.Until.{UntilFits, one_until, onward_until};
 ghost use Rattle.octseq_format.specs.Until.{until_read_back, delimited_until};
 ghost use Rattle.octseq_format.specs.Until.{canonical_unless, canonical_ended};
@@ -39,7 +39,7 @@ impl<const N: usize, F: TellsKey> TellsKey for Unless<N, F> {}
 impl<R: AsOctets + Copy, const N: usize, F: Family<R>> Family<R> for Unless<N, F> {
     type Value = F::Value;
 
-    type Delimited = F::Delimited;
+    type SelfDelimiting = F::SelfDelimiting;
 
     ghost Found = { F.Found };
 
@@ -142,11 +142,11 @@ fn next_item<
     R: AsOctets + Copy,
     N: Number,
     const END: usize,
-    F: Family<R, Delimited = Yes> + TellsKey,
+    F: Family<R, SelfDelimiting = Yes> + TellsKey,
 >(parser: &mut Parser<R>, turns: &mut Turns) -> Result<Option<F::Value>, Malformed>
-    ensures value { IfOk result (λ next. IsNext END N.is_at F.is_at (window parser.old)
+    ensures value { IfOk result (λ next. IsNextItem END N.is_at F.is_at (window parser.old)
         (optional_says F.found next) (window parser.new)) }
-    ensures malformed { IsErr result → NoneAt (IsNext END N.is_at F.is_at) (window parser.old) }
+    ensures malformed { IsErr result → NoneAt (IsNextItem END N.is_at F.is_at) (window parser.old) }
     ensures kept { OnErr result (window parser.new ≡ window parser.old) }
     ensures same { sequence parser.new ≡ sequence parser.old }
     ensures end { (window parser.new).end ≡ (window parser.old).end }
@@ -175,9 +175,9 @@ fn fault_of_item<
     R: AsOctets + Copy,
     N: Number,
     const END: usize,
-    F: Family<R, Delimited = Yes> + TellsKey,
+    F: Family<R, SelfDelimiting = Yes> + TellsKey,
 >(parser: &Parser<R>) -> usize
-    requires { NoneAt (IsNext END N.is_at F.is_at) (window parser.now) }
+    requires { NoneAt (IsNextItem END N.is_at F.is_at) (window parser.now) }
     ensures { StopsThen N.is_at stops_here F.stops (window parser.now) result }
 {
     let mut ahead = *parser;
@@ -189,11 +189,11 @@ fn fault_of_item<
 
 /// Reads all items and the tag that ends them. Returns how many items there are, and the position
 /// after the last one.
-fn pass_until<
+fn skip_until<
     R: AsOctets + Copy,
     N: Number,
     const END: usize,
-    F: Family<R, Delimited = Yes> + TellsKey,
+    F: Family<R, SelfDelimiting = Yes> + TellsKey,
 >(parser: &mut Parser<R>, turns: &mut Turns) -> Result<(usize, usize), Malformed>
     ensures all { IfOk result (λ passed. (row : List F.Found) × (u : Window)
         × Many passed.0 (IsItem END N.is_at F.is_at) (window parser.old) row u
@@ -202,7 +202,7 @@ fn pass_until<
     ensures malformed { IsErr result → NoneAt (IsUntil END N.is_at F.is_at) (window parser.old) }
     ensures passed { IsErr result → (row : List F.Found)
         × Row (IsItem END N.is_at F.is_at) (window parser.old) row (window parser.new) }
-    ensures none { IsErr result → NoneAt (IsNext END N.is_at F.is_at) (window parser.new) }
+    ensures none { IsErr result → NoneAt (IsNextItem END N.is_at F.is_at) (window parser.new) }
     ensures same { sequence parser.new ≡ sequence parser.old }
     ensures end { (window parser.new).end ≡ (window parser.old).end }
     ensures onward { left (window parser.new) ≤ left (window parser.old) }
@@ -235,13 +235,13 @@ impl<
     R: AsOctets + Copy,
     N: Number,
     const END: usize,
-    F: Family<R, Delimited = Yes> + TellsKey,
+    F: Family<R, SelfDelimiting = Yes> + TellsKey,
 > Format<R> for Until<N, END, F> {
     type Value = Walk<R, Tagged<N, Unless<END, F>>>;
 
-    type Delimited = Yes;
+    type SelfDelimiting = Yes;
 
-    type Moving = Yes;
+    type NonEmpty = Yes;
 
     ghost Found = { List F.Found };
 
@@ -279,7 +279,7 @@ impl<
     fn parse_counted(parser: &mut Parser<R>, turns: &mut Turns) -> Result<Self::Value, Malformed> {
         let first = *parser;
         let mut ahead = first;
-        let passed = pass_until::<R, N, END, F>(&mut ahead, turns)?;
+        let passed = skip_until::<R, N, END, F>(&mut ahead, turns)?;
         *parser = ahead;
         Ok(Walk::at(first, passed.0, passed.1))
     }
@@ -287,7 +287,7 @@ impl<
     #[tactic(auto, using(crate::specs::Stop::stops_in_row))]
     fn fault(parser: &Parser<R>) -> usize {
         let mut ahead = *parser;
-        match pass_until::<R, N, END, F>(&mut ahead, &mut Turns::new()) {
+        match skip_until::<R, N, END, F>(&mut ahead, &mut Turns::new()) {
             Ok(_) => unreachable!(),
             Err(_) => fault_of_item::<R, N, END, F>(&ahead),
         }

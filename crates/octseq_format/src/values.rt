@@ -1,8 +1,8 @@
 //! Slices of values, written one after another.
 ghost use Rattle.std.specs.Prelude.{◌≡◌, ◌↔◌, ◌+◌, ◌++◌, length, map, true, IsErr, IsNone, IsSome, IfSome, OnOk, OnErr};
 ghost use Rattle.std.specs.List.{AllByRecursion};
-ghost use Rattle.octseq.specs.Limit.{IsPast, IsWithin};
-ghost use Rattle.octseq.specs.Parts.{IsFront};
+ghost use Rattle.octseq.specs.Limit.{ExceedsLimit, IsWithin};
+ghost use Rattle.octseq.specs.Parts.{StartsWith};
 ghost use Rattle.octseq.specs.Refusal.{IsShort, IsMemory, IsMalformed, write_error};
 ghost use Rattle.octseq_format.specs.Laws.{HasOctets};
 ghost use Rattle.octseq_format.specs.Row.{row_octets};
@@ -38,7 +38,7 @@ fn put_values<B: OctetsBuilder + Truncate, R: AsOctets + Copy, F: Format<R>>(
         + length (row_octets F.octets (map (λ v. F.says (F.found v)) values.now))) }
     ensures ok { OnOk result (B.content builder.new
         ≡ B.content builder.old ++ row_octets F.octets (map (λ v. F.says (F.found v)) values.now)) }
-    ensures front { OnErr result (IsFront (B.content builder.old) (B.content builder.new)) }
+    ensures front { OnErr result (StartsWith (B.content builder.old) (B.content builder.new)) }
     ensures memory { IsErr result → B.asks ≡ true }
     ensures borrows { B.borrows builder.new ≡ B.borrows builder.old }
 {
@@ -67,7 +67,7 @@ pub fn append_all<R: AsOctets + Copy, F: Format<R>, B: OctetsBuilder + Truncate>
         (map (λ v. F.says (F.found v)) values.now) }
     ensures short { IsShort write_error result ↔ HasOctets (row_octets F.octets) (AllByRecursion F.fits)
         (map (λ v. F.says (F.found v)) values.now)
-        × IsPast B.limit (length (B.content builder.old)
+        × ExceedsLimit B.limit (length (B.content builder.old)
         + length (row_octets F.octets (map (λ v. F.says (F.found v)) values.now))) }
     ensures memory { IsMemory write_error result → B.asks ≡ true }
     ensures borrows { B.borrows builder.new ≡ B.borrows builder.old }

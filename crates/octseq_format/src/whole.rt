@@ -18,9 +18,9 @@ pub struct Whole<A> {
 impl<R: AsOctets + Copy, A: Format<R>> Format<R> for Whole<A> {
     type Value = A::Value;
 
-    type Delimited = A::Delimited;
+    type SelfDelimiting = A::SelfDelimiting;
 
-    type Moving = A::Moving;
+    type NonEmpty = A::NonEmpty;
 
     ghost Found = { A.Found };
 

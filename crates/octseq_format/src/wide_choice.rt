@@ -43,18 +43,24 @@ impl<
     F: Family<R>,
 > Family<R> for (A, B, C, D, E, F)
 where
-    E::Delimited: And<F::Delimited>,
-    D::Delimited: And<<E::Delimited as And<F::Delimited>>::Joined>,
-    C::Delimited: And<<D::Delimited as And<<E::Delimited as And<F::Delimited>>::Joined>>::Joined>,
-    B::Delimited: And<
-        <C::Delimited as And<
-            <D::Delimited as And<<E::Delimited as And<F::Delimited>>::Joined>>::Joined,
+    E::SelfDelimiting: And<F::SelfDelimiting>,
+    D::SelfDelimiting: And<<E::SelfDelimiting as And<F::SelfDelimiting>>::Joined>,
+    C::SelfDelimiting: And<
+        <D::SelfDelimiting as And<<E::SelfDelimiting as And<F::SelfDelimiting>>::Joined>>::Joined,
+    >,
+    B::SelfDelimiting: And<
+        <C::SelfDelimiting as And<
+            <D::SelfDelimiting as And<
+                <E::SelfDelimiting as And<F::SelfDelimiting>>::Joined,
+            >>::Joined,
         >>::Joined,
     >,
-    A::Delimited: And<
-        <B::Delimited as And<
-            <C::Delimited as And<
-                <D::Delimited as And<<E::Delimited as And<F::Delimited>>::Joined>>::Joined,
+    A::SelfDelimiting: And<
+        <B::SelfDelimiting as And<
+            <C::SelfDelimiting as And<
+                <D::SelfDelimiting as And<
+                    <E::SelfDelimiting as And<F::SelfDelimiting>>::Joined,
+                >>::Joined,
             >>::Joined,
         >>::Joined,
     >,
@@ -63,10 +69,12 @@ where
 
     type Value = OneOf6<A::Value, B::Value, C::Value, D::Value, E::Value, F::Value>;
 
-    type Delimited = <A::Delimited as And<
-        <B::Delimited as And<
-            <C::Delimited as And<
-                <D::Delimited as And<<E::Delimited as And<F::Delimited>>::Joined>>::Joined,
+    type SelfDelimiting = <A::SelfDelimiting as And<
+        <B::SelfDelimiting as And<
+            <C::SelfDelimiting as And<
+                <D::SelfDelimiting as And<
+                    <E::SelfDelimiting as And<F::SelfDelimiting>>::Joined,
+                >>::Joined,
             >>::Joined,
         >>::Joined,
     >>::Joined;
@@ -243,13 +251,19 @@ where
         C.covers C.read_back (either_read_back D.covers D.read_back (either_read_back E.covers E.read_back
         F.read_back)))) };
 
-    ghost delimited = { λ yes. delimited_either A.covers (A.delimited (A.Delimited.both yes).0) (delimited_either
-        B.covers (B.delimited (B.Delimited.both ((A.Delimited.both yes).1)).0) (delimited_either C.covers (C.delimited
-        (C.Delimited.both ((B.Delimited.both ((A.Delimited.both yes).1)).1)).0) (delimited_either D.covers (D.delimited
-        (D.Delimited.both ((C.Delimited.both ((B.Delimited.both ((A.Delimited.both yes).1)).1)).1)).0) (delimited_either
-        E.covers (E.delimited (E.Delimited.both ((D.Delimited.both ((C.Delimited.both ((B.Delimited.both
-        ((A.Delimited.both yes).1)).1)).1)).1)).0) (F.delimited ((E.Delimited.both ((D.Delimited.both ((C.Delimited.both
-        ((B.Delimited.both ((A.Delimited.both yes).1)).1)).1)).1)).1)))))) };
+    ghost delimited = { λ yes. delimited_either A.covers (A.delimited (A.SelfDelimiting.both yes).0) (delimited_either
+        B.covers (B.delimited (B.SelfDelimiting.both ((A.SelfDelimiting.both yes).1)).0)
+        (delimited_either C.covers (C.delimited
+        (C.SelfDelimiting.both ((B.SelfDelimiting.both ((A.SelfDelimiting.both yes).1)).1)).0)
+        (delimited_either D.covers (D.delimited
+        (D.SelfDelimiting.both
+        ((C.SelfDelimiting.both ((B.SelfDelimiting.both ((A.SelfDelimiting.both yes).1)).1)).1)).0)
+        (delimited_either
+        E.covers (E.delimited
+        (E.SelfDelimiting.both ((D.SelfDelimiting.both ((C.SelfDelimiting.both ((B.SelfDelimiting.both
+        ((A.SelfDelimiting.both yes).1)).1)).1)).1)).0)
+        (F.delimited ((E.SelfDelimiting.both ((D.SelfDelimiting.both ((C.SelfDelimiting.both
+        ((B.SelfDelimiting.both ((A.SelfDelimiting.both yes).1)).1)).1)).1)).1)))))) };
 
     ghost canonical = { λ yes key. not_one_way yes };
 
@@ -296,26 +310,34 @@ impl<
     G: Family<R>,
 > Family<R> for (A, B, C, D, E, F, G)
 where
-    F::Delimited: And<G::Delimited>,
-    E::Delimited: And<<F::Delimited as And<G::Delimited>>::Joined>,
-    D::Delimited: And<<E::Delimited as And<<F::Delimited as And<G::Delimited>>::Joined>>::Joined>,
-    C::Delimited: And<
-        <D::Delimited as And<
-            <E::Delimited as And<<F::Delimited as And<G::Delimited>>::Joined>>::Joined,
-        >>::Joined,
+    F::SelfDelimiting: And<G::SelfDelimiting>,
+    E::SelfDelimiting: And<<F::SelfDelimiting as And<G::SelfDelimiting>>::Joined>,
+    D::SelfDelimiting: And<
+        <E::SelfDelimiting as And<<F::SelfDelimiting as And<G::SelfDelimiting>>::Joined>>::Joined,
     >,
-    B::Delimited: And<
-        <C::Delimited as And<
-            <D::Delimited as And<
-                <E::Delimited as And<<F::Delimited as And<G::Delimited>>::Joined>>::Joined,
+    C::SelfDelimiting: And<
+        <D::SelfDelimiting as And<
+            <E::SelfDelimiting as And<
+                <F::SelfDelimiting as And<G::SelfDelimiting>>::Joined,
             >>::Joined,
         >>::Joined,
     >,
-    A::Delimited: And<
-        <B::Delimited as And<
-            <C::Delimited as And<
-                <D::Delimited as And<
-                    <E::Delimited as And<<F::Delimited as And<G::Delimited>>::Joined>>::Joined,
+    B::SelfDelimiting: And<
+        <C::SelfDelimiting as And<
+            <D::SelfDelimiting as And<
+                <E::SelfDelimiting as And<
+                    <F::SelfDelimiting as And<G::SelfDelimiting>>::Joined,
+                >>::Joined,
+            >>::Joined,
+        >>::Joined,
+    >,
+    A::SelfDelimiting: And<
+        <B::SelfDelimiting as And<
+            <C::SelfDelimiting as And<
+                <D::SelfDelimiting as And<
+                    <E::SelfDelimiting as And<
+                        <F::SelfDelimiting as And<G::SelfDelimiting>>::Joined,
+                    >>::Joined,
                 >>::Joined,
             >>::Joined,
         >>::Joined,
@@ -325,11 +347,13 @@ where
 
     type Value = OneOf7<A::Value, B::Value, C::Value, D::Value, E::Value, F::Value, G::Value>;
 
-    type Delimited = <A::Delimited as And<
-        <B::Delimited as And<
-            <C::Delimited as And<
-                <D::Delimited as And<
-                    <E::Delimited as And<<F::Delimited as And<G::Delimited>>::Joined>>::Joined,
+    type SelfDelimiting = <A::SelfDelimiting as And<
+        <B::SelfDelimiting as And<
+            <C::SelfDelimiting as And<
+                <D::SelfDelimiting as And<
+                    <E::SelfDelimiting as And<
+                        <F::SelfDelimiting as And<G::SelfDelimiting>>::Joined,
+                    >>::Joined,
                 >>::Joined,
             >>::Joined,
         >>::Joined,
@@ -526,15 +550,21 @@ where
         C.covers C.read_back (either_read_back D.covers D.read_back (either_read_back E.covers E.read_back
         (either_read_back F.covers F.read_back G.read_back))))) };
 
-    ghost delimited = { λ yes. delimited_either A.covers (A.delimited (A.Delimited.both yes).0) (delimited_either
-        B.covers (B.delimited (B.Delimited.both ((A.Delimited.both yes).1)).0) (delimited_either C.covers (C.delimited
-        (C.Delimited.both ((B.Delimited.both ((A.Delimited.both yes).1)).1)).0) (delimited_either D.covers (D.delimited
-        (D.Delimited.both ((C.Delimited.both ((B.Delimited.both ((A.Delimited.both yes).1)).1)).1)).0) (delimited_either
-        E.covers (E.delimited (E.Delimited.both ((D.Delimited.both ((C.Delimited.both ((B.Delimited.both
-        ((A.Delimited.both yes).1)).1)).1)).1)).0) (delimited_either F.covers (F.delimited (F.Delimited.both
-        ((E.Delimited.both ((D.Delimited.both ((C.Delimited.both ((B.Delimited.both ((A.Delimited.both
-        yes).1)).1)).1)).1)).1)).0) (G.delimited ((F.Delimited.both ((E.Delimited.both ((D.Delimited.both
-        ((C.Delimited.both ((B.Delimited.both ((A.Delimited.both yes).1)).1)).1)).1)).1)).1))))))) };
+    ghost delimited = { λ yes. delimited_either A.covers (A.delimited (A.SelfDelimiting.both yes).0) (delimited_either
+        B.covers (B.delimited (B.SelfDelimiting.both ((A.SelfDelimiting.both yes).1)).0)
+        (delimited_either C.covers (C.delimited
+        (C.SelfDelimiting.both ((B.SelfDelimiting.both ((A.SelfDelimiting.both yes).1)).1)).0)
+        (delimited_either D.covers (D.delimited
+        (D.SelfDelimiting.both
+        ((C.SelfDelimiting.both ((B.SelfDelimiting.both ((A.SelfDelimiting.both yes).1)).1)).1)).0)
+        (delimited_either
+        E.covers (E.delimited
+        (E.SelfDelimiting.both ((D.SelfDelimiting.both ((C.SelfDelimiting.both ((B.SelfDelimiting.both
+        ((A.SelfDelimiting.both yes).1)).1)).1)).1)).0) (delimited_either F.covers (F.delimited (F.SelfDelimiting.both
+        ((E.SelfDelimiting.both
+        ((D.SelfDelimiting.both ((C.SelfDelimiting.both ((B.SelfDelimiting.both ((A.SelfDelimiting.both
+        yes).1)).1)).1)).1)).1)).0) (G.delimited ((F.SelfDelimiting.both ((E.SelfDelimiting.both ((D.SelfDelimiting.both
+        ((C.SelfDelimiting.both ((B.SelfDelimiting.both ((A.SelfDelimiting.both yes).1)).1)).1)).1)).1)).1))))))) };
 
     ghost canonical = { λ yes key. not_one_way yes };
 

@@ -13,33 +13,35 @@ use std::alloc::AllocError;
 
 impl<
     R: AsOctets + Copy,
-    A: Format<R, Delimited = Yes>,
-    B: Format<R, Delimited = Yes>,
-    C: Format<R, Delimited = Yes>,
-    D: Format<R, Delimited = Yes>,
-    E: Format<R, Delimited = Yes>,
-    F: Format<R, Delimited = Yes>,
+    A: Format<R, SelfDelimiting = Yes>,
+    B: Format<R, SelfDelimiting = Yes>,
+    C: Format<R, SelfDelimiting = Yes>,
+    D: Format<R, SelfDelimiting = Yes>,
+    E: Format<R, SelfDelimiting = Yes>,
+    F: Format<R, SelfDelimiting = Yes>,
     G: Format<R>,
 > Format<R> for (A, B, C, D, E, F, G)
 where
-    F::Moving: Or<G::Moving>,
-    E::Moving: Or<<F::Moving as Or<G::Moving>>::Joined>,
-    D::Moving: Or<<E::Moving as Or<<F::Moving as Or<G::Moving>>::Joined>>::Joined>,
-    C::Moving: Or<
-        <D::Moving as Or<<E::Moving as Or<<F::Moving as Or<G::Moving>>::Joined>>::Joined>>::Joined,
+    F::NonEmpty: Or<G::NonEmpty>,
+    E::NonEmpty: Or<<F::NonEmpty as Or<G::NonEmpty>>::Joined>,
+    D::NonEmpty: Or<<E::NonEmpty as Or<<F::NonEmpty as Or<G::NonEmpty>>::Joined>>::Joined>,
+    C::NonEmpty: Or<
+        <D::NonEmpty as Or<
+            <E::NonEmpty as Or<<F::NonEmpty as Or<G::NonEmpty>>::Joined>>::Joined,
+        >>::Joined,
     >,
-    B::Moving: Or<
-        <C::Moving as Or<
-            <D::Moving as Or<
-                <E::Moving as Or<<F::Moving as Or<G::Moving>>::Joined>>::Joined,
+    B::NonEmpty: Or<
+        <C::NonEmpty as Or<
+            <D::NonEmpty as Or<
+                <E::NonEmpty as Or<<F::NonEmpty as Or<G::NonEmpty>>::Joined>>::Joined,
             >>::Joined,
         >>::Joined,
     >,
-    A::Moving: Or<
-        <B::Moving as Or<
-            <C::Moving as Or<
-                <D::Moving as Or<
-                    <E::Moving as Or<<F::Moving as Or<G::Moving>>::Joined>>::Joined,
+    A::NonEmpty: Or<
+        <B::NonEmpty as Or<
+            <C::NonEmpty as Or<
+                <D::NonEmpty as Or<
+                    <E::NonEmpty as Or<<F::NonEmpty as Or<G::NonEmpty>>::Joined>>::Joined,
                 >>::Joined,
             >>::Joined,
         >>::Joined,
@@ -55,13 +57,13 @@ where
         G::Value,
     );
 
-    type Delimited = G::Delimited;
+    type SelfDelimiting = G::SelfDelimiting;
 
-    type Moving = <A::Moving as Or<
-        <B::Moving as Or<
-            <C::Moving as Or<
-                <D::Moving as Or<
-                    <E::Moving as Or<<F::Moving as Or<G::Moving>>::Joined>>::Joined,
+    type NonEmpty = <A::NonEmpty as Or<
+        <B::NonEmpty as Or<
+            <C::NonEmpty as Or<
+                <D::NonEmpty as Or<
+                    <E::NonEmpty as Or<<F::NonEmpty as Or<G::NonEmpty>>::Joined>>::Joined,
                 >>::Joined,
             >>::Joined,
         >>::Joined,
@@ -197,51 +199,54 @@ where
         G.delimited yes };
 
     ghost moving = { λ yes. some_either A.moving (λ yes. some_either B.moving (λ yes. some_either C.moving (λ yes.
-        some_either D.moving (λ yes. some_either E.moving (λ yes. some_either F.moving G.moving (F.Moving.either yes))
-        (E.Moving.either yes)) (D.Moving.either yes)) (C.Moving.either yes)) (B.Moving.either yes)) (A.Moving.either
+        some_either D.moving (λ yes. some_either E.moving (λ yes. some_either F.moving G.moving (F.NonEmpty.either yes))
+        (E.NonEmpty.either yes)) (D.NonEmpty.either yes)) (C.NonEmpty.either yes)) (B.NonEmpty.either yes))
+        (A.NonEmpty.either
         yes) };
 }
 
 impl<
     R: AsOctets + Copy,
-    A: Format<R, Delimited = Yes>,
-    B: Format<R, Delimited = Yes>,
-    C: Format<R, Delimited = Yes>,
-    D: Format<R, Delimited = Yes>,
-    E: Format<R, Delimited = Yes>,
-    F: Format<R, Delimited = Yes>,
-    G: Format<R, Delimited = Yes>,
+    A: Format<R, SelfDelimiting = Yes>,
+    B: Format<R, SelfDelimiting = Yes>,
+    C: Format<R, SelfDelimiting = Yes>,
+    D: Format<R, SelfDelimiting = Yes>,
+    E: Format<R, SelfDelimiting = Yes>,
+    F: Format<R, SelfDelimiting = Yes>,
+    G: Format<R, SelfDelimiting = Yes>,
     H: Format<R>,
 > Format<R> for (A, B, C, D, E, F, G, H)
 where
-    G::Moving: Or<H::Moving>,
-    F::Moving: Or<<G::Moving as Or<H::Moving>>::Joined>,
-    E::Moving: Or<<F::Moving as Or<<G::Moving as Or<H::Moving>>::Joined>>::Joined>,
-    D::Moving: Or<
-        <E::Moving as Or<<F::Moving as Or<<G::Moving as Or<H::Moving>>::Joined>>::Joined>>::Joined,
+    G::NonEmpty: Or<H::NonEmpty>,
+    F::NonEmpty: Or<<G::NonEmpty as Or<H::NonEmpty>>::Joined>,
+    E::NonEmpty: Or<<F::NonEmpty as Or<<G::NonEmpty as Or<H::NonEmpty>>::Joined>>::Joined>,
+    D::NonEmpty: Or<
+        <E::NonEmpty as Or<
+            <F::NonEmpty as Or<<G::NonEmpty as Or<H::NonEmpty>>::Joined>>::Joined,
+        >>::Joined,
     >,
-    C::Moving: Or<
-        <D::Moving as Or<
-            <E::Moving as Or<
-                <F::Moving as Or<<G::Moving as Or<H::Moving>>::Joined>>::Joined,
+    C::NonEmpty: Or<
+        <D::NonEmpty as Or<
+            <E::NonEmpty as Or<
+                <F::NonEmpty as Or<<G::NonEmpty as Or<H::NonEmpty>>::Joined>>::Joined,
             >>::Joined,
         >>::Joined,
     >,
-    B::Moving: Or<
-        <C::Moving as Or<
-            <D::Moving as Or<
-                <E::Moving as Or<
-                    <F::Moving as Or<<G::Moving as Or<H::Moving>>::Joined>>::Joined,
+    B::NonEmpty: Or<
+        <C::NonEmpty as Or<
+            <D::NonEmpty as Or<
+                <E::NonEmpty as Or<
+                    <F::NonEmpty as Or<<G::NonEmpty as Or<H::NonEmpty>>::Joined>>::Joined,
                 >>::Joined,
             >>::Joined,
         >>::Joined,
     >,
-    A::Moving: Or<
-        <B::Moving as Or<
-            <C::Moving as Or<
-                <D::Moving as Or<
-                    <E::Moving as Or<
-                        <F::Moving as Or<<G::Moving as Or<H::Moving>>::Joined>>::Joined,
+    A::NonEmpty: Or<
+        <B::NonEmpty as Or<
+            <C::NonEmpty as Or<
+                <D::NonEmpty as Or<
+                    <E::NonEmpty as Or<
+                        <F::NonEmpty as Or<<G::NonEmpty as Or<H::NonEmpty>>::Joined>>::Joined,
                     >>::Joined,
                 >>::Joined,
             >>::Joined,
@@ -259,14 +264,14 @@ where
         H::Value,
     );
 
-    type Delimited = H::Delimited;
+    type SelfDelimiting = H::SelfDelimiting;
 
-    type Moving = <A::Moving as Or<
-        <B::Moving as Or<
-            <C::Moving as Or<
-                <D::Moving as Or<
-                    <E::Moving as Or<
-                        <F::Moving as Or<<G::Moving as Or<H::Moving>>::Joined>>::Joined,
+    type NonEmpty = <A::NonEmpty as Or<
+        <B::NonEmpty as Or<
+            <C::NonEmpty as Or<
+                <D::NonEmpty as Or<
+                    <E::NonEmpty as Or<
+                        <F::NonEmpty as Or<<G::NonEmpty as Or<H::NonEmpty>>::Joined>>::Joined,
                     >>::Joined,
                 >>::Joined,
             >>::Joined,
@@ -413,6 +418,6 @@ where
 
     ghost moving = { λ yes. some_either A.moving (λ yes. some_either B.moving (λ yes. some_either C.moving (λ yes.
         some_either D.moving (λ yes. some_either E.moving (λ yes. some_either F.moving (λ yes. some_either G.moving
-        H.moving (G.Moving.either yes)) (F.Moving.either yes)) (E.Moving.either yes)) (D.Moving.either yes))
-        (C.Moving.either yes)) (B.Moving.either yes)) (A.Moving.either yes) };
+        H.moving (G.NonEmpty.either yes)) (F.NonEmpty.either yes)) (E.NonEmpty.either yes)) (D.NonEmpty.either yes))
+        (C.NonEmpty.either yes)) (B.NonEmpty.either yes)) (A.NonEmpty.either yes) };
 }

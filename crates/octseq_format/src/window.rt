@@ -30,11 +30,11 @@ impl<R: AsOctets + Copy> Clone for Window<R> {
 }
 
 impl<R: AsOctets + Copy> Window<R> {
-    ghost use Rattle.octseq_format.specs.Place.{place};
+    ghost use Rattle.octseq_format.specs.WindowOf.{window_of};
 
     /// A window of all the octets.
     pub fn from_ref(octets: R) -> Self
-        ensures { place result ≡ whole (R.content octets) }
+        ensures { window_of result ≡ whole (R.content octets) }
     {
         Window {
             parser: Parser::from_ref(octets),
@@ -43,7 +43,7 @@ impl<R: AsOctets + Copy> Window<R> {
 
     /// A window of what a parser has left.
     pub fn from_parser(parser: Parser<R>) -> Self
-        ensures { place result ≡ window parser }
+        ensures { window_of result ≡ window parser }
     {
         Window { parser }
     }
@@ -51,49 +51,49 @@ impl<R: AsOctets + Copy> Window<R> {
     /// A parser of the octets alone, which reads them further. Its position is counted from the first octet of the
     /// sequence.
     pub fn parser(&self) -> Parser<R>
-        ensures { window result ≡ place self.now }
+        ensures { window result ≡ window_of self.now }
     {
         self.parser
     }
 
     /// The octets.
     pub fn as_slice(&self) -> &[u8]
-        ensures content { result.now ≡ rest (place self.now) }
-        ensures length { length result.now ≡ left (place self.now) }
+        ensures content { result.now ≡ rest (window_of self.now) }
+        ensures length { length result.now ≡ left (window_of self.now) }
     {
         self.parser.peek_all()
     }
 
     /// The number of octets.
     pub fn len(&self) -> usize
-        ensures left { result ≡ left (place self.now) }
-        ensures rest { result ≡ length (rest (place self.now)) }
+        ensures left { result ≡ left (window_of self.now) }
+        ensures rest { result ≡ length (rest (window_of self.now)) }
     {
         self.parser.remaining()
     }
 
     /// Whether there are no octets.
     pub fn is_empty(&self) -> bool
-        ensures { IsTrue result ↔ (rest (place self.now) ≡ []) }
+        ensures { IsTrue result ↔ (rest (window_of self.now) ≡ []) }
     {
         self.as_slice().is_empty()
     }
 
     /// The position of the first octet, counted from the first one of the sequence.
     pub fn pos(&self) -> usize
-        ensures position { result ≡ (place self.now).position }
-        ensures ordered { result ≤ (place self.now).end }
+        ensures position { result ≡ (window_of self.now).position }
+        ensures ordered { result ≤ (window_of self.now).end }
     {
         self.parser.pos()
     }
 }
 
 impl<R: AsOctets + Copy> PartialEq for Window<R> {
-    ghost use Rattle.octseq_format.specs.Place.{place};
+    ghost use Rattle.octseq_format.specs.WindowOf.{window_of};
 
-    ghost eq = { λ a b. pointwise nat_eq (rest (place a)) (rest (place b)) };
+    ghost eq = { λ a b. pointwise nat_eq (rest (window_of a)) (rest (window_of b)) };
 
-    ghost laws = { on_per (λ a. rest (place a)) (partial_equiv_from_equiv nat_list_eq_equiv) };
+    ghost laws = { on_per (λ a. rest (window_of a)) (partial_equiv_from_equiv nat_list_eq_equiv) };
 
     fn eq(&self, other: &Self) -> bool {
         self.as_slice() == other.as_slice()
@@ -101,9 +101,9 @@ impl<R: AsOctets + Copy> PartialEq for Window<R> {
 }
 
 impl<R: AsOctets + Copy> Eq for Window<R> {
-    ghost use Rattle.octseq_format.specs.Place.{place};
+    ghost use Rattle.octseq_format.specs.WindowOf.{window_of};
 
-    ghost laws = { on_equiv (λ a. rest (place a)) nat_list_eq_equiv };
+    ghost laws = { on_equiv (λ a. rest (window_of a)) nat_list_eq_equiv };
 }
 
 impl<R: AsOctets + Copy> fmt::Debug for Window<R> {

@@ -2,8 +2,8 @@
 ghost use Rattle.std.specs.Prelude.{◌≡◌, ◌+◌, ◌*◌, ◌/◌, ◌%◌, nat_eq};
 
 use octseq_format::{
-    Any, Case, Counted, Exactly, Itself, Key, Keyed, Nothing, Octets, Others, Reckoning, Repeated,
-    Rest, Sized, Switch, Tagged, Through, Times, U8, U16Be, U32Be, U64Be, WithinBy,
+    Any, Case, Const, Counted, Itself, Key, Keyed, Nothing, OctetArray, Others, Reckoning,
+    Repeated, Rest, Sized, Switch, Tagged, Through, Times, U8, U16Be, U32Be, U64Be, WithinBy,
 };
 
 /// The type of an attribute: the low octet of its flags and type.
@@ -54,12 +54,12 @@ pub type Segment = (U8, Times<U8, U32Be>);
 pub type AttributeValue = (
     (
         (Case<1, U8>, Case<2, Repeated<Segment>>),
-        (Case<3, Octets<4>>, Case<4, U32Be>),
+        (Case<3, OctetArray<4>>, Case<4, U32Be>),
     ),
     (
         (Case<5, U32Be>, Case<6, Nothing>),
         (
-            (Case<7, (U32Be, Octets<4>)>, Case<8, Repeated<U32Be>>),
+            (Case<7, (U32Be, OctetArray<4>)>, Case<8, Repeated<U32Be>>),
             Any<Rest>,
         ),
     ),
@@ -83,7 +83,7 @@ pub type Update = (
 pub type Body = Tagged<U8, (Case<2, Update>, Case<4, Nothing>, Others<Rest>)>;
 
 /// 64 bits of a marker, which are ones.
-pub type HalfMarker = Exactly<U64Be, 0xFFFF_FFFF_FFFF_FFFF>;
+pub type HalfMarker = Const<U64Be, 0xFFFF_FFFF_FFFF_FFFF>;
 
 /// A message: its marker, the length of all of it, and its type with what it says.
 pub type Message = (HalfMarker, HalfMarker, Counted<U16Be, Body, 18>);

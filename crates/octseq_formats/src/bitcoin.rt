@@ -2,12 +2,12 @@
 ghost use Rattle.std.specs.Prelude.{◌≡◌, ◌*◌, ◌/◌, ◌%◌, ◌||◌, min, nat_eq, if◌then◌else◌};
 
 use octseq_format::{
-    Any, Case, CompactSize, Counted, Exactly, Itself, Key, Keyed, ManyBy, Octets, Reckoning, Rest,
-    Sized, Test, Then, Through, Times, U8, U32Be, U32Le, U64Be, U64Le, When,
+    Any, Case, CompactSize, Const, Counted, Itself, Key, Keyed, ManyBy, OctetArray, Reckoning,
+    Rest, Sized, Test, Then, Through, Times, U8, U32Be, U32Le, U64Be, U64Le, When,
 };
 
 /// An input: the hash of a transaction and the index of an output of it, a script, and a sequence number.
-pub type Input = (Octets<32>, U32Le, Counted<CompactSize, Rest, 0>, U32Le);
+pub type Input = (OctetArray<32>, U32Le, Counted<CompactSize, Rest, 0>, U32Le);
 
 /// An output: a value, and a script.
 pub type Output = (U64Le, Counted<CompactSize, Rest, 0>);
@@ -19,12 +19,12 @@ pub type Witness = Times<CompactSize, Counted<CompactSize, Rest, 0>>;
 pub type Count = Key<CompactSize, Itself>;
 
 /// The flag 1, and a count of inputs.
-pub type WitnessedCount = (Exactly<U8, 1>, Count);
+pub type WitnessedCount = (Const<U8, 1>, Count);
 
 /// The flag 1, a count of inputs and as many of them, outputs after their count, a witness for each input, and the lock
 /// time.
 pub type WithWitnesses = (
-    Exactly<U8, 1>,
+    Const<U8, 1>,
     Keyed<
         Count,
         Then<
@@ -97,7 +97,7 @@ impl Test for IsInventory {
 }
 
 /// Items of an inventory after their count: a type, and a hash.
-pub type Inventory = Times<CompactSize, (U32Le, Octets<32>)>;
+pub type Inventory = Times<CompactSize, (U32Le, OctetArray<32>)>;
 
 /// A payload: an inventory, or any octets.
 pub type Payload = (

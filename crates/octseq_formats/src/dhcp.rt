@@ -2,7 +2,7 @@
 
 use octseq::AsOctets;
 use octseq_format::{
-    Case, Counted, Exactly, Fields, Format, Nothing, Octets, Of, OneOf3, Optional, Others,
+    Case, Const, Counted, Fields, Format, Nothing, OctetArray, Of, OneOf3, Optional, Others,
     Repeated, Rest, Tagged, U8, U16Be, U32Be, Until, Window,
 };
 
@@ -23,8 +23,8 @@ impl<R: AsOctets + Copy> Fields<R> for DhcpOption<R> {
     type Format = Tagged<
         U8,
         (
-            Case<0, Octets<0>>,
-            Case<255, Octets<0>>,
+            Case<0, OctetArray<0>>,
+            Case<255, OctetArray<0>>,
             Others<Counted<U8, Rest, 0>>,
         ),
     >;
@@ -59,9 +59,9 @@ pub type Bootp<R> = (
     (U8, U8, U8, U8),
     (U32Be, U16Be, U16Be),
     (U32Be, U32Be, U32Be, U32Be),
-    Octets<16>,
-    Octets<64>,
-    Octets<128>,
+    OctetArray<16>,
+    OctetArray<64>,
+    OctetArray<128>,
     Optional<Vendor<R>>,
 );
 
@@ -73,9 +73,9 @@ pub type Packet = (
     (U8, U8, U8, U8),
     (U32Be, U16Be, U16Be),
     (U32Be, U32Be, U32Be, U32Be),
-    Octets<16>,
-    Octets<64>,
-    Octets<128>,
-    Exactly<U32Be, 0x6382_5363>,
+    OctetArray<16>,
+    OctetArray<64>,
+    OctetArray<128>,
+    Const<U32Be, 0x6382_5363>,
     (Options, Rest),
 );

@@ -1,8 +1,8 @@
 //! A datagram of IPv4: RFC 791, 3.1.
 
 use octseq_format::{
-    After, Case, Counted, HighFirst, Nothing, Octets, Others, Rest, Scaled, Sized, Split, Tagged,
-    U8, U16Be, UntilOrEnd,
+    After, Case, Counted, HighFirst, Nothing, OctetArray, Others, Rest, Scaled, Sized, Split,
+    Tagged, U8, U16Be, UntilOrEnd,
 };
 
 /// The fields of a header after its version and length: type of service, the total length and an identification; flags
@@ -10,7 +10,7 @@ use octseq_format::{
 pub type Fields = (
     (U8, U16Be, U16Be),
     (U16Be, U8, U8, U16Be),
-    (Octets<4>, Octets<4>),
+    (OctetArray<4>, OctetArray<4>),
 );
 
 /// A header: in one octet, version 4 and the number of words of four octets, which is five and those of the options;

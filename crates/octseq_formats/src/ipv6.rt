@@ -2,7 +2,7 @@
 ghost use Rattle.std.specs.Prelude.{◌≡◌, ◌+◌, ◌*◌, ◌/◌, ◌%◌, ◌⊎◌, min};
 
 use octseq_format::{
-    Any, Case, Counted, Itself, Key, Keyed, Nothing, Octets, Others, Reckoning, Rest, Sized,
+    Any, Case, Counted, Itself, Key, Keyed, Nothing, OctetArray, Others, Reckoning, Rest, Sized,
     Tagged, Test, U8, U16Be, U32Be, When, Where,
 };
 
@@ -22,7 +22,7 @@ impl Test for IsVersion6 {
 /// limit; the addresses of source and destination; and headers and a payload.
 pub type Packet = (
     (Where<U32Be, IsVersion6>, U16Be, U8, U8),
-    (Octets<16>, Octets<16>, Rest),
+    (OctetArray<16>, OctetArray<16>, Rest),
 );
 
 /// The number of an extension header in units of eight octets: hop-by-hop options, routing, and destination options.

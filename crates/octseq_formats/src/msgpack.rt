@@ -2,7 +2,7 @@
 ghost use Rattle.std.specs.Prelude.{◌≡◌, ◌≤◌, ◌%◌, ◌⊎◌};
 
 use octseq_format::{
-    Any, Case, Counted, I8, Itself, Key, Keyed, Nothing, Octets, Reckoning, Rest, Sized, Test,
+    Any, Case, Counted, I8, Itself, Key, Keyed, Nothing, OctetArray, Reckoning, Rest, Sized, Test,
     Through, U8, U16Be, U32Be, U64Be, When,
 };
 
@@ -85,11 +85,11 @@ pub type Fixed = (
 
 /// Extensions of 1, 2, 4, 8 and 16 octets after their type.
 pub type Short = (
-    Case<0xD4, (I8, Octets<1>)>,
-    Case<0xD5, (I8, Octets<2>)>,
-    Case<0xD6, (I8, Octets<4>)>,
-    Case<0xD7, (I8, Octets<8>)>,
-    Case<0xD8, (I8, Octets<16>)>,
+    Case<0xD4, (I8, OctetArray<1>)>,
+    Case<0xD5, (I8, OctetArray<2>)>,
+    Case<0xD6, (I8, OctetArray<4>)>,
+    Case<0xD7, (I8, OctetArray<8>)>,
+    Case<0xD8, (I8, OctetArray<16>)>,
 );
 
 /// A head, with the octets of a string, binary octets or an extension. C1 is none. Whether arrays and maps have their

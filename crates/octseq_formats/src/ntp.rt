@@ -3,7 +3,7 @@
 ghost use Rattle.std.specs.Prelude.{◌≡◌, IfOk};
 
 use octseq::{AsOctets, WriteError};
-use octseq_format::{Bits, Fields, Format, I8, Low, Of, U8, U32Be, U64Be, parse_composed};
+use octseq_format::{Bits, Fields, Format, I8, Of, U8, U32Be, U64Be, UInt, parse_composed};
 use std::alloc::Global;
 
 /// An NTP header.
@@ -33,7 +33,7 @@ pub struct Ntp {
 
 impl<R: AsOctets + Copy> Fields<R> for Ntp {
     type Format = (
-        Bits<U8, (Low<2>, Low<3>, Low<3>)>,
+        Bits<U8, (UInt<2>, UInt<3>, UInt<3>)>,
         U8,
         I8,
         I8,

@@ -3,12 +3,12 @@ ghost use Rattle.std.specs.Prelude.{◌≡◌, ◌<◌};
 ghost use Rattle.octseq_formats.specs.Png.{shifted, stepped, crc};
 
 use octseq_format::{
-    After, Checked, Checksum, Exactly, Octets, Repeated, Rest, Sized, Tagged, Test, U8, U32Be,
+    After, Checked, Checksum, Const, OctetArray, Repeated, Rest, Sized, Tagged, Test, U8, U32Be,
     U64Be, When,
 };
 
 /// The eight octets with which a file begins.
-pub type Signature = Exactly<U64Be, 0x8950_4E47_0D0A_1A0A>;
+pub type Signature = Const<U64Be, 0x8950_4E47_0D0A_1A0A>;
 
 /// The length of a chunk, which is below 2 ^ 31.
 #[derive(Debug)]
@@ -62,7 +62,7 @@ impl Checksum for Crc {
 }
 
 /// A chunk: the length of its data; its type and its data; and the CRC of these two. The value is type and data.
-pub type Chunk = Tagged<U32Be, When<IsLength, Checked<After<Octets<4>, Sized<Rest, 0>>, Crc>>>;
+pub type Chunk = Tagged<U32Be, When<IsLength, Checked<After<OctetArray<4>, Sized<Rest, 0>>, Crc>>>;
 
 /// The data of `IHDR`: width and height; bit depth, colour type, and the methods of compression, filtering and
 /// interlacing.

@@ -1,12 +1,12 @@
 //! A packet of RTP: RFC 3550, 5.1 and 5.3.1. Its first octet decides two parts that come later.
 
 use octseq_format::{
-    After, Bits, Case, Flag, If, IsSet, Low, LowFirst, ManyBy, Nothing, Others, Rest, Split,
-    Tagged, Times, U8, U16Be, U32Be,
+    After, Bits, Case, Flag, If, IsSet, LowFirst, ManyBy, Nothing, Others, Rest, Split, Tagged,
+    Times, U8, U16Be, U32Be, UInt,
 };
 
 /// The fields that each packet has: a marker and the payload's type; a sequence number, a timestamp, and the source.
-pub type Fields = (Bits<U8, (Flag, Low<7>)>, U16Be, U32Be, U32Be);
+pub type Fields = (Bits<U8, (Flag, UInt<7>)>, U16Be, U32Be, U32Be);
 
 /// What a profile says, and words of 32 bits after their count.
 pub type Extension = (U16Be, Times<U16Be, U32Be>);

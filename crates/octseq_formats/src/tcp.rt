@@ -9,7 +9,8 @@ use octseq_format::{
 pub type First = (U16Be, U16Be, U32Be, U32Be);
 
 /// The rest of a header: in two octets, the data offset, which is five words of four octets and those of the options,
-/// and the flags; a window, a checksum and an urgent pointer; and the octets of its options, which tell the data offset.
+/// and the flags; a window, a checksum and an urgent pointer; and the octets of its options, which tell the data
+/// offset.
 pub type Second = Tagged<
     U16Be,
     After<(U16Be, U16Be, U16Be), Split<HighFirst<12>, Scaled<4, Sized<Rest, 20>>, Others<Nothing>>>,

@@ -1,7 +1,7 @@
 //! A TLS record with a ClientHello: RFC 8446, 5.1 and 4.1.2.
 use octseq::AsOctets;
 use octseq_format::{
-    At, Counted, Exactly, Fields, Format, Of, Repeated, Rest, Sized, U8, U16Be, U24Be, Walk, Window,
+    At, Const, Counted, Fields, Format, Of, Repeated, Rest, Sized, U8, U16Be, U24Be, Walk, Window,
 };
 
 /// An extension: its type, and its data with a length prefix.
@@ -73,7 +73,7 @@ impl<R: AsOctets + Copy> Fields<R> for Hello<R> {
 /// A record of type 22 (handshake): a version, and with a length prefix a message of type 1 (ClientHello) that has a
 /// length of its own.
 pub type Record<R> = (
-    Exactly<U8, 22>,
+    Const<U8, 22>,
     U16Be,
-    Counted<U16Be, (Exactly<U8, 1>, Counted<U24Be, Of<Hello<R>>, 0>), 0>,
+    Counted<U16Be, (Const<U8, 1>, Counted<U24Be, Of<Hello<R>>, 0>), 0>,
 );

@@ -2,7 +2,7 @@
 ghost use Rattle.std.specs.Prelude.{◌≤◌};
 
 use octseq_format::{
-    Case, Counted, Exactly, Itself, Key, Leb128, Others, Repeated, Rest, Tagged, Test, U8, U32Be,
+    Case, Const, Counted, Itself, Key, Leb128, Others, Repeated, Rest, Tagged, Test, U8, U32Be,
     U32Le, When,
 };
 
@@ -33,7 +33,7 @@ pub type Section = Tagged<
 >;
 
 /// What a module begins with: a magic number, and the version 1.
-pub type Header = (Exactly<U32Be, 0x0061_736D>, Exactly<U32Le, 1>);
+pub type Header = (Const<U32Be, 0x0061_736D>, Const<U32Le, 1>);
 
 /// A module: its header, and sections. Their order is for the caller to check.
 pub type Module = (Header, Repeated<Section>);

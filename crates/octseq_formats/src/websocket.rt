@@ -2,8 +2,8 @@
 ghost use Rattle.std.specs.Prelude.{◌≡◌, ◌≤◌, ◌+◌, ◌*◌, ◌/◌, ◌%◌, nat_le, if◌then◌else◌};
 
 use octseq_format::{
-    Any, Case, Counted, Itself, Key, Keyed, Octets, Reckoning, Rest, Sized, Test, Then, Through,
-    U8, U16Be, U64Be, When,
+    Any, Case, Counted, Itself, Key, Keyed, OctetArray, Reckoning, Rest, Sized, Test, Then,
+    Through, U8, U16Be, U64Be, When,
 };
 
 /// What a first octet is, as a part of a key: 0 for data (opcodes 0 to 2), 256 for a whole control frame (8 to 10), 512
@@ -67,11 +67,11 @@ impl Test for IsMasked {
 /// a control frame doesn't have; with a key of four octets before it if it is masked.
 pub type Payload = (
     When<IsPlain, Through<Length, Sized<Rest, 0>>>,
-    When<IsMasked, Then<Any<Octets<4>>, Through<Length, Sized<Rest, 0>>>>,
+    When<IsMasked, Then<Any<OctetArray<4>>, Through<Length, Sized<Rest, 0>>>>,
     Case<126, Counted<U16Be, Rest, 0>>,
     Case<127, Counted<U64Be, Rest, 0>>,
-    Case<254, Keyed<(Key<U16Be, Itself>, Octets<4>), Sized<Rest, 0>>>,
-    Case<255, Keyed<(Key<U64Be, Itself>, Octets<4>), Sized<Rest, 0>>>,
+    Case<254, Keyed<(Key<U16Be, Itself>, OctetArray<4>), Sized<Rest, 0>>>,
+    Case<255, Keyed<(Key<U64Be, Itself>, OctetArray<4>), Sized<Rest, 0>>>,
 );
 
 /// A frame: an octet with its opcode, one with its mask and its length, and its payload, which stays masked.

@@ -26,8 +26,8 @@ pub fn protobuf<R: AsOctets + Copy>(fields: &mut Fields, octets: R) -> Result<()
     fields.end()
 }
 
-/// The place of a section of WebAssembly among the others: 12 comes before 10.
-fn place(number: u8) -> u8 {
+/// The rank of a section of WebAssembly among the others: 12 comes before 10.
+fn rank(number: u8) -> u8 {
     match number {
         10 => 11,
         11 => 12,
@@ -66,10 +66,10 @@ pub fn wasm<R: AsOctets + Copy>(fields: &mut Fields, octets: R) -> Result<(), Un
         next::<wasm::Section, R>(&mut parser)?;
         let number = section(fields, between(&before, &parser))?;
         if number != 0 {
-            if place(number) <= last {
+            if rank(number) <= last {
                 return Err(Unshown::Malformed);
             }
-            last = place(number);
+            last = rank(number);
         }
     }
     fields.end()

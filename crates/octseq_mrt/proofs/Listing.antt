@@ -6,7 +6,7 @@ use Rattle.std.proofs.lemmas.List.{flat_map_more}
 use Rattle.std.specs.List.{flat_map}
 use Rattle.std.specs.Prelude.{slice_index}
 use Rattle.octseq.specs.Integer.{octets_be}
-use Rattle.octseq.specs.Limit.{IsPast}
+use Rattle.octseq.specs.Limit.{ExceedsLimit}
 use Rattle.octseq.proofs.Repeats.{each_snoc}
 use Rattle.octseq.proofs.Written.{length_be}
 use Rattle.octseq_bgp.specs.Family.{afi_of}
@@ -27,9 +27,9 @@ use Rattle.octseq_mrt.specs.Written.{FitsRoute, FitsRib}
 three_parts : (a b c : List ℕ) (n m : ℕ) → n ≡ length a → m ≡ length b
     → (take n (a ++ (b ++ c)) ≡ a) × (drop (n + m) (a ++ (b ++ c)) ≡ c)
 three_parts a b c n m front middle =
-    let place : n + m ≡ length (a ++ b) = omega (arith, front, middle, length-append a b) in
+    let offset : n + m ≡ length (a ++ b) = omega (arith, front, middle, length-append a b) in
     let first = ap (λ n. take n (a ++ (b ++ c))) front ∙ take-append_seam a (b ++ c) in
-    let last = ap (λ n. drop n (a ++ (b ++ c))) place ∙ ap (drop (length (a ++ b))) (sym (append_assoc a b c)) in
+    let last = ap (λ n. drop n (a ++ (b ++ c))) offset ∙ ap (drop (length (a ++ b))) (sym (append_assoc a b c)) in
     (first, last ∙ drop-append_seam (a ++ b) c)
 
 module _ {A Fits : Type 0} {item : A → List ℕ} {head : List ℕ} {items : List A} {content more : List ℕ} {at count : ℕ}
@@ -56,7 +56,7 @@ module _ {A Fits : Type 0} {item : A → List ℕ} {head : List ℕ} {items : Li
   unfolding all
   listed_more {new = new} {n = n} fits next few made =
       let c = octets_be 2 (length items) in
-      let parts = three_parts head c all at 2 is.place (sym (length_be 2 (length items))) in
+      let parts = three_parts head c all at 2 is.offset (sym (length_be 2 (length items))) in
       let long = length-append items (one ∷ []) in
       let before = is.many in
       let up = next.0 in
@@ -66,29 +66,30 @@ module _ {A Fits : Type 0} {item : A → List ℕ} {head : List ℕ} {items : Li
       ∙ ap (λ after. head ++ (octets_be 2 (count + 1) ++ after)) parts.1
       ∙ ap (λ n. head ++ (octets_be 2 n ++ all)) (sym up ∙ many) in
       let size = ap length put in
-      record { fits = fits; octets = put; place = is.place; many = many; few = omega (arith, few, size, listed_long) }
+      record { fits = fits; octets = put; offset = is.offset; many = many; few = omega (arith, few, size, listed_long) }
 
 -- the count is among the octets
 pub listed_place : {A Fits : Type 0} {item : A → List ℕ} {head : List ℕ} {items : List A} {content : List ℕ}
     {at count : ℕ} → IsListed Fits item head items content at count → at + 2 ≤ length content
 listed_place is =
-    let place = is.place in
-    omega (arith, ap length is.octets, place, length-append {A = ℕ}, length_be)
+    let offset = is.offset in
+    omega (arith, ap length is.octets, offset, length-append {A = ℕ}, length_be)
 
 -- a list without items, after a head of three parts
 pub listed_none : {A Fits : Type 0} (item : A → List ℕ) (a b c content : List ℕ) (at : ℕ) → Fits
     → content ≡ a ++ (b ++ (c ++ (0 ∷ 0 ∷ []))) → at ≡ length a + (length b + length c) → length content ≤ 4294967295
     → IsListed Fits item (a ++ (b ++ c)) [] content at 0
 unfolding octets_be
-listed_none item a b c content at fits octets place few =
-    let long : at ≡ length (a ++ (b ++ c)) = omega (arith, place, length-append {A = ℕ}) in
-    record { fits = fits; octets = octets ∙ simp append_assoc; place = long; many = refl; few = few }
+listed_none item a b c content at fits octets offset few =
+    let long : at ≡ length (a ++ (b ++ c)) = omega (arith, offset, length-append {A = ℕ}) in
+    record { fits = fits; octets = octets ∙ simp append_assoc; offset = long; many = refl; few = few }
 
 -- a refusal, by the number of items and of octets
-pub refused_by : {S : Type 0} (limit : Option ℕ) {a b m n : ℕ} → a ≡ b → m ≡ n → S ↔ (65535 ≤ a) ⊎ IsPast limit m
-    → S ↔ (65535 ≤ b) ⊎ IsPast limit n
+pub refused_by : {S : Type 0} (limit : Option ℕ) {a b m n : ℕ} → a ≡ b → m ≡ n → S ↔ (65535 ≤ a) ⊎ ExceedsLimit limit m
+    → S ↔ (65535 ≤ b) ⊎ ExceedsLimit limit n
 refused_by {S = S} limit {a = a} {n = n} many long is =
-    subst (λ b. S ↔ (65535 ≤ b) ⊎ IsPast limit n) many (subst (λ n. S ↔ (65535 ≤ a) ⊎ IsPast limit n) long is)
+    subst (λ b. S ↔ (65535 ≤ b) ⊎ ExceedsLimit limit n) many
+    (subst (λ n. S ↔ (65535 ≤ a) ⊎ ExceedsLimit limit n) long is)
 
 -- ---- tables and RIBs
 

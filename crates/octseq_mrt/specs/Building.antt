@@ -55,14 +55,14 @@ address_bits family = most_bits (afi_of family)
 abbrev pub FitsPrefix : AfiSafiType → Prefix → Type 0
 FitsPrefix family p = (p.afi ≡ afi_of family) × (p.len ≤ most_bits p.afi)
 
--- ---- the octets, and the place of the count
+-- ---- the octets, and the offset of the count
 
--- The content is a list after its head, and what it says fits. This is the place of its count.
+-- The content is a list after its head, and what it says fits. This is the offset of its count.
 pub record IsListed {A : Type 0} (Fits : Type 0) (item : A → List ℕ) (head : List ℕ) (items : List A)
     (content : List ℕ) (at count : ℕ) : Type 0 where
   pub fits : Fits
   pub octets : content ≡ head ++ list_octets item items
-  pub place : at ≡ length head
+  pub offset : at ≡ length head
   pub many : count ≡ length items
   pub few : length content ≤ 4294967295
 
@@ -76,8 +76,9 @@ abbrev pub RibWritten : ℕ → Bool → List ℕ → ℕ → ℕ → Type 0
 RibWritten most paths content at count =
     (r : Routes) × IsListed (FitsRib most (FitsRoute paths) r) route_octets (rib_head r) r.entries content at count
 
--- ---- of one only
+-- ---- lemmas: proved below this line, so what the words mean is read above it
 
+-- ---- of one only
 fits_family_once : (afi : Afi) (a : Address) → IsProp (FitsFamily afi a)
 fits_family_once addresses.Ipv4 (Address.ipv4 octets) = Prim.hlevel props
 fits_family_once _ (Address.ipv6 segments) = Prim.hlevel props
@@ -88,13 +89,13 @@ fits_optional_once has None = Prim.hlevel props
 fits_optional_once has (Some n) = Prim.hlevel props
 
 -- two are the same if their octets are
-pub same_table : {c d : List ℕ} {at place m n : ℕ} (a : TableWritten c at m) (b : TableWritten d place n) → c ≡ d
+pub same_table : {c d : List ℕ} {at offset m n : ℕ} (a : TableWritten c at m) (b : TableWritten d offset n) → c ≡ d
     → a.0 ≡ b.0
 same_table a b same =
     one_said one_table table_read_back a.0 b.0 a.1.fits b.1.fits (sym a.1.octets ∙ same ∙ b.1.octets)
 
-pub same_rib : {most : ℕ} {paths : Bool} {c d : List ℕ} {at place m n : ℕ} (a : RibWritten most paths c at m)
-    (b : RibWritten most paths d place n) → c ≡ d → a.0 ≡ b.0
+pub same_rib : {most : ℕ} {paths : Bool} {c d : List ℕ} {at offset m n : ℕ} (a : RibWritten most paths c at m)
+    (b : RibWritten most paths d offset n) → c ≡ d → a.0 ≡ b.0
 same_rib {most = most} {paths = paths} a b same =
     one_said (one_routes (one_entry_parts paths) most) (routes_read_back (delimited_route paths) most) a.0 b.0 a.1.fits
     b.1.fits (sym a.1.octets ∙ same ∙ b.1.octets)

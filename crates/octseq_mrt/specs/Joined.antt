@@ -4,7 +4,7 @@ use Rattle.std.specs.Prelude.{List, ◌++◌, length, take, drop}
 use Rattle.std.specs.Borrow.{Bor}
 use Rattle.std.specs.List.{flat_map}
 use Rattle.octseq.specs.Integer.{octets_be}
-use Rattle.octseq.specs.Limit.{IsPast}
+use Rattle.octseq.specs.Limit.{ExceedsLimit}
 use Rattle.octseq.specs.Refusal.{IsShort, IsMemory, append_error}
 use Rattle.octseq.specs.declared.AppendError.{AppendError}
 
@@ -12,7 +12,7 @@ use Rattle.octseq.specs.declared.AppendError.{AppendError}
 abbrev pub joined : List (Bor (List ℕ)) → List ℕ
 joined parts = flat_map (λ part. part.now) parts
 
--- a number is written over the two octets at a place
+-- a number is written over the two octets at an offset
 abbrev pub with_count : ℕ → ℕ → List ℕ → List ℕ
 with_count at n content = take at content ++ (octets_be 2 n ++ drop (at + 2) content)
 
@@ -28,5 +28,6 @@ pub record AppendsBody (limit : Option ℕ) (asks : Bool) (result : Result (Unit
   pub ok : OnOk result (new ≡ old ++ octets)
   pub few : OnOk result (length octets ≤ 4294967295)
   pub err : OnErr result (new ≡ old)
-  pub short : IsShort append_error result ↔ (4294967295 < length octets) ⊎ IsPast limit (length old + length octets)
+  pub short : IsShort append_error result ↔ (4294967295 < length octets)
+      ⊎ ExceedsLimit limit (length old + length octets)
   pub memory : IsMemory append_error result → asks ≡ true

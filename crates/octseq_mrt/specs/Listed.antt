@@ -14,7 +14,7 @@ use Rattle.octseq_mrt.specs.OneListed.{one_peer, peer_moves, one_rib_entry, rib_
 use Rattle.octseq_mrt.specs.Peer.{IsPeer}
 use Rattle.octseq_mrt.specs.Rib.{IsRibEntry}
 
--- At most one such value is at a place, and it takes at least one octet. Lists of them are equal in at most one way.
+-- At most one such value is at an offset, and it takes at least one octet. Lists of them are equal in at most one way.
 pub record AreListed {A : Type 0} (Is : Relation A) : Type 0 where
   pub set : IsSet (List A)
   pub one : IsOne Is
@@ -23,6 +23,17 @@ pub record AreListed {A : Type 0} (Is : Relation A) : Type 0 where
 -- values that fill the window
 abbrev pub AllAhead : {A : Type 0} → Relation A → Window → Type 0
 AllAhead {A} Is w = (row : List A) × ∥ Fills Is w row ∥₁
+
+abbrev pub PeersAhead : Window → Type 0
+PeersAhead w = AllAhead IsPeer w
+
+abbrev pub AttributesAhead : Window → Type 0
+AttributesAhead w = AllAhead IsAttribute w
+
+abbrev pub EntriesAhead : Bool → Window → Type 0
+EntriesAhead paths w = AllAhead (IsRibEntry paths) w
+
+-- ---- lemmas: proved below this line, so what the words mean is read above it
 
 pub ahead_once : {A : Type 0} {Is : Relation A} → AreListed Is → (w : Window) → IsProp (AllAhead Is w)
 ahead_once listed w a b = Σ_prop_path (λ row. ∥∥₁_prop) (∥∥₁_elim a.1 (listed.set a.0 b.0) (λ x.
@@ -37,20 +48,11 @@ attributes_listed = record { set = Prim.hlevel props; one = one_attribute; moves
 pub entries_listed : (paths : Bool) → AreListed (IsRibEntry paths)
 entries_listed paths = record { set = Prim.hlevel props; one = one_rib_entry paths; moves = rib_entry_moves paths }
 
-abbrev pub PeersAhead : Window → Type 0
-PeersAhead w = AllAhead IsPeer w
-
 pub peers_once : (w : Window) → IsProp (PeersAhead w)
 peers_once w = ahead_once peers_listed w
 
-abbrev pub AttributesAhead : Window → Type 0
-AttributesAhead w = AllAhead IsAttribute w
-
 pub attributes_once : (w : Window) → IsProp (AttributesAhead w)
 attributes_once w = ahead_once attributes_listed w
-
-abbrev pub EntriesAhead : Bool → Window → Type 0
-EntriesAhead paths w = AllAhead (IsRibEntry paths) w
 
 pub entries_once : (paths : Bool) (w : Window) → IsProp (EntriesAhead paths w)
 entries_once paths w = ahead_once (entries_listed paths) w

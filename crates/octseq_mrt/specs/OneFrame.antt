@@ -9,6 +9,8 @@ use Rattle.octseq_mrt.specs.Records.{record_length, IsRecordOctets}
 use Rattle.octseq_mrt.specs.declared.header.CommonHeader.{CommonHeader}
 use Rattle.octseq_stream.proofs.Headers.{range_of_front}
 
+-- ---- lemmas: proved below this line, so what the words mean is read above it
+
 -- a header and as many octets as it says
 pub record_octets : (octets : List ℕ) → length octets ≡ 12 + record_length octets → IsRecordOctets octets
 record_octets octets all =

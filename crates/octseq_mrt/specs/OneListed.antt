@@ -1,4 +1,4 @@
--- At most one peer, and one RIB entry, is at a place, with one end, and it takes at least one octet.
+-- At most one peer, and one RIB entry, is at an offset, with one end, and it takes at least one octet.
 use Rattle.std.specs.Prelude.{ℕ, Bool, Option, List, refl}
 use Rattle.std.proofs.Common.{ap, ◌∙◌, subst, arith}
 use Rattle.std.specs.Net.Addr.{segments_of}
@@ -22,8 +22,24 @@ use Rattle.octseq_mrt.specs.Address.{Address, IsAddress, IsOptional}
 use Rattle.octseq_mrt.specs.Peer.{Peer, IsPeer, peer_family, has_wide_asn}
 use Rattle.octseq_mrt.specs.Rib.{RibEntry, HasEntryParts, IsRibEntry}
 
--- ---- addresses and optional numbers
+-- ---- peers
+abbrev pub peer_parts : Peer → ℕ × (ℕ × (Address × ℕ))
+peer_parts p = (p.peer_type, (p.bgp_id, (p.addr, p.asn)))
 
+abbrev pub peer_from : ℕ × (ℕ × (Address × ℕ)) → Peer
+peer_from parts = record { peer_type = parts.0; bgp_id = parts.1.0; addr = parts.1.1.0; asn = parts.1.1.1 }
+
+-- the parts of an entry, and the window of its attributes
+abbrev pub entry_parts : RibEntry → Window → ℕ × (ℕ × (Option ℕ × Window))
+entry_parts e octets = (e.peer_index, (e.originated_time, (e.path_id, octets)))
+
+-- an entry of these parts, with these attributes
+abbrev pub entry_from : ℕ × (ℕ × (Option ℕ × Window)) → List Attribute → RibEntry
+entry_from p row = record { peer_index = p.0; originated_time = p.1.0; path_id = p.1.1.0; attributes = row }
+
+-- ---- lemmas: proved below this line, so what the words mean is read above it
+
+-- ---- addresses and optional numbers
 pub one_address : (afi : Afi) → IsOne (IsAddress afi)
 one_address addresses.Ipv4 = one_fixed 4 Address.ipv4
 one_address addresses.Ipv6 = one_fixed 16 (λ octets. Address.ipv6 (segments_of octets))
@@ -37,14 +53,6 @@ one_optional has = one_if (λ _. has) (IsNumber 4) (one_number 4) 0
 
 pub onward_optional : (has : Bool) → IsOnward 0 (IsOptional has)
 onward_optional has = onward_if (λ _. has) (IsNumber 4) (onward_number 4) 0
-
--- ---- peers
-
-abbrev pub peer_parts : Peer → ℕ × (ℕ × (Address × ℕ))
-peer_parts p = (p.peer_type, (p.bgp_id, (p.addr, p.asn)))
-
-abbrev pub peer_from : ℕ × (ℕ × (Address × ℕ)) → Peer
-peer_from parts = record { peer_type = parts.0; bgp_id = parts.1.0; addr = parts.1.1.0; asn = parts.1.1.1 }
 
 pub one_peer : IsOne IsPeer
 one_peer = one_by peer_parts peer_from (λ _. refl) (one_deciding (one_number 1) (λ kind. one_number 4
@@ -60,17 +68,8 @@ peer_moves = record {
 }
 
 -- ---- entries
-
 pub one_entry_parts : (paths : Bool) → IsOne (HasEntryParts paths)
 one_entry_parts paths = one_number 2 one_then one_number 4 one_then one_optional paths one_then one_octets 2
-
--- the parts of an entry, and the window of its attributes
-abbrev pub entry_parts : RibEntry → Window → ℕ × (ℕ × (Option ℕ × Window))
-entry_parts e octets = (e.peer_index, (e.originated_time, (e.path_id, octets)))
-
--- an entry of these parts, with these attributes
-abbrev pub entry_from : ℕ × (ℕ × (Option ℕ × Window)) → List Attribute → RibEntry
-entry_from p row = record { peer_index = p.0; originated_time = p.1.0; path_id = p.1.1.0; attributes = row }
 
 pub one_rib_entry : (paths : Bool) → IsOne (IsRibEntry paths)
 one_rib_entry paths = record {

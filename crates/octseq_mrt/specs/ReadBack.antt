@@ -1,4 +1,4 @@
--- What records say, without places, and records that say what was written.
+-- What records say, without offsets, and records that say what was written.
 use Rattle.std.specs.Prelude.{◌≡◌, ℕ, is_some, if◌then◌else◌, List, map}
 use Rattle.std.specs.List.{AllByRecursion}
 use Rattle.octseq.specs.Window.{Window, rest, whole}

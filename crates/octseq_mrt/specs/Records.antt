@@ -19,5 +19,5 @@ abbrev pub BeginsWithRecord : List ℕ → Type 0
 BeginsWithRecord octets = HasFront IsRecordOctets (λ octets. octets) octets
 
 -- octets at the end of a file that aren't a whole record: at least one, and no record is at their front
-abbrev pub IsCut : List ℕ → Type 0
-IsCut octets = (0 < length octets) × ¬ BeginsWithRecord octets
+abbrev pub IsRecordCut : List ℕ → Type 0
+IsRecordCut octets = (0 < length octets) × ¬ BeginsWithRecord octets

@@ -1,4 +1,4 @@
--- What records that are written say, without places, and their octets: RFC 6396, 2 and 4, and RFC 8050, 3 and 4.
+-- What records that are written say, without offsets, and their octets: RFC 6396, 2 and 4, and RFC 8050, 3 and 4.
 use Rattle.std.specs.Prelude.{◌≡◌, ℕ, ◌<◌, ◌≤◌, ◌^◌, Bool, true, false, Option, is_some, slice_index}
 use Rattle.std.specs.Prelude.{List, ◌++◌, length}
 use Rattle.std.specs.List.{AllByRecursion, flat_map}

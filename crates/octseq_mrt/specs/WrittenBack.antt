@@ -11,7 +11,7 @@ use Rattle.octseq_format.specs.Counted.{Counted, Times, delimited_counted, one_t
 use Rattle.octseq_format.specs.Family.{delimited_sized, delimited_when, many_read_back}
 use Rattle.octseq_format.specs.Fixed.{IsFixed, delimited_fixed}
 use Rattle.octseq_format.specs.Integers.{are_be}
-use Rattle.octseq_format.specs.Laws.{Relation, Takes, IsOne, IsReadBack, IsDelimited}
+use Rattle.octseq_format.specs.Laws.{Relation, TakesOctets, IsOne, IsReadBack, IsDelimited}
 use Rattle.octseq_format.specs.Optional.{optional_octets}
 use Rattle.octseq_format.specs.Pair.{◌then◌, ◌also◌, ◌delimited_then◌, ◌back_then◌, ◌one_then◌, both_say, both_octets}
 use Rattle.octseq_format.specs.Rest.{rest_read_back}
@@ -30,6 +30,25 @@ use Rattle.octseq_mrt.specs.Rib.{HasEntryParts}
 use Rattle.octseq_mrt.specs.Written.{address_octets, FitsFamily, FitsOptional, peer_octets, FitsPeer, PeerTable}
 use Rattle.octseq_mrt.specs.Written.{peer_table_octets, FitsPeerTable, Route, route_octets, FitsRoute, Routes}
 use Rattle.octseq_mrt.specs.Written.{rib_octets, FitsRib}
+
+-- a table, by its parts
+abbrev pub table_of : ℕ × (List ℕ × List Peer) → PeerTable
+table_of s = record { collector_bgp_id = s.0; view_name = s.1.0; peers = s.1.1 }
+
+-- what a table says
+abbrev pub table_said : ℕ × (Window × List Peer) → PeerTable
+table_said t = table_of (t.0, (rest t.1.0, map (λ p. p) t.1.1))
+
+-- ---- RIBs
+
+-- an entry, by its parts
+abbrev pub route_of : ℕ × (ℕ × (Option ℕ × List ℕ)) → Route
+route_of s = record { peer_index = s.0; originated_time = s.1.0; path_id = s.1.1.0; attributes = s.1.1.1 }
+
+abbrev routes_of : ℕ × ((ℕ × List ℕ) × List Route) → Routes
+routes_of s = record { sequence = s.0; bits = s.1.0.0; prefix = s.1.0.1; entries = s.1.1 }
+
+-- ---- lemmas: proved below this line, so what the words mean is read above it
 
 -- ---- of any formats
 
@@ -76,7 +95,6 @@ delimited_deciding {Second = Second} {first = first} {second = second} one two =
 }
 
 -- ---- numbers, octets after their length, addresses
-
 pub delimited_number : (k : ℕ) → IsDelimited (IsNumber k) (λ n. n) (octets_be k) (λ n. n < 256 ^ k)
 delimited_number k = delimited_fixed (are_be k)
 
@@ -88,7 +106,7 @@ delimited_part {Is = Is} {says = says} {octets = octets} k back = record {
   next = λ w s more fits is.
       let few = fits.1 in
       let same = counted_is k octets s in
-      subst (λ o. Takes (Counted k 0 Is) says w s (length o)) same
+      subst (λ o. TakesOctets (Counted k 0 Is) says w s (length o)) same
       ((delimited_counted {k = k} {extra = 0} back).next w s more
       (record { tag_fits = omega (arith, few); inside = record { inside = fits.0; many = refl } })
       (is ∙ ap (λ o. o ++ more) (sym same)));
@@ -112,7 +130,7 @@ octets_long (s ∷ segments) = omega (arith, octets_long segments)
 
 -- the octets of an address are as many as its family says, and are read as it
 fixed_next : {A : Type 0} (reading : List ℕ → A) (w : Window) (a : A) (octets more : List ℕ) (k : ℕ) → length octets ≡ k
-    → reading octets ≡ a → rest w ≡ octets ++ more → Takes (IsFixed k reading) (λ a. a) w a (length octets)
+    → reading octets ≡ a → rest w ≡ octets ++ more → TakesOctets (IsFixed k reading) (λ a. a) w a (length octets)
 fixed_next reading w a octets more k long back is =
     let come = front_comes_next w octets more k is long in
     record { it = a; tells = refl; is = (come.0, sym back ∙ ap reading (sym come.1), ap (λ n. past n w) long) }
@@ -120,7 +138,7 @@ fixed_next reading w a octets more k long back is =
 pub delimited_address : (afi : Afi) → IsDelimited (IsAddress afi) (λ a. a) address_octets (FitsFamily afi)
 delimited_address afi = record { next = next afi } where
   next : (afi : Afi) (w : Window) (a : Address) (more : List ℕ) → FitsFamily afi a → rest w ≡ address_octets a ++ more
-      → Takes (IsAddress afi) (λ a. a) w a (length (address_octets a))
+      → TakesOctets (IsAddress afi) (λ a. a) w a (length (address_octets a))
   next addresses.Ipv4 w (Address.ipv4 octets) more fits is = fixed_next Address.ipv4 w _ octets more 4 fits refl is
   next addresses.Ipv6 w (Address.ipv6 segments) more fits is =
       let many = fits.0 in
@@ -134,14 +152,13 @@ pub delimited_optional : (has : Bool)
 delimited_optional has = record { next = next } where
   next : (w : Window) (n : Option ℕ) (more : List ℕ) → FitsOptional has n
       → rest w ≡ optional_octets (octets_be 4) n ++ more
-      → Takes (IsOptional has) (λ n. n) w n (length (optional_octets (octets_be 4) n))
+      → TakesOctets (IsOptional has) (λ n. n) w n (length (optional_octets (octets_be 4) n))
   next w None more fits is = record { it = None; tells = refl; is = (fits, ap (λ p. at p w) (omega arith)) }
   next w (Some n) more fits is =
       let taken = (delimited_number 4).next w n more fits.1 is in
       record { it = Some taken.it; tells = ap Some taken.tells; is = (fits.0, taken.is) }
 
 -- ---- peer index tables
-
 delimited_peer : IsDelimited IsPeer (λ p. p) peer_octets FitsPeer
 unfolding both_say both_octets
 delimited_peer = record {
@@ -153,14 +170,6 @@ delimited_peer = record {
       record { it = peer_from taken.it; tells = ap peer_from taken.tells; is = taken.is };
 }
 
--- a table, by its parts
-abbrev pub table_of : ℕ × (List ℕ × List Peer) → PeerTable
-table_of s = record { collector_bgp_id = s.0; view_name = s.1.0; peers = s.1.1 }
-
--- what a table says
-abbrev pub table_said : ℕ × (Window × List Peer) → PeerTable
-table_said t = table_of (t.0, (rest t.1.0, map (λ p. p) t.1.1))
-
 pub table_read_back : IsReadBack IsTable table_said peer_table_octets FitsPeerTable
 unfolding both_say both_octets
 table_read_back = back_from (λ (t : PeerTable). (t.collector_bgp_id, (t.view_name, t.peers))) table_of (λ _. refl)
@@ -169,12 +178,6 @@ table_read_back = back_from (λ (t : PeerTable). (t.collector_bgp_id, (t.view_na
     (λ t. append_assoc (octets_be 4 t.collector_bgp_id) (part_of 2 t.view_name) _)
     (delimited_number 4 back_then delimited_octets 2 back_then tagged_read_back {tag = length} (delimited_number 2)
     (many_read_back delimited_peer))
-
--- ---- RIBs
-
--- an entry, by its parts
-abbrev pub route_of : ℕ × (ℕ × (Option ℕ × List ℕ)) → Route
-route_of s = record { peer_index = s.0; originated_time = s.1.0; path_id = s.1.1.0; attributes = s.1.1.1 }
 
 -- whose attributes haven't been read
 pub delimited_route : (paths : Bool) → IsDelimited (HasEntryParts paths)
@@ -188,9 +191,6 @@ delimited_route paths = record {
       (fit fits.peer_index (fit fits.originated_time (fit fits.path_id (tt, fits.attributes)))) is in
       record { it = taken.it; tells = ap route_of taken.tells; is = taken.is };
 }
-
-abbrev routes_of : ℕ × ((ℕ × List ℕ) × List Route) → Routes
-routes_of s = record { sequence = s.0; bits = s.1.0.0; prefix = s.1.0.1; entries = s.1.1 }
 
 -- RIBs, by what their entries are read as
 module _ {A : Type 0} {Is : Relation A} {says : A → Route} {Fits : Route → Type 0}
@@ -209,7 +209,6 @@ module _ {A : Type 0} {Is : Relation A} {says : A → Route} {Fits : Route → T
       back_then tagged_read_back {tag = length} (delimited_number 2) (many_read_back delimited))
 
 -- ---- at most one
-
 pub one_table : IsOne IsTable
 one_table = one_number 4 one_then one_octets 2 one_then one_times 2 IsPeer one_peer
 

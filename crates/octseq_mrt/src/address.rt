@@ -10,7 +10,7 @@ ghost use Rattle.octseq_mrt.specs.Address.{address_of, IsAddress, IsFamily, IsOp
 use octseq::{AsOctets, Malformed, Parser};
 use octseq_bgp::attribute::Asn;
 use octseq_bgp::family::Afi;
-use octseq_format::{Format, Octets, U16Be, U32Be};
+use octseq_format::{Format, OctetArray, U16Be, U32Be};
 use std::net::{IpAddr, Ipv4Addr, Ipv6Addr};
 
 /// Reads the next address of a family.
@@ -23,11 +23,11 @@ pub(crate) fn parse_address<R: AsOctets + Copy>(
 {
     match afi {
         Afi::Ipv4 => {
-            let octets = <Octets<4> as Format<R>>::parse(parser)?;
+            let octets = <OctetArray<4> as Format<R>>::parse(parser)?;
             Ok(IpAddr::V4(Ipv4Addr::from_octets(octets)))
         }
         Afi::Ipv6 => {
-            let octets = <Octets<16> as Format<R>>::parse(parser)?;
+            let octets = <OctetArray<16> as Format<R>>::parse(parser)?;
             Ok(IpAddr::V6(Ipv6Addr::from_octets(octets)))
         }
     }

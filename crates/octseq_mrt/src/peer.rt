@@ -136,7 +136,7 @@ impl<R: AsOctets + Copy> Iterator for Peers<R> {
 }
 
 /// Reads `count` peers, and counts a turn for each.
-fn pass_peers<R: AsOctets + Copy>(
+fn skip_peers<R: AsOctets + Copy>(
     parser: &mut Parser<R>,
     count: u16,
     turns: &mut Turns,
@@ -200,7 +200,7 @@ impl<R: AsOctets + Copy> PeerIndexTable<R> {
             U16Be,
         ) as Format<R>>::parse(&mut ahead)?;
         let first = ahead;
-        pass_peers(&mut ahead, count, turns)?;
+        skip_peers(&mut ahead, count, turns)?;
         if ahead.remaining() > 0 {
             return Err(Malformed);
         }

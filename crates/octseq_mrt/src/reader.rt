@@ -4,7 +4,7 @@ ghost use Rattle.std.specs.Prelude.{IfOk, IsErr, OnErr, Ok, Err};
 ghost use Rattle.std.specs.Io.KnownBytes.{Consumes, IsAtEnd};
 ghost use Rattle.std.proofs.Common.{rules};
 ghost use Rattle.octseq_mrt.specs.RecordReader.{reader_of, octets_of, is_over};
-ghost use Rattle.octseq_mrt.specs.Records.{IsRecordOctets, BeginsWithRecord, IsCut, record_length};
+ghost use Rattle.octseq_mrt.specs.Records.{IsRecordOctets, BeginsWithRecord, IsRecordCut, record_length};
 
 use crate::record::Record;
 use octseq::{Malformed, Parser};
@@ -81,7 +81,7 @@ pub fn read_record<R: Read>(reader: &mut R, octets: &mut Vec<u8>) -> Result<bool
         × Consumes (R.remaining reader.old) (R.remaining reader.new) octets.new.items }
     ensures end { result ≡ Ok false → Consumes (R.remaining reader.old) (R.remaining reader.new) []
         × IsAtEnd (R.remaining reader.new) }
-    ensures short { result ≡ Err RecordError.Short → (read : List ℕ) × IsCut read
+    ensures short { result ≡ Err RecordError.Short → (read : List ℕ) × IsRecordCut read
         × Consumes (R.remaining reader.old) (R.remaining reader.new) read × IsAtEnd (R.remaining reader.new) }
     ensures malformed { result ≢ Err RecordError.Malformed }
     ensures err { OnErr result ((read : List ℕ) × ¬ BeginsWithRecord read
@@ -139,7 +139,7 @@ impl<R: Read> RecordReader<R> {
             × Consumes (R.remaining (reader_of self.old)) (R.remaining (reader_of self.new)) (octets_of self.new) }
         ensures end { result ≡ Ok false → is_over self.old ≡ false → Consumes (R.remaining (reader_of self.old))
             (R.remaining (reader_of self.new)) [] × IsAtEnd (R.remaining (reader_of self.new)) }
-        ensures short { result ≡ Err RecordError.Short → (read : List ℕ) × IsCut read
+        ensures short { result ≡ Err RecordError.Short → (read : List ℕ) × IsRecordCut read
             × Consumes (R.remaining (reader_of self.old)) (R.remaining (reader_of self.new)) read
             × IsAtEnd (R.remaining (reader_of self.new)) }
         ensures malformed { result ≢ Err RecordError.Malformed }

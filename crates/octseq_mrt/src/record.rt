@@ -153,8 +153,7 @@ impl<R: AsOctets + Copy> Record<R> {
         let Some(kind) = RecordKind::from_numbers(self.header.type_code, self.header.subtype) else {
             return Err(Malformed);
         };
-        let value = RecordValue::parse_counted(self.octets, kind, turns)?;
-        Ok(value)
+        RecordValue::parse_counted(self.octets, kind, turns)
     }
 
     /// Returns the value by its type and subtype, or else opaque octets. It requests no memory.

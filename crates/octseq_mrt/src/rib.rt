@@ -76,7 +76,7 @@ impl<R: AsOctets + Copy> EntryParts<R> {
 }
 
 /// Reads an entry, and counts a turn for each of its attributes.
-fn pass_entry<R: AsOctets + Copy>(
+fn skip_entry<R: AsOctets + Copy>(
     parser: &mut Parser<R>,
     paths: bool,
     turns: &mut Turns,
@@ -159,7 +159,7 @@ impl<R: AsOctets + Copy> Iterator for RibEntries<R> {
 }
 
 /// Reads `count` entries, and counts a turn for each and for each of its attributes.
-fn pass_entries<R: AsOctets + Copy>(
+fn skip_entries<R: AsOctets + Copy>(
     parser: &mut Parser<R>,
     paths: bool,
     count: u16,
@@ -174,7 +174,7 @@ fn pass_entries<R: AsOctets + Copy>(
     ensures turns { turns.new ≤ turns.old + left (window parser.old) }
 {
     for taken in 0..count {
-        pass_entry(parser, paths, turns)?;
+        skip_entry(parser, paths, turns)?;
         turns.tick();
     }
     Ok(())
@@ -243,7 +243,7 @@ impl<R: AsOctets + Copy> Rib<R> {
         let mut ahead = parser;
         let (sequence, (len, octets), count) = parse_head(&mut ahead, family.afi())?;
         let first = ahead;
-        pass_entries(&mut ahead, paths, count, turns)?;
+        skip_entries(&mut ahead, paths, count, turns)?;
         if ahead.remaining() > 0 {
             return Err(Malformed);
         }

@@ -2,7 +2,7 @@
 ghost use Rattle.std.specs.Prelude.{◌≡◌, ◌<◌, ◌≤◌, ◌++◌, ℕ, List, length, OnOk, Err};
 ghost use Rattle.std.specs.Io.KnownBytes.{Appends};
 ghost use Rattle.octseq.specs.Integer.{octets_be};
-ghost use Rattle.octseq.specs.Parts.{IsFront};
+ghost use Rattle.octseq.specs.Parts.{StartsWith};
 ghost use Rattle.octseq_mrt.specs.Kind.{kind_type, kind_subtype};
 ghost use Rattle.octseq_mrt.specs.RecordWriter.{writer_of};
 ghost use Rattle.octseq_mrt.specs.Written.{record_octets};
@@ -45,7 +45,7 @@ impl<W: Write> RecordWriter<W> {
         ensures refused { 4294967295 < length octets.now
             → (result ≡ Err WriteRecordError.TooLong) × (self.new ≡ self.old) }
         ensures front { (front : List ℕ)
-            × IsFront front (record_octets timestamp (kind_type kind) (kind_subtype kind) octets.now)
+            × StartsWith front (record_octets timestamp (kind_type kind) (kind_subtype kind) octets.now)
             × Appends (W.contents (writer_of self.old)) (W.contents (writer_of self.new)) front }
     {
         self.write_raw(timestamp, kind.type_code(), kind.subtype(), octets)
@@ -69,7 +69,7 @@ impl<W: Write> RecordWriter<W> {
         ensures long { result ≡ Err WriteRecordError.TooLong → 4294967295 < length octets.now }
         ensures refused { 4294967295 < length octets.now
             → (result ≡ Err WriteRecordError.TooLong) × (self.new ≡ self.old) }
-        ensures front { (front : List ℕ) × IsFront front (record_octets timestamp type_code subtype octets.now)
+        ensures front { (front : List ℕ) × StartsWith front (record_octets timestamp type_code subtype octets.now)
             × Appends (W.contents (writer_of self.old)) (W.contents (writer_of self.new)) front }
     {
         let Ok(len) = u32::try_from(octets.len()) else {

@@ -7,7 +7,7 @@ use Rattle.std.specs.Io.KnownBytes.{Appends}
 use Rattle.std.specs.Prelude.{slice_range}
 use Rattle.octseq.specs.Integer.{octets_be}
 use Rattle.octseq.specs.Part.{part_of}
-use Rattle.octseq.specs.Parts.{IsFront}
+use Rattle.octseq.specs.Parts.{StartsWith}
 
 -- A front of the octets was written, and the rest is left.
 pub record IsWritten (before now : Option (List ℕ)) (octets rest : List ℕ) : Type 0 where
@@ -32,16 +32,16 @@ written_more before mid after octets rest n so_far appended =
     }
 
 -- a front of a message's length is a front of its frame
-pub front_of_length : (message front : List ℕ) → IsFront front (octets_be 2 (length message))
-    → IsFront front (part_of 2 message)
+pub front_of_length : (message front : List ℕ) → StartsWith front (octets_be 2 (length message))
+    → StartsWith front (part_of 2 message)
 front_of_length message front (rest, e) =
     (rest ++ message, ap (λ h. h ++ message) e ∙ append_assoc front rest message)
 
 -- the length of a message was written, followed by a front of the message
 pub front_of_message : (before mid after : Option (List ℕ)) (message : List ℕ)
     → Appends before mid (octets_be 2 (length message))
-    → ((front : List ℕ) × IsFront front message × Appends mid after front)
-    → (front : List ℕ) × IsFront front (part_of 2 message) × Appends before after front
+    → ((front : List ℕ) × StartsWith front message × Appends mid after front)
+    → (front : List ℕ) × StartsWith front (part_of 2 message) × Appends before after front
 front_of_message before mid after message first (front, (rest, e), second) =
     let head = octets_be 2 (length message) in
     let whole = ap (λ m. head ++ m) e ∙ sym (append_assoc head front rest) in

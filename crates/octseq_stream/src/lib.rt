@@ -2,8 +2,8 @@
 //! every format of that kind, which gives its [`Framing`].
 #![tactic(auto)]
 
-mod filling;
 pub mod framing;
+mod read_exact;
 pub mod reader;
 pub mod writer;
 

@@ -5,8 +5,8 @@ ghost use Rattle.std.specs.Io.KnownBytes.{Consumes, IsAtEnd};
 ghost use Rattle.octseq.specs.Code.{HasFront};
 ghost use Rattle.octseq_stream.specs.Frames.{IsCut, IsHeader, kept_of};
 
-use crate::filling::append_octets;
 use crate::framing::Framing;
+use crate::read_exact::append_octets;
 use octseq::Malformed;
 use std::alloc::{AllocError, Global};
 use std::error::Error;
@@ -107,8 +107,8 @@ pub fn read_frame<R: Read, F: Framing>(
     found
 }
 
-/// Reads the next frame into an empty vector. Returns `false` at the end of the input. After an error anything may be in
-/// the vector.
+/// Reads the next frame into an empty vector. Returns `false` at the end of the input. After an error anything may be
+/// in the vector.
 fn append_frame<R: Read, F: Framing>(
     reader: &mut R,
     framing: &F,

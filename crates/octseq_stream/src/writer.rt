@@ -2,7 +2,7 @@
 ghost use Rattle.std.specs.Prelude.{◌≡◌, ◌<◌, ◌≤◌, [], ℕ, List, length, take, IfOk, OnOk, OnErr, Err};
 ghost use Rattle.std.specs.Io.KnownBytes.{Appends};
 ghost use Rattle.octseq.specs.Part.{part_of};
-ghost use Rattle.octseq.specs.Parts.{IsFront};
+ghost use Rattle.octseq.specs.Parts.{StartsWith};
 
 use std::error::Error;
 use std::fmt;
@@ -46,15 +46,15 @@ impl From<io::Error> for WriteFrameError {
 ///
 /// # Errors
 ///
-/// `TooLong` if there are more than 65,535 octets: nothing is then written. Otherwise `Write` if a write failed: a front
-/// of the length and the octets may then be written.
+/// `TooLong` if there are more than 65,535 octets: nothing is then written. Otherwise `Write` if a write failed: a
+/// front of the length and the octets may then be written.
 #[tactic(auto, using(octseq::proofs::Written::written_2))]
 pub fn write_frame<W: Write>(writer: &mut W, octets: &[u8]) -> Result<(), WriteFrameError>
     ensures ok { OnOk result (Appends (W.contents writer.old) (W.contents writer.new) (part_of 2 octets.now)) }
     ensures fits { OnOk result (length octets.now < 65536) }
     ensures long { result ≡ Err WriteFrameError.TooLong → 65535 < length octets.now }
     ensures refused { 65535 < length octets.now → (result ≡ Err WriteFrameError.TooLong) × (writer.new ≡ writer.old) }
-    ensures front { (front : List ℕ) × IsFront front (part_of 2 octets.now)
+    ensures front { (front : List ℕ) × StartsWith front (part_of 2 octets.now)
         × Appends (W.contents writer.old) (W.contents writer.new) front }
 {
     let Ok(len) = u16::try_from(octets.len()) else {
@@ -72,7 +72,7 @@ pub fn write_frame<W: Write>(writer: &mut W, octets: &[u8]) -> Result<(), WriteF
 /// Those of a write, but for one that was interrupted, which is tried again. A front of the octets may then be written.
 pub fn write_octets<W: Write>(writer: &mut W, octets: &[u8]) -> io::Result<()>
     ensures ok { OnOk result (Appends (W.contents writer.old) (W.contents writer.new) octets.now) }
-    ensures front { (front : List ℕ) × IsFront front octets.now
+    ensures front { (front : List ℕ) × StartsWith front octets.now
         × Appends (W.contents writer.old) (W.contents writer.new) front }
 {
     let mut rest = octets;

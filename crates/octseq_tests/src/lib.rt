@@ -1,5 +1,5 @@
-//! Tests of sequences, builders, texts, parsers and composers, of callers, and of calls written as in Rust: what no proof
-//! covers.
+//! Tests of sequences, builders, texts, parsers and composers, of callers, and of calls written as in Rust: what no
+//! proof covers.
 //!
 //! A crate with tests is proved twice, with and without them. So they have a crate of their own, which uses the public
 //! calls only.

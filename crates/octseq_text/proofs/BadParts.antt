@@ -3,7 +3,7 @@ use Rattle.std.proofs.Common.{◌≡◌, ℕ, ◌+◌, ◌<◌, ◌≤◌, List,
 use Rattle.std.proofs.Common.{◌⊎◌, inl, inr, ap, sym, ◌∙◌, subst, append_assoc, length-append}
 use Rattle.std.proofs.Math.Seq.{take-append_seam}
 use Rattle.std.proofs.lemmas.List.{append-nil, take-append-drop}
-use Rattle.octseq_utf8.specs.Parts.{IsFront, IsBeginning, IsBadPart, Bad}
+use Rattle.octseq_utf8.specs.Parts.{StartsWith, IsBeginning, IsBadPart, Bad}
 use Rattle.octseq_utf8.specs.Reading.{width_of, width, fitting, part_len, parts_of}
 use Rattle.octseq_utf8.proofs.Fits.{beginning_fits, beginning_short, nil_or_some}
 use Rattle.octseq_utf8.proofs.Fits.{Fits, fits_more, fits_less, fits_fewer, get_left}
@@ -68,8 +68,8 @@ module _ (p s r : List ℕ) (b : IsBadPart (p ++ s) p) (settled : ¬ (IsBeginnin
       let most = no_longer g (omega arith) wide (at_most_or_more (fitting (p ++ (s ++ r))) (length p)) in
       bad_at p (s ++ r) some (inr (omega (arith, lead))) (omega (arith, some))
 
-  by_cases : (IsBeginning p × ((q : List ℕ) → IsFront q (p ++ s) → IsBeginning q → length q ≤ length p))
-      ⊎ ((length p ≡ 1) × ((q : List ℕ) → IsFront q (p ++ s) → ¬ IsBeginning q))
+  by_cases : (IsBeginning p × ((q : List ℕ) → StartsWith q (p ++ s) → IsBeginning q → length q ≤ length p))
+      ⊎ ((length p ≡ 1) × ((q : List ℕ) → StartsWith q (p ++ s) → ¬ IsBeginning q))
       → (width (p ++ s) ≡ 0) ⊎ (fitting (p ++ s) < width (p ++ s)) → length p ≡ part_len (p ++ s)
       → IsBadPart (p ++ (s ++ r)) p
   by_cases (inl g) (inl z) only = let short = beginning_short g.0 in let same : width (p ++ s) ≡ width p =

@@ -3,7 +3,7 @@ use Rattle.std.proofs.Common.{◌≡◌, ℕ, ◌+◌, Bool, true, Option, List,
 use Rattle.std.proofs.Common.{Ok, Err, OnOk, OnErr, ◌↔◌, ap, sym, ◌∙◌, subst, length-append}
 use Rattle.std.proofs.lemmas.Result.{on_ok_weaker}
 use Rattle.octseq_core.proofs.Limits.{within_if_not_past}
-use Rattle.octseq_core.specs.Limit.{IsWithin, IsPast}
+use Rattle.octseq_core.specs.Limit.{IsWithin, ExceedsLimit}
 use Rattle.octseq_core.specs.Refusal.{IsShort, IsMemory, append_error}
 use Rattle.octseq_core.specs.declared.builder.AppendError.{AppendError}
 use Rattle.octseq_core.specs.declared.builder.AppendError.TheVariants.{Short, Memory}
@@ -13,7 +13,7 @@ use Rattle.octseq_utf8.proofs.Texts.{well_formed-append, chars-append, octets_of
 
 -- an append that wasn't refused as short leaves a content within the limit
 pub within_appended : (limit : Option ℕ) (new old more : List ℕ) → new ≡ old ++ more
-    → ¬ IsPast limit (length old + length more) → IsWithin limit (length new)
+    → ¬ ExceedsLimit limit (length old + length more) → IsWithin limit (length new)
 within_appended limit new old more e n =
     subst (IsWithin limit) (sym (ap length e ∙ length-append old more))
     (within_if_not_past limit (length old + length more) n)
@@ -29,7 +29,7 @@ well_formed-appended (Err e) new old more ok err v w = subst IsWellFormed (sym e
 
 appends_with : (limit : Option ℕ) (asks : Bool) (r : Result (Unit {0}) AppendError) (new old more : List ℕ)
     → OnOk r (new ≡ old ++ more) → OnErr r (new ≡ old)
-    → (IsShort append_error r ↔ IsPast limit (length (octets_of (chars old ++ chars more))))
+    → (IsShort append_error r ↔ ExceedsLimit limit (length (octets_of (chars old ++ chars more))))
     → (IsMemory append_error r → asks ≡ true)
     → (OnOk r (new ≡ old ++ more) → OnOk r (chars new ≡ chars old ++ chars more))
     → AppendsCharacters limit asks (chars old) (chars more) (append_reply r) (chars new)
@@ -42,7 +42,7 @@ appends_with limit asks (Err Memory) new old more ok err short memory characters
 -- an append of well-formed octets to well-formed octets, done or refused, is an append of their characters
 pub appends : (limit : Option ℕ) (asks : Bool) (r : Result (Unit {0}) AppendError) (new old more : List ℕ)
     → OnOk r (new ≡ old ++ more) → OnErr r (new ≡ old)
-    → (IsShort append_error r ↔ IsPast limit (length old + length more)) → (IsMemory append_error r → asks ≡ true)
+    → (IsShort append_error r ↔ ExceedsLimit limit (length old + length more)) → (IsMemory append_error r → asks ≡ true)
     → IsWellFormed old → IsWellFormed more
     → AppendsCharacters limit asks (chars old) (chars more) (append_reply r) (chars new)
 appends limit asks r new old more ok err short memory v w =

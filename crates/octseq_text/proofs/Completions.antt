@@ -7,15 +7,16 @@ use Rattle.std.proofs.lemmas.List.{take_all, take-append-drop, take-take}
 use Rattle.octseq_utf8.specs.Encoding.{IsEncoding, encoding_of}
 use Rattle.octseq_utf8.specs.Fault.{Fault, IsFaultSize, fault_after}
 use Rattle.octseq_utf8.specs.FirstPart.{IsBadFront}
-use Rattle.octseq_utf8.specs.Parts.{IsFront, IsBeginning, IsBadPart}
+use Rattle.octseq_utf8.specs.Parts.{StartsWith, IsBeginning, IsBadPart}
 use Rattle.octseq_utf8.specs.Reading.{width_of, width, part_len, parts_of}
 use Rattle.octseq_utf8.specs.Text.{IsWellFormed}
 use Rattle.octseq_utf8.proofs.Fits.{beginning_fits, beginning_short, nil_or_some}
 use Rattle.octseq_utf8.proofs.Fits.{get_left}
 use Rattle.octseq_utf8.proofs.Spelling.{spells_nothing, spells_one}
-use Rattle.octseq_utf8.proofs.Splitting.{beginning_fitting, encoding_fitting, parts_bad, parts_encoding, parts_step, splits}
+use Rattle.octseq_utf8.proofs.Splitting.{beginning_fitting, encoding_fitting, parts_bad, parts_encoding, parts_step}
+use Rattle.octseq_utf8.proofs.Splitting.{splits}
 use Rattle.octseq_text.specs.FaultSearch.{SettlesAfter}
-use Rattle.octseq_text.specs.Progress.{IsOpenEnd, IsRead}
+use Rattle.octseq_text.specs.Progress.{IsOpenEnd, HasReadParts}
 use Rattle.octseq_text.proofs.BadParts.{bad_more, parts_self}
 use Rattle.octseq_text.proofs.Counting.{parts_few}
 use Rattle.octseq_text.proofs.FaultSearching.{settled_here}
@@ -71,13 +72,13 @@ module _ (begun piece joined : List ℕ) (begins : IsBeginning begun)
       → IsBeginning (take n joined) × (length begun ≤ n)
   bad_long n bad most = go bad.longest
     where
-      here : IsFront begun joined
+      here : StartsWith begun joined
       here = (take (4 - length begun) piece, is)
 
       go : (IsBeginning (take n joined)
-          × ((other : List ℕ) → IsFront other joined → IsBeginning other → length other ≤ length (take n joined)))
+          × ((other : List ℕ) → StartsWith other joined → IsBeginning other → length other ≤ length (take n joined)))
           ⊎ ((length (take n joined) ≡ 1)
-          × ((other : List ℕ) → IsFront other joined → ¬ IsBeginning other))
+          × ((other : List ℕ) → StartsWith other joined → ¬ IsBeginning other))
           → IsBeginning (take n joined) × (length begun ≤ n)
       go (inl longest) = let most = longest.1 begun here begins in (longest.0, omega (arith, length-take n joined))
       go (inr none) = absurd (none.1 begun here begins)
@@ -133,8 +134,8 @@ module _ (begun piece part rest : List ℕ) (n : ℕ) (is : part ≡ begun ++ ta
   whole : part ++ rest ≡ begun ++ piece
   whole = ap (λ y. part ++ y) left ∙ sym (whole_of begun piece part n is)
 
-  pub character_read : (a : List ℕ) → IsRead (begun ++ piece) rest a (a ++ part)
-  character_read a = subst (λ y. IsRead y rest a (a ++ part)) whole (read_good rest a (spells_one encoding))
+  pub character_read : (a : List ℕ) → HasReadParts (begun ++ piece) rest a (a ++ part)
+  character_read a = subst (λ y. HasReadParts y rest a (a ++ part)) whole (read_good rest a (spells_one encoding))
 
   pub character_parts : length (parts_of (begun ++ piece)) ≡ 1 + length (parts_of rest)
   character_parts =
@@ -159,9 +160,9 @@ module _ (begun piece rest : List ℕ) (n : ℕ) (inside : n < length piece)
   followed : ¬ (IsBeginning (begun ++ take n piece) × (rest ≡ []))
   followed unfinished = rest_some n piece inside (sym left ∙ unfinished.1)
 
-  pub invalid_read : (a : List ℕ) → IsRead (begun ++ piece) rest a (a ++ encoding_of 0xFFFD)
+  pub invalid_read : (a : List ℕ) → HasReadParts (begun ++ piece) rest a (a ++ encoding_of 0xFFFD)
   invalid_read a =
-      subst (λ y. IsRead y rest a (a ++ encoding_of 0xFFFD)) (sym bad_is)
+      subst (λ y. HasReadParts y rest a (a ++ encoding_of 0xFFFD)) (sym bad_is)
       (read_bad (begun ++ take n piece) rest a (reads_bad (begun ++ take n piece) rest here followed))
 
   pub invalid_parts : length (parts_of (begun ++ piece)) ≡ 1 + length (parts_of rest)

@@ -8,7 +8,7 @@ use Rattle.std.specs.List.{concat, AllByRecursion}
 use Rattle.std.specs.Char.{IsScalar}
 use Rattle.octseq_utf8.specs.Encoding.{IsEncoding, row_00_7F, row_C2_DF, row_E0, row_E1_EC, row_ED}
 use Rattle.octseq_utf8.specs.Encoding.{row_EE_EF, row_F0, row_F1_F3, row_F4, number_of, encoding_of}
-use Rattle.octseq_utf8.specs.Text.{Spells, IsWellFormed, chars, EndsWith}
+use Rattle.octseq_utf8.specs.Text.{Spells, IsWellFormed, chars, EndsWithCharacter}
 use Rattle.octseq_utf8.proofs.Bridge.{scalar_from}
 use Rattle.octseq_utf8.proofs.Numbers.{encoding_of-number_of, number_is_character}
 use Rattle.octseq_utf8.proofs.Numbers.{number_of_1, number_of_2, number_of_3, number_of_4}
@@ -50,7 +50,7 @@ ending_of x (e ∷ es) h joined some = subst Ending joined (last_of e es h)
 ending : (x : List ℕ) → IsWellFormed x → 0 < length x → Ending x
 ending x (cs, s) some = ending_of x s.encodings s.each s.joined some
 
-ends_with : {x : List ℕ} (t : Ending x) (c : ℕ) → number_of t.last ≡ c → EndsWith x c
+ends_with : {x : List ℕ} (t : Ending x) (c : ℕ) → number_of t.last ≡ c → EndsWithCharacter x c
 ends_with {x} t c n = record {
   before = t.before;
   text = (t.characters, t.spelled);
@@ -62,7 +62,7 @@ ends_with {x} t c n = record {
 
 -- the octets end with a character that has k octets
 abbrev pub EndsIn : ℕ → List ℕ → ℕ → Type 0
-EndsIn k x c = EndsWith x c × (k ≡ length (encoding_of c))
+EndsIn k x c = EndsWithCharacter x c × (k ≡ length (encoding_of c))
 
 ends_in : {x : List ℕ} (t : Ending x) (k c : ℕ) → length t.last ≡ k → number_of t.last ≡ c → EndsIn k x c
 ends_in t k c long n =
@@ -211,10 +211,11 @@ module _ (x : List ℕ) (w : IsWellFormed x) (some : length x ≢ 0) {p : ℕ} (
 -- a text without its last character
 
 -- the encoding of a last character is no longer than the octets that end with it
-pub encoding_short : (x : List ℕ) (c : ℕ) → EndsWith x c → length (encoding_of c) ≤ length x
+pub encoding_short : (x : List ℕ) (c : ℕ) → EndsWithCharacter x c → length (encoding_of c) ≤ length x
 encoding_short x c e = let long = ap length e.whole in omega (arith, length-append e.before (encoding_of c))
 
-without_last : (x : List ℕ) (c n : ℕ) (e : EndsWith x c) → n ≡ length x - length (encoding_of c) → take n x ≡ e.before
+without_last : (x : List ℕ) (c n : ℕ) (e : EndsWithCharacter x c) → n ≡ length x - length (encoding_of c)
+    → take n x ≡ e.before
 without_last x c n e cut =
     let long = ap length e.whole in
     let here : n ≡ length e.before = omega (arith, length-append e.before (encoding_of c)) in
@@ -227,7 +228,7 @@ pub record IsPopped (x y : List ℕ) (c : ℕ) : Type 0 where
   pub characters : chars x ≡ chars y ++ c ∷ []
 
 -- a text whose end is cut by the length of its last encoding is the text without its last character
-pub popped : (x y : List ℕ) (c n : ℕ) → EndsWith x c → n ≡ length x - length (encoding_of c) → y ≡ take n x
+pub popped : (x y : List ℕ) (c n : ℕ) → EndsWithCharacter x c → n ≡ length x - length (encoding_of c) → y ≡ take n x
     → IsPopped x y c
 popped x y c n e cut taken =
     let same : e.before ≡ y = sym (taken ∙ without_last x c n e cut) in

@@ -122,7 +122,8 @@ module _ (n m : ℕ) (good : List ℕ) (w : IsWellFormed good) (passed : m ≡ s
   }
 
 -- no octet of an open end is passed
-pub passes_none : (n : ℕ) → n < 2 ^ 64 → (octets end : List ℕ) → end ≡ octets → IsBeginning end → PassesAfter n octets n end
+pub passes_none : (n : ℕ) → n < 2 ^ 64 → (octets end : List ℕ) → end ≡ octets → IsBeginning end
+    → PassesAfter n octets n end
 passes_none n small octets end is begins = record {
   good = [];
   well_formed = ([], spells_nothing);
@@ -134,7 +135,8 @@ passes_none n small octets end is begins = record {
 -- what a search tells of all octets
 
 -- a fault that is reported is the fault, if 64 bits count the octets
-pub reported_fault : (x : List ℕ) (reported : Fault) → ReportsAfter 0 x reported → length x < 2 ^ 64 → IsFault x reported
+pub reported_fault : (x : List ℕ) (reported : Fault) → ReportsAfter 0 x reported → length x < 2 ^ 64
+    → IsFault x reported
 reported_fault x reported t h =
     let bounds = end_bounds x t.fault t.is_fault in
     let place : saturated (0 + t.fault.place) ≡ t.fault.place = omega (arith, bounds.0, bounds.1) in
@@ -144,14 +146,16 @@ reported_fault x reported t h =
 pub reported_refutes : {x : List ℕ} {reported : Fault} → ReportsAfter 0 x reported → ¬ IsWellFormed x
 reported_refutes t = fault_refutes t.is_fault
 
-completed : (good end : List ℕ) → IsWellFormed good → IsOpenEnd end → (more : List ℕ) × IsWellFormed ((good ++ end) ++ more)
+completed : (good end : List ℕ) → IsWellFormed good → IsOpenEnd end → (more : List ℕ)
+    × IsWellFormed ((good ++ end) ++ more)
 completed good [] w h =
     ([], subst IsWellFormed (sym (append-nil (good ++ []) ∙ append-nil good)) w)
 completed good (a ∷ end) w h =
     let b : IsBeginning (a ∷ end) = h (λ e. let long = ap length e in absurd (omega arith)) in (
       b.more,
       subst IsWellFormed (sym (append_assoc good (a ∷ end) b.more))
-          (well_formed-append good ((a ∷ end) ++ b.more) w (number_of ((a ∷ end) ++ b.more) ∷ [], spells_one b.encoding)),
+          (well_formed-append good ((a ∷ end) ++ b.more) w
+          (number_of ((a ∷ end) ++ b.more) ∷ [], spells_one b.encoding)),
     )
 
 -- an open end may become a character
@@ -193,7 +197,8 @@ module _ (held : Searched) (x : List ℕ) (s : HasSearched held x) (none : held.
       → HasSearched (record { passed = next; end = end; fault = Some reported }) (x ++ piece)
   searched_to_fault piece end next reported t = record {
     met = subst (λ y. SettlesAfter 0 y reported) (cut piece)
-        (settles_after 0 held.passed passed_all.good passed_all.well_formed passed_all.passed (held.end ++ piece) reported
+        (settles_after 0 held.passed passed_all.good passed_all.well_formed passed_all.passed
+        (held.end ++ piece) reported
         t);
     passed = tt;
   }

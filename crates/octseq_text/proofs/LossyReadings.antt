@@ -1,7 +1,7 @@
 -- What lossy readings ensure.
 use Rattle.std.proofs.Common.{◌≡◌, ℕ, List, ◌++◌, length, Option, Result, IfOk, IsErr, ap, sym, ◌∙◌, subst}
 use Rattle.std.proofs.lemmas.Result.{IfOk-weaker}
-use Rattle.octseq_core.specs.Limit.{IsPast}
+use Rattle.octseq_core.specs.Limit.{ExceedsLimit}
 use Rattle.octseq_core.specs.Refusal.{Refusal, IsShort, IsMemory}
 use Rattle.octseq_utf8.specs.Encoding.{IsCharacter}
 use Rattle.octseq_utf8.specs.Parts.{Part, text_with}
@@ -26,8 +26,8 @@ module _ {A E : Type 0} (tells : E → Refusal) (limit : Option ℕ) (requests :
 
   pub reads_lossily : IsCharacter w → IsWellFormed front
       → IfOk result (λ made. content made ≡ front ++ text_with w (parts_of octets))
-      → (IsShort tells result → IsPast limit (length (front ++ text_with w (parts_of octets))))
-      → (IsPast limit (length (front ++ text_with w (parts_of octets))) → IsErr result)
+      → (IsShort tells result → ExceedsLimit limit (length (front ++ text_with w (parts_of octets))))
+      → (ExceedsLimit limit (length (front ++ text_with w (parts_of octets))) → IsErr result)
       → (IsMemory tells result → requests)
       → ReadsLossily tells limit requests w front octets content result
   reads_lossily h good text short past memory = record {
@@ -36,8 +36,9 @@ module _ {A E : Type 0} (tells : E → Refusal) (limit : Option ℕ) (requests :
     text = IfOk-weaker result (λ made. content made ≡ whole (parts_of octets)) _
         (λ made e parts s. e ∙ ap whole (sym (only_parts s))) text;
     well_formed = all_good h good text;
-    short = λ refused parts s. subst (λ ps. IsPast limit (length (whole ps))) (sym (only_parts s)) (short refused);
-    past = λ parts s p. past (subst (λ ps. IsPast limit (length (whole ps))) (only_parts s) p);
+    short = λ refused parts s. subst (λ ps. ExceedsLimit limit (length (whole ps))) (sym (only_parts s))
+        (short refused);
+    past = λ parts s p. past (subst (λ ps. ExceedsLimit limit (length (whole ps))) (only_parts s) p);
     memory = memory;
     again = IfOk-weaker result (λ made. IsWellFormed (content made)) _
         (λ made made_good v parts s. text_same v (content made) parts made_good s) (all_good h good text);

@@ -4,7 +4,7 @@ use Rattle.std.proofs.Common.{◌++◌, length, Option, Some, None, refl, arith,
 use Rattle.std.proofs.lemmas.Bool.{cases_lt}
 use Rattle.std.proofs.lemmas.Bool.Decides.{same_from_decides}
 use Rattle.octseq_core.proofs.Limits.{within_not_past}
-use Rattle.octseq_core.specs.Limit.{IsWithin, IsPast}
+use Rattle.octseq_core.specs.Limit.{IsWithin, ExceedsLimit}
 use Rattle.octseq_utf8.specs.Encoding.{encoding_of}
 use Rattle.octseq_text.specs.TextRun.{AppendsCharacters, CutsTo, Cuts, Pops, TextStep, TextRun, IsWithoutMemory}
 use Rattle.octseq_utf8.specs.Text.{chars, octets_of, IsFrontOf}
@@ -26,7 +26,7 @@ IsDone limit before more r after = (r ≡ reply.Done) × IsWithin limit (length 
     × (after ≡ before ++ more)
 
 abbrev IsRefused : Option ℕ → List ℕ → List ℕ → Reply → List ℕ → Type 0
-IsRefused limit before more r after = (r ≡ reply.Short) × IsPast limit (length (octets_of (before ++ more)))
+IsRefused limit before more r after = (r ≡ reply.Short) × ExceedsLimit limit (length (octets_of (before ++ more)))
     × (after ≡ before)
 
 done_or_refused : (limit : Option ℕ) (asks : Bool) (b m : List ℕ) (r : Reply) (x : List ℕ)

@@ -3,13 +3,13 @@ use Rattle.std.proofs.Common.{◌≡◌, ℕ, List, ◌++◌, length, ap, ◌∙
 use Rattle.std.proofs.lemmas.Grind.{flat_map-append}
 use Rattle.std.proofs.lemmas.List.{length-append}
 use Rattle.std.specs.Prelude.{Option}
-use Rattle.octseq_core.specs.Limit.{IsPast}
+use Rattle.octseq_core.specs.Limit.{ExceedsLimit}
 use Rattle.octseq_core.proofs.Limits.{past_more}
 use Rattle.octseq_utf8.specs.Parts.{Part, octets_with, text}
 
 -- if the text of a front of the parts exceeds the limit, so does the text of all of them
 pub past_front : (limit : Option ℕ) (front others parts : List Part) → parts ≡ front ++ others
-    → IsPast limit (length (text front)) → IsPast limit (length (text parts))
+    → ExceedsLimit limit (length (text front)) → ExceedsLimit limit (length (text parts))
 past_front limit front others parts whole past =
     let long = ap length (ap text whole ∙ flat_map-append (octets_with 0xFFFD) front others)
     ∙ length-append (text front) (text others) in
@@ -17,6 +17,6 @@ past_front limit front others parts whole past =
 
 -- and if the text of all of them doesn't, the text of a front doesn't
 pub front_not_past : (limit : Option ℕ) (front others parts : List Part) → parts ≡ front ++ others
-    → (IsPast limit (length (text parts)) → ⊥)
-    → IsPast limit (length (text front)) → ⊥
+    → (ExceedsLimit limit (length (text parts)) → ⊥)
+    → ExceedsLimit limit (length (text front)) → ⊥
 front_not_past limit front others parts whole within past = within (past_front limit front others parts whole past)

@@ -5,14 +5,14 @@ use Rattle.std.proofs.Common.{map, length, get_or, refl, arith, ◌⊎◌, inl, 
 use Rattle.std.proofs.Common.{sym, ◌∙◌, subst, append_assoc, length-append, Option, Some, None}
 use Rattle.std.proofs.lemmas.Bool.{eqb-true}
 use Rattle.std.proofs.lemmas.List.{append-nil, nil_from_length}
-use Rattle.octseq_core.specs.Limit.{IsWithin, IsPast}
+use Rattle.octseq_core.specs.Limit.{IsWithin, ExceedsLimit}
 use Rattle.octseq_core.specs.declared.builder.AppendError.{AppendError}
 use Rattle.octseq_utf8.specs.Chunk.{Chunk, IsFirstChunk}
 use Rattle.octseq_utf8.specs.Encoding.{encoding_of}
 use Rattle.octseq_utf8.specs.Parts.{IsBeginning, IsBadPart, Part, Char, Bad, Splits, nothing, text}
 use Rattle.octseq_text.specs.Pieces.{Settles, open_end, no_end, Held, HasRead, IsSound}
 use Rattle.octseq_utf8.specs.Reading.{parts_of}
-use Rattle.octseq_text.specs.Progress.{Reads, IsRead, IsTooLong, IsOpenEnd}
+use Rattle.octseq_text.specs.Progress.{ReadsParts, HasReadParts, IsTextTooLong, IsOpenEnd}
 use Rattle.octseq_utf8.specs.Text.{Spells, IsWellFormed}
 use Rattle.octseq_utf8.proofs.Fits.{beginning_short}
 use Rattle.octseq_utf8.proofs.LossyTexts.{replacement_is_character, text_well_formed}
@@ -25,11 +25,11 @@ use Rattle.octseq_utf8.proofs.Splitting.{splits, one_splitting}
 -- the text grows
 
 -- if no part is read, all octets are left, and the text is unchanged
-pub read_none : (x a : List ℕ) → IsRead x x a a
+pub read_none : (x a : List ℕ) → HasReadParts x x a a
 read_none x a = record { parts = []; reads = reads_none x; grown = sym (append-nil a) }
 
 -- a reading followed by a reading of the rest is one reading
-pub read_then : {x y z a b c : List ℕ} → IsRead x y a b → IsRead y z b c → IsRead x z a c
+pub read_then : {x y z a b c : List ℕ} → HasReadParts x y a b → HasReadParts y z b c → HasReadParts x z a c
 read_then {x} {y} {z} {a} s t = record {
   parts = s.parts ++ t.parts;
   reads = reads_then x y z s.parts t.parts s.reads t.reads;
@@ -38,27 +38,29 @@ read_then {x} {y} {z} {a} s t = record {
 }
 
 -- what was appended is read
-pub read_more : {x y z t : List ℕ} (a made seen more : List ℕ) → IsRead x y t a → made ≡ a ++ seen → seen ≡ more
-    → IsRead y z a (a ++ more) → IsRead x z t made
+pub read_more : {x y z t : List ℕ} (a made seen more : List ℕ) → HasReadParts x y t a → made ≡ a ++ seen → seen ≡ more
+    → HasReadParts y z a (a ++ more) → HasReadParts x z t made
 read_more {x} {z = z} {t = t} a made seen more s m e r =
-    subst (IsRead x z t) (sym (m ∙ ap (λ y. a ++ y) e)) (read_then s r)
+    subst (HasReadParts x z t) (sym (m ∙ ap (λ y. a ++ y) e)) (read_then s r)
 
 -- what can't be appended is too long
-pub too_long : (limit : Option ℕ) (more seen : List ℕ) {x y z a b : List ℕ} → seen ≡ more → IsRead x y a b
-    → IsRead y z b (b ++ more) → IsPast limit (length b + length seen) → IsTooLong limit x a
+pub too_long : (limit : Option ℕ) (more seen : List ℕ) {x y z a b : List ℕ} → seen ≡ more → HasReadParts x y a b
+    → HasReadParts y z b (b ++ more) → ExceedsLimit limit (length b + length seen) → IsTextTooLong limit x a
 too_long limit more seen {z = z} {b = b} e s t p = record {
   rest = z;
   new = b ++ more;
   read = read_then s t;
-  past = subst (IsPast limit) (ap (λ y. length b + length y) e ∙ sym (length-append b more)) p;
+  past = subst (ExceedsLimit limit) (ap (λ y. length b + length y) e ∙ sym (length-append b more)) p;
 }
 
 -- octets of which some parts were read are too long if the rest is
-pub too_long_then : {limit : Option ℕ} {x y a b : List ℕ} → IsRead x y a b → IsTooLong limit y b → IsTooLong limit x a
+pub too_long_then : {limit : Option ℕ} {x y a b : List ℕ} → HasReadParts x y a b → IsTextTooLong limit y b
+    → IsTextTooLong limit x a
 too_long_then s t = record { rest = t.rest; new = t.new; read = read_then s t.read; past = t.past }
 
 -- a bad part is read as the replacement
-pub read_bad : (p s a : List ℕ) → Reads (p ++ s) s (Bad p ∷ []) → IsRead (p ++ s) s a (a ++ encoding_of 0xFFFD)
+pub read_bad : (p s a : List ℕ) → ReadsParts (p ++ s) s (Bad p ∷ [])
+    → HasReadParts (p ++ s) s a (a ++ encoding_of 0xFFFD)
 read_bad p s a r = record {
   parts = Bad p ∷ [];
   reads = r;
@@ -66,7 +68,7 @@ read_bad p s a r = record {
 }
 
 -- well-formed octets are read as they are
-pub read_good : {g cs : List ℕ} (z a : List ℕ) → Spells g cs → IsRead (g ++ z) z a (a ++ g)
+pub read_good : {g cs : List ℕ} (z a : List ℕ) → Spells g cs → HasReadParts (g ++ z) z a (a ++ g)
 read_good {g} {cs} z a s = record {
   parts = map Char cs;
   reads = reads_good z s;
@@ -76,31 +78,31 @@ read_good {g} {cs} z a s = record {
 -- at a chunk
 module _ (x : List ℕ) (chunk : Chunk) (after : List ℕ) (c : IsFirstChunk x chunk after) where
   -- what is valid is read
-  pub read_valid : (a : List ℕ) → IsRead x (chunk.invalid ++ after) a (a ++ chunk.valid)
-  read_valid a = subst (λ y. IsRead y (chunk.invalid ++ after) a (a ++ chunk.valid)) (sym c.whole)
+  pub read_valid : (a : List ℕ) → HasReadParts x (chunk.invalid ++ after) a (a ++ chunk.valid)
+  read_valid a = subst (λ y. HasReadParts y (chunk.invalid ++ after) a (a ++ chunk.valid)) (sym c.whole)
       (read_good (chunk.invalid ++ after) a c.good.1)
 
   -- which is all of the chunk if it has no bad part
-  pub read_chunk : length chunk.invalid ≡ 0 → (a : List ℕ) → IsRead x after a (a ++ chunk.valid)
+  pub read_chunk : length chunk.invalid ≡ 0 → (a : List ℕ) → HasReadParts x after a (a ++ chunk.valid)
   read_chunk none a =
-      subst (λ y. IsRead x y a (a ++ chunk.valid)) (ap (λ y. y ++ after) (nil_from_length chunk.invalid none))
+      subst (λ y. HasReadParts x y a (a ++ chunk.valid)) (ap (λ y. y ++ after) (nil_from_length chunk.invalid none))
       (read_valid a)
 
   by_cases : ¬ IsTrue chunk.incomplete → 1 ≤ length chunk.invalid
       → ((chunk.invalid ≡ []) × (after ≡ [])) ⊎ IsBadPart (chunk.invalid ++ after) chunk.invalid
-      → Reads (chunk.invalid ++ after) after (Bad chunk.invalid ∷ [])
+      → ReadsParts (chunk.invalid ++ after) after (Bad chunk.invalid ∷ [])
   by_cases n some (inl none) = absurd (omega (arith, ap length none.0))
   by_cases n some (inr bad) = reads_bad chunk.invalid after bad (λ k. n (c.cut.1 k))
 
   -- and the bad part, unless it is an open end
   pub read_invalid : ¬ IsTrue chunk.incomplete → 1 ≤ length chunk.invalid → (a : List ℕ)
-      → IsRead (chunk.invalid ++ after) after a (a ++ encoding_of 0xFFFD)
+      → HasReadParts (chunk.invalid ++ after) after a (a ++ encoding_of 0xFFFD)
   read_invalid n some a = read_bad chunk.invalid after a (by_cases n some c.bad)
 
   -- an open end is left
-  pub read_to_end : IsTrue chunk.incomplete → (a : List ℕ) → IsRead x chunk.invalid a (a ++ chunk.valid)
+  pub read_to_end : IsTrue chunk.incomplete → (a : List ℕ) → HasReadParts x chunk.invalid a (a ++ chunk.valid)
   read_to_end t a =
-      subst (λ y. IsRead x y a (a ++ chunk.valid)) (ap (λ y. chunk.invalid ++ y) (c.cut.0 t).1
+      subst (λ y. HasReadParts x y a (a ++ chunk.valid)) (ap (λ y. chunk.invalid ++ y) (c.cut.0 t).1
       ∙ append-nil chunk.invalid) (read_valid a)
 
 -- what a test shows
@@ -133,8 +135,8 @@ beginning_few q b = let short = beginning_short b in omega (arith, width_le (get
 
 -- A piece after the octets that a reading stands for.
 module _ (held : Held) (x piece z new : List ℕ) (s : HasRead held x)
-    (r : IsRead (held.end ++ piece) z held.settled_text new) where
-  all_read : Reads (x ++ piece) z (s.settled ++ r.parts)
+    (r : HasReadParts (held.end ++ piece) z held.settled_text new) where
+  all_read : ReadsParts (x ++ piece) z (s.settled ++ r.parts)
   all_read = reads_then (x ++ piece) (held.end ++ piece) z s.settled r.parts
       (reads_more x held.end piece s.settled (settles_reads s.settles)) r.reads
 
@@ -162,8 +164,8 @@ module _ (held : Held) (x piece z new : List ℕ) (s : HasRead held x)
 
 -- if the open end and a piece are too long to be read, the text of what settles with the piece exceeds the limit
 pub feed_too_long : {limit : Option ℕ} (held : Held) (x piece : List ℕ) → HasRead held x
-    → IsTooLong limit (held.end ++ piece) held.settled_text
-    → (q : List ℕ) (settled : List Part) → Settles (x ++ piece) settled q → IsPast limit (length (text settled))
+    → IsTextTooLong limit (held.end ++ piece) held.settled_text
+    → (q : List ℕ) (settled : List Part) → Settles (x ++ piece) settled q → ExceedsLimit limit (length (text settled))
 feed_too_long {limit} held x piece s t q settled u =
     past_more limit (length t.new) (length (text settled)) (feed_short held x piece t.rest t.new s t.read q settled u)
     t.past
@@ -196,12 +198,12 @@ module _ (held : Held) (x made : List ℕ) (s : HasRead held x) (closed : held.e
 -- if the held text has no room for the replacement of its open end, the text of all parts exceeds the limit
 pub finish_too_long : (limit : Option ℕ) (held : Held) (x : List ℕ) (parts : List Part) → HasRead held x
     → Splits x parts
-    → held.end ≢ [] → IsPast limit (length held.settled_text + length (encoding_of 0xFFFD))
-    → IsPast limit (length (text parts))
+    → held.end ≢ [] → ExceedsLimit limit (length held.settled_text + length (encoding_of 0xFFFD))
+    → ExceedsLimit limit (length (text parts))
 finish_too_long limit held x parts s t n p =
-    subst (λ y. IsPast limit (length y))
+    subst (λ y. ExceedsLimit limit (length y))
     (finish_text held x (held.settled_text ++ encoding_of 0xFFFD) s (λ e. absurd (n e)) (λ n. refl) parts t)
-    (subst (IsPast limit) (sym (length-append held.settled_text (encoding_of 0xFFFD))) p)
+    (subst (ExceedsLimit limit) (sym (length-append held.settled_text (encoding_of 0xFFFD))) p)
 
 -- A reading that met no refusal is sound, and so is one that met one.
 

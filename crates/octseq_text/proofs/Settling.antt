@@ -7,7 +7,7 @@ use Rattle.octseq_utf8.specs.Encoding.{IsEncoding, number_of}
 use Rattle.octseq_utf8.specs.Parts.{IsBeginning, IsBadPart, Part, Char, Bad, Splits, nothing, encoding, bad_part, text}
 use Rattle.octseq_text.specs.Pieces.{Settles, open_end, no_end}
 use Rattle.octseq_utf8.specs.Reading.{parts_of}
-use Rattle.octseq_text.specs.Progress.{Reads, IsOpenEnd}
+use Rattle.octseq_text.specs.Progress.{ReadsParts, IsOpenEnd}
 use Rattle.octseq_utf8.specs.Text.{Spells}
 use Rattle.octseq_text.proofs.BadParts.{bad_more, parts_self}
 use Rattle.octseq_utf8.proofs.Joins.{parts_front, parts_spelled, text_spelled}
@@ -16,11 +16,11 @@ use Rattle.octseq_utf8.proofs.Splitting.{parts_nil, parts_encoding, parts_bad, s
 -- what was read, whatever follows
 
 -- if no part is read, all octets are left
-pub reads_none : (x : List ℕ) → Reads x x []
+pub reads_none : (x : List ℕ) → ReadsParts x x []
 reads_none x = record { whatever = λ r. refl }
 
 -- octets that follow change no part that was read, and are left after the rest
-pub reads_more : (x z y : List ℕ) (ps : List Part) → Reads x z ps → Reads (x ++ y) (z ++ y) ps
+pub reads_more : (x z y : List ℕ) (ps : List Part) → ReadsParts x z ps → ReadsParts (x ++ y) (z ++ y) ps
 reads_more x z y ps s =
     record {
       whatever = λ r. ap parts_of (append_assoc x y r) ∙ s.whatever (y ++ r)
@@ -28,7 +28,8 @@ reads_more x z y ps s =
     }
 
 -- parts read from octets, followed by parts read from the rest, are all read from the octets
-pub reads_then : (x y z : List ℕ) (ps qs : List Part) → Reads x y ps → Reads y z qs → Reads x z (ps ++ qs)
+pub reads_then : (x y z : List ℕ) (ps qs : List Part) → ReadsParts x y ps → ReadsParts y z qs
+    → ReadsParts x z (ps ++ qs)
 reads_then x y z ps qs s t =
     record {
       whatever = λ r. s.whatever r ∙ ap (λ us. ps ++ us) (t.whatever r)
@@ -36,15 +37,16 @@ reads_then x y z ps qs s t =
     }
 
 -- well-formed octets at the front are read as their characters
-pub reads_good : {g cs : List ℕ} → (z : List ℕ) → Spells g cs → Reads (g ++ z) z (map Char cs)
+pub reads_good : {g cs : List ℕ} → (z : List ℕ) → Spells g cs → ReadsParts (g ++ z) z (map Char cs)
 reads_good {g} {cs} z s = record { whatever = λ r. ap parts_of (append_assoc g z r) ∙ parts_front s (z ++ r) }
 
 -- a bad part at the front is read, unless it is a beginning that reaches the end
-pub reads_bad : (p s : List ℕ) → IsBadPart (p ++ s) p → ¬ (IsBeginning p × (s ≡ [])) → Reads (p ++ s) s (Bad p ∷ [])
+pub reads_bad : (p s : List ℕ) → IsBadPart (p ++ s) p → ¬ (IsBeginning p × (s ≡ []))
+    → ReadsParts (p ++ s) s (Bad p ∷ [])
 reads_bad p s b n =
     record { whatever = λ r. ap parts_of (append_assoc p s r) ∙ parts_bad p (s ++ r) (bad_more p s r b n) }
 
-reads_encoding : {e : List ℕ} → IsEncoding e → (s : List ℕ) → Reads (e ++ s) s (Char (number_of e) ∷ [])
+reads_encoding : {e : List ℕ} → IsEncoding e → (s : List ℕ) → ReadsParts (e ++ s) s (Char (number_of e) ∷ [])
 reads_encoding {e} p s = record { whatever = λ r. ap parts_of (append_assoc e s r) ∙ parts_encoding p (s ++ r) }
 
 -- lists of parts and their last one
@@ -77,27 +79,28 @@ none_or_last (a ∷ ps) =
 -- what settles is read, and the open end is left
 
 reads_open : {x : List ℕ} {parts : List Part} → Splits x parts → (settled : List Part) (q : List ℕ) → IsBeginning q
-    → parts ≡ settled ++ Bad q ∷ [] → Reads x q settled
+    → parts ≡ settled ++ Bad q ∷ [] → ReadsParts x q settled
 reads_open nothing settled q b h = absurd (snoc_some settled (Bad q) (sym h))
 reads_open (encoding {e} {rest = r} {parts = parts} p s) [] q b h = absurd (cc)
 reads_open (encoding {e} {rest = r} {parts = parts} p s) (a ∷ settled) q b h =
     let first : Char (number_of e) ≡ a = cc in
     let rest : parts ≡ settled ++ Bad q ∷ [] = cc in
-    subst (λ a. Reads (e ++ r) q (a ∷ settled)) first
+    subst (λ a. ReadsParts (e ++ r) q (a ∷ settled)) first
     (reads_then (e ++ r) r q (Char (number_of e) ∷ []) settled (reads_encoding p r) (reads_open s settled q b rest))
 reads_open (bad_part {bad = p} {rest = r} {parts = parts} k s) [] q b h =
     let same : p ≡ q = cc in
     let none : parts ≡ [] = cc in
-    subst (λ y. Reads y q []) (sym (ap (λ z. p ++ z) (nil_from_splits s none) ∙ append-nil p ∙ same)) (reads_none q)
+    subst (λ y. ReadsParts y q []) (sym (ap (λ z. p ++ z) (nil_from_splits s none) ∙ append-nil p ∙ same))
+    (reads_none q)
 reads_open (bad_part {bad = p} {rest = r} {parts = parts} k s) (a ∷ settled) q b h =
     let first : Bad p ≡ a = cc in
     let rest : parts ≡ settled ++ Bad q ∷ [] = cc in
     let after : ¬ (IsBeginning p × (r ≡ [])) = λ z. snoc_some settled (Bad q) (sym rest ∙ nil_splits s z.1) in
-    subst (λ a. Reads (p ++ r) q (a ∷ settled)) first
+    subst (λ a. ReadsParts (p ++ r) q (a ∷ settled)) first
     (reads_then (p ++ r) r q (Bad p ∷ []) settled (reads_bad p r k after) (reads_open s settled q b rest))
 
 reads_closed : {x : List ℕ} {parts : List Part} → Splits x parts
-    → ((front : List Part) (q : List ℕ) → parts ≡ front ++ Bad q ∷ [] → ¬ IsBeginning q) → Reads x [] parts
+    → ((front : List Part) (q : List ℕ) → parts ≡ front ++ Bad q ∷ [] → ¬ IsBeginning q) → ReadsParts x [] parts
 reads_closed nothing h = reads_none []
 reads_closed (encoding {e} {rest = r} {parts = parts} p s) h =
     reads_then (e ++ r) r [] (Char (number_of e) ∷ []) parts (reads_encoding p r)
@@ -108,7 +111,7 @@ reads_closed (bad_part {bad = p} {rest = r} {parts = parts} b s) h =
     (reads_closed s (λ front q k. h (Bad p ∷ front) q (ap (λ ps. Bad p ∷ ps) k)))
 
 -- the settled parts of octets are read, and their open end is left
-pub settles_reads : {x q : List ℕ} {settled : List Part} → Settles x settled q → Reads x q settled
+pub settles_reads : {x q : List ℕ} {settled : List Part} → Settles x settled q → ReadsParts x q settled
 settles_reads (open_end {end = q} {settled = settled} s b) = reads_open s settled q b refl
 settles_reads (no_end s h) = reads_closed s h
 
@@ -186,17 +189,17 @@ same_next (c ∷ front) rest a b h = let k : (front ++ a ∷ []) ++ rest ≡ fro
     cc in same_next front rest a b k
 
 -- if all parts were read, the last one is not a beginning
-read_closed : {x : List ℕ} {ps : List Part} → Splits x ps → Reads x [] ps → (front : List Part) (q : List ℕ)
+read_closed : {x : List ℕ} {ps : List Part} → Splits x ps → ReadsParts x [] ps → (front : List Part) (q : List ℕ)
     → ps ≡ front ++ Bad q ∷ [] → ¬ IsBeginning q
 read_closed {x} {ps} s t front q e b =
-    let left : Reads x q front = reads_open s front q b e in
+    let left : ReadsParts x q front = reads_open s front q b e in
     char_not_bad (number_of (q ++ b.more)) q
     (sym (same_next front (parts_of b.more) (Bad q) (Char (number_of (q ++ b.more)))
     (ap (λ y. y ++ parts_of b.more) (sym e) ∙ sym (t.whatever b.more) ∙ left.whatever b.more
     ∙ ap (λ y. front ++ y) (parts_one b.encoding))))
 
 -- parts that were read are the settled ones, if what is left is empty or a beginning
-pub reads_settles : (x q : List ℕ) (ps : List Part) → Reads x q ps → IsOpenEnd q → Settles x ps q
+pub reads_settles : (x q : List ℕ) (ps : List Part) → ReadsParts x q ps → IsOpenEnd q → Settles x ps q
 reads_settles x [] ps t h =
     let all : parts_of x ≡ ps = ap parts_of (sym (append-nil x)) ∙ t.whatever [] ∙ ap (λ y. ps ++ y) parts_nil
     ∙ append-nil ps in
@@ -222,7 +225,7 @@ front_of (d ∷ l) (c ∷ ps) u v a b n h k =
     let rest = front_of l ps u v a b n h' k' in
     (rest.0, ap (λ y. y ∷ l) p ∙ ap (λ y. c ∷ y) rest.1)
 
-reads_front : (x z q : List ℕ) (ps settled : List Part) → Reads x z ps → Reads x q settled → IsOpenEnd q
+reads_front : (x z q : List ℕ) (ps settled : List Part) → ReadsParts x z ps → ReadsParts x q settled → IsOpenEnd q
     → (w : List Part) × (settled ≡ ps ++ w)
 reads_front x z [] ps settled s t h = (
   parts_of (z ++ []),
@@ -251,7 +254,7 @@ pub text-chars : {g cs : List ℕ} → Spells g cs → text (map Char cs) ≡ g
 text-chars s = ap text (sym (parts_spelled s)) ∙ text_spelled 0xFFFD s
 
 -- the text of parts that were read is no longer than the text of the settled parts
-pub text_read : (x z q : List ℕ) (ps settled : List Part) → Reads x z ps → Settles x settled q
+pub text_read : (x z q : List ℕ) (ps settled : List Part) → ReadsParts x z ps → Settles x settled q
     → length (text ps) ≤ length (text settled)
 text_read x z q ps settled s t =
     let front = reads_front x z q ps settled s (settles_reads t) (settles_end t) in

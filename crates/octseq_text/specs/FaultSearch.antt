@@ -4,7 +4,8 @@ use Rattle.octseq_utf8.specs.Fault.{Fault, IsFault, saturated, fault_after}
 use Rattle.octseq_utf8.specs.Text.{IsWellFormed}
 use Rattle.octseq_text.specs.Progress.{IsOpenEnd}
 
--- The fault of octets that come after n others, as a search of all reports it: its place counts those n too, in 64 bits.
+-- The fault of octets that come after n others, as a search of all reports it: its place counts those n too, in 64
+-- bits.
 pub record ReportsAfter (n : ℕ) (octets : List ℕ) (reported : Fault) : Type 0 where
   pub fault : Fault
   pub is_fault : IsFault octets fault

@@ -1,6 +1,6 @@
 -- What a lossy reading ensures: octets as text, with a character in place of each maximal ill-formed part.
 use Rattle.std.specs.Prelude.{◌≡◌, ◌≢◌, ℕ, ◌≤◌, Option, List, ◌++◌, length, Result, IfOk, IsErr}
-use Rattle.octseq_core.specs.Limit.{IsPast}
+use Rattle.octseq_core.specs.Limit.{ExceedsLimit}
 use Rattle.octseq_core.specs.Refusal.{Refusal, IsShort, IsMemory}
 use Rattle.octseq_utf8.specs.Encoding.{encoding_of}
 use Rattle.octseq_utf8.specs.Parts.{Part, Splits, text_with}
@@ -20,9 +20,9 @@ pub record ReadsLossily {A E : Type 0} (tells : E → Refusal) (limit : Option �
   pub well_formed : IfOk result (λ made. IsWellFormed (content made))
   -- If that exceeds the limit, the call is refused; it is refused as short only then.
   pub short : IsShort tells result → (parts : List Part) → Splits octets parts
-      → IsPast limit (length (front ++ text_with replacement parts))
+      → ExceedsLimit limit (length (front ++ text_with replacement parts))
   pub past : (parts : List Part) → Splits octets parts
-      → IsPast limit (length (front ++ text_with replacement parts)) → IsErr result
+      → ExceedsLimit limit (length (front ++ text_with replacement parts)) → IsErr result
   pub memory : IsMemory tells result → requests
   -- A second reading changes nothing, whatever its replacement, and a first one changes what isn't well formed.
   pub again : IfOk result (λ made. (w : ℕ) (parts : List Part) → Splits (content made) parts

@@ -2,7 +2,7 @@
 use Rattle.std.specs.Prelude.{◌≡◌, ◌≢◌, ℕ, ◌<◌, ◌≤◌, ◌↔◌, ◌⊎◌, Bool, true, List, [], ◌∷◌}
 use Rattle.std.specs.Prelude.{◌++◌, length, Option, Some, None, Result, Ok, Err, IsTrue}
 use Rattle.std.specs.List.{AllByRecursion}
-use Rattle.octseq_core.specs.Limit.{IsWithin, IsPast}
+use Rattle.octseq_core.specs.Limit.{IsWithin, ExceedsLimit}
 use Rattle.octseq_core.specs.declared.builder.AppendError.{AppendError}
 use Rattle.octseq_core.specs.declared.builder.AppendError.TheVariants as error
 use Rattle.octseq_utf8.specs.Text.{chars, octets_of, IsFrontOf}
@@ -16,7 +16,7 @@ use Rattle.octseq_text.specs.declared.str.commands.Reply.TheVariants as reply
 abbrev pub AppendsCharacters : Option ℕ → Bool → List ℕ → List ℕ → Reply → List ℕ → Type 0
 AppendsCharacters limit asks before more reply.Done after = IsWithin limit (length (octets_of (before ++ more)))
     × (after ≡ before ++ more)
-AppendsCharacters limit asks before more reply.Short after = IsPast limit (length (octets_of (before ++ more)))
+AppendsCharacters limit asks before more reply.Short after = ExceedsLimit limit (length (octets_of (before ++ more)))
     × (after ≡ before)
 AppendsCharacters limit asks before more reply.Memory after = IsWithin limit (length (octets_of (before ++ more)))
     × (asks ≡ true) × (after ≡ before)

@@ -1,7 +1,7 @@
 //! Ranges of octet sequences, and conversions between them.
 ghost use Rattle.std.specs.Prelude.{◌≡◌, ◌≤◌, ◌↔◌, true, None, slice_range};
 ghost use Rattle.std.specs.Prelude.{length, IsTrue, IsSome, IfSome, IfOk, OnErr};
-ghost use Rattle.octseq_core.specs.Limit.{IsPast};
+ghost use Rattle.octseq_core.specs.Limit.{ExceedsLimit};
 ghost use Rattle.octseq_core.specs.Refusal.{IsShort, IsMemory, append_error};
 ghost use Rattle.octseq_text.specs.Range.{start_of, end_of, RangeExists, range_of};
 ghost use Rattle.std.specs.declared.ops.Bound.TheVariants.{Included, Excluded};
@@ -33,7 +33,7 @@ pub fn span(start: usize, end: usize) -> (Bound, Bound)
 /// # Examples
 ///
 /// ```
-/// // crates/octseq_uses/src/single_calls.rt
+/// // crates/octseq_callers/src/single_calls.rt
 /// if !range_exists(octets.len(), start..end) {
 ///     return Ok(None);
 /// }
@@ -84,7 +84,7 @@ pub trait Octets: AsOctets {
     /// # Examples
     ///
     /// ```
-    /// // crates/octseq_uses/src/ranges.rt
+    /// // crates/octseq_callers/src/ranges.rt
     /// if octets.len() < 3 {
     ///     return Ok(None);
     /// }
@@ -108,7 +108,7 @@ pub trait OctetsFrom<Source: AsOctets>: OctetsLimit {
     /// source is then dropped.
     fn try_octets_from(alloc: Global, source: Source) -> Result<Self, AppendError>
         ensures ok { IfOk result (λ octets. Self.content octets ≡ Source.content source) }
-        ensures short { IsShort append_error result ↔ IsPast Self.limit (length (Source.content source)) }
+        ensures short { IsShort append_error result ↔ ExceedsLimit Self.limit (length (Source.content source)) }
         ensures memory { IsMemory append_error result → Self.asks ≡ true };
 
     /// The source's octets, for a type without a limit.
@@ -140,7 +140,7 @@ pub trait OctetsInto<Target: OctetsLimit>: AsOctets {
     /// See `OctetsFrom::try_octets_from`.
     fn try_octets_into(self, alloc: Global) -> Result<Target, AppendError>
         ensures ok { IfOk result (λ octets. Target.content octets ≡ Self.content self) }
-        ensures short { IsShort append_error result ↔ IsPast Target.limit (length (Self.content self)) }
+        ensures short { IsShort append_error result ↔ ExceedsLimit Target.limit (length (Self.content self)) }
         ensures memory { IsMemory append_error result → Target.asks ≡ true };
 
     /// The octets in the other type, which has no limit.

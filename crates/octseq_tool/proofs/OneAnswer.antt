@@ -44,7 +44,8 @@ module _
       ∙ ap (λ m. other ++ codes "\n" ++ m) (one_lines parts more rest hs ks) ∙ sym f
 
   -- the lines of two readings of one input
-  same_lines : {input x y : List ℕ} (rest other : List ℕ) (parts others : List (List ℕ)) → input ≡ records_of parts ++ rest
+  same_lines : {input x y : List ℕ} (rest other : List ℕ) (parts others : List (List ℕ)) → input ≡ records_of parts
+      ++ rest
       → input ≡ records_of others ++ other → IsRest rest → IsRest other → HasLines parts x → HasLines others y
       → (x ≡ y) × (rest ≡ other)
   same_lines {x = x} {y = y} rest other parts others e f h k hs ks =
@@ -65,13 +66,18 @@ module _
       absurd (omega (arith, ap length (one_text input x lossy p.0 h), p.1, long))
   one_output (Some Lossy64) input x y Refused Fine (lossy, h, long, e) q =
       absurd (omega (arith, ap length (one_text input y lossy q.0 h), q.1, long))
-  one_output (Some Records) input x y Fine Fine (parts, e, h) (others, f, k) =
-      ((same_lines {input = input} [] [] parts others (rw append-nil e) (rw append-nil f) (inl refl) (inl refl) h k).0, refl)
-  one_output (Some Records) input x y Refused Refused (parts, rest, front, e, c, h, o) (others, other, begin, f, d, k, u) =
+  one_output (Some Records) input x y Fine Fine (parts, e, h) (others, f, k) = (
+    (same_lines {input = input} [] [] parts others (rw append-nil e) (rw append-nil f) (inl refl)
+        (inl refl) h k).0,
+    refl,
+  )
+  one_output (Some Records) input x y Refused Refused (parts, rest, front, e, c, h, o)
+      (others, other, begin, f, d, k, u) =
       let same = same_lines rest other parts others e f (inr c) (inr d) h k in
       (o ∙ ap (λ l. l ++ codes "unexpected end of input\n") same.0 ∙ sym u, refl)
   one_output (Some Records) input x y Fine Refused (parts, e, h) (others, other, begin, f, d, k, u) =
-      absurd (rw (← (same_lines {input = input} [] other parts others (rw append-nil e) f (inl refl) (inr d) h k).1) at d)
+      absurd (rw (← (same_lines {input = input} [] other parts others (rw append-nil e) f (inl refl)
+      (inr d) h k).1) at d)
   one_output (Some Records) input x y Refused Fine (parts, rest, front, e, c, h, o) (others, f, k) =
       absurd (rw (same_lines rest [] parts others e (rw append-nil f) (inr c) (inl refl) h k).1 at c)
   one_output None input x y Usage Usage p q = (p ∙ sym q, refl)

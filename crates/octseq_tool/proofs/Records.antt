@@ -36,7 +36,8 @@ one_reading (a ∷ parts) [] x y h k e = no_record y a (records_of parts ++ x) k
 one_reading (a ∷ parts) (b ∷ others) x y h k e =
     let long : length a ≡ length b = cc in
     let after : (a ++ records_of parts) ++ x ≡ (b ++ records_of others) ++ y = cc in
-    let both = halves a b (records_of parts ++ x) (records_of others ++ y) long (rw (append_assoc, append_assoc) at after) in
+    let both = halves a b (records_of parts ++ x) (records_of others ++ y) long
+    (rw (append_assoc, append_assoc) at after) in
     let rest = one_reading parts others x y h k both.1 in
     (ap (λ p. p ∷ parts) both.0 ∙ ap (λ ps. b ∷ ps) rest.0, rest.1)
 

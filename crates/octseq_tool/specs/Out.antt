@@ -5,7 +5,7 @@ use Rattle.std.specs.Fmt.{decimal}
 use Rattle.std.specs.Io.KnownBytes.{Appends, Consumes}
 use Rattle.std.specs.List.{flat_map}
 use Rattle.octseq.specs.Fault.{Fault, IsFault, fault_text}
-use Rattle.octseq.specs.Parts.{Part, Splits, IsFront, text}
+use Rattle.octseq.specs.Parts.{Part, Splits, StartsWith, text}
 use Rattle.octseq.specs.Text.{IsWellFormed}
 use Rattle.octseq_tool.specs.declared.engine.Command.{Command}
 use Rattle.octseq_tool.specs.declared.engine.Command.TheVariants.{Check, Lossy, Lossy64, Records}
@@ -93,7 +93,7 @@ pub record Broke (word : List ℕ) (given before after : Option (List ℕ)) : Ty
   pub named : IsNamed word command
   pub whole : IfSome given (λ octets. input ≡ octets)
   pub made : Out command input output status
-  pub begins : IsFront front output
+  pub begins : StartsWith front output
   pub written : Appends before after front
 
 -- the exit status of the process

@@ -6,7 +6,7 @@ use Rattle.std.proofs.Math.Seq.{take-append_seam, drop-append_seam}
 use Rattle.std.proofs.lemmas.List.{take-append-drop, drop_all}
 use Rattle.std.proofs.lemmas.Bool.Decides.{nat_tests}
 use Rattle.octseq_utf8.specs.Encoding.{IsEncoding, number_of}
-use Rattle.octseq_utf8.specs.Parts.{IsFront, IsBeginning, IsBadPart, Part, Char, Bad, Splits, nothing, encoding}
+use Rattle.octseq_utf8.specs.Parts.{StartsWith, IsBeginning, IsBadPart, Part, Char, Bad, Splits, nothing, encoding}
 use Rattle.octseq_utf8.specs.Parts.{bad_part}
 use Rattle.octseq_utf8.specs.Reading.{width, fitting, part_len, first_part, parts_after, parts_of, width_of}
 use Rattle.octseq_utf8.specs.Reading.{least_second, greatest_second, fitting_by}
@@ -100,12 +100,12 @@ whole_encoding x s w m =
     (from_fits (take (fitting x) x) f.1 (omega arith))
 
 -- if less than the width fits, no front is an encoding
-no_encoding : (x e : List ℕ) → IsShort x → IsFront e x → ¬ IsEncoding e
+no_encoding : (x e : List ℕ) → IsShort x → StartsWith e x → ¬ IsEncoding e
 no_encoding x e h (r, same) p =
     let f = (fits_all p).0 in grind (arith, encoding_fitting p r, ap fitting same, ap width same)
 
 -- a front that is a beginning is no longer than what fits, and there is a width
-pub beginning_fitting : (x q : List ℕ) → IsFront q x → IsBeginning q → (length q ≤ fitting x) × (1 ≤ width x)
+pub beginning_fitting : (x q : List ℕ) → StartsWith q x → IsBeginning q → (length q ≤ fitting x) × (1 ≤ width x)
 beginning_fitting x q (r, same) b =
     let f = fits_more q r (length q) (beginning_fits b) in
     grind (arith, fits_fitting (q ++ r) (length q) f, ap fitting same, ap width same)
@@ -117,7 +117,7 @@ fitting_beginning x s w m =
     let f = fits_take x (fitting x) (fitting_fits x s w) in beginning_from (take (fitting x) x) f.1 (omega arith)
 
 -- the first n octets are a front
-pub front_of : (x : List ℕ) (n : ℕ) → IsFront (take n x) x
+pub front_of : (x : List ℕ) (n : ℕ) → StartsWith (take n x) x
 front_of x n = (drop n x, sym (take-append-drop n x))
 
 -- the bad part of x
@@ -131,9 +131,9 @@ bad_of x s h = record {
     long : length (take (part_len x) x) ≡ part_len x
     long = let within = part_len_within x s in length-take (part_len x) x ∙ omega arith
 
-    longest : IsShort x → (IsBeginning (take (part_len x) x) × ((q : List ℕ) → IsFront q x → IsBeginning q
+    longest : IsShort x → (IsBeginning (take (part_len x) x) × ((q : List ℕ) → StartsWith q x → IsBeginning q
         → length q ≤ length (take (part_len x) x)))
-        ⊎ ((length (take (part_len x) x) ≡ 1) × ((q : List ℕ) → IsFront q x → ¬ IsBeginning q))
+        ⊎ ((length (take (part_len x) x) ≡ 1) × ((q : List ℕ) → StartsWith q x → ¬ IsBeginning q))
     longest (inl z) = inr (omega (arith, long, fitting_wide x), λ q f b. omega (arith, beginning_fitting x q f b))
     longest (inr z) =
         let f = fitting_fits x s (omega arith) in
@@ -162,8 +162,8 @@ bad_only x p b = go (whole_or x)
     some : 1 ≤ length x
     some = let s = bad_some b in omega arith
 
-    long : IsShort x → (IsBeginning p × ((q : List ℕ) → IsFront q x → IsBeginning q → length q ≤ length p))
-        ⊎ ((length p ≡ 1) × ((q : List ℕ) → IsFront q x → ¬ IsBeginning q)) → length p ≡ part_len x
+    long : IsShort x → (IsBeginning p × ((q : List ℕ) → StartsWith q x → IsBeginning q → length q ≤ length p))
+        ⊎ ((length p ≡ 1) × ((q : List ℕ) → StartsWith q x → ¬ IsBeginning q)) → length p ≡ part_len x
     long (inl z) (inl g) = absurd (omega (arith, beginning_fitting x p b.front g.0))
     long (inl z) (inr g) = omega (arith, fitting_wide x)
     long (inr z) (inl g) =

@@ -4,8 +4,8 @@ use Rattle.std.specs.List.{flat_map}
 use Rattle.octseq_utf8.specs.Encoding.{IsEncoding, number_of, encoding_of}
 
 -- The octets begin with the front.
-abbrev pub IsFront : List ℕ → List ℕ → Type 0
-IsFront front octets = (rest : List ℕ) × (octets ≡ front ++ rest)
+abbrev pub StartsWith : List ℕ → List ℕ → Type 0
+StartsWith front octets = (rest : List ℕ) × (octets ≡ front ++ rest)
 
 -- A nonempty front of an encoding that isn't the whole of it.
 pub record IsBeginning (octets : List ℕ) : Type 0 where
@@ -17,11 +17,11 @@ pub record IsBeginning (octets : List ℕ) : Type 0 where
 -- The bad part of octets of which no front is an encoding: the longest front that is a beginning, or the first octet if
 -- none is.
 pub record IsBadPart (octets bad : List ℕ) : Type 0 where
-  pub front : IsFront bad octets
-  pub none : (e : List ℕ) → IsFront e octets → ¬ IsEncoding e
-  pub longest : (IsBeginning bad × ((other : List ℕ) → IsFront other octets → IsBeginning other
+  pub front : StartsWith bad octets
+  pub none : (e : List ℕ) → StartsWith e octets → ¬ IsEncoding e
+  pub longest : (IsBeginning bad × ((other : List ℕ) → StartsWith other octets → IsBeginning other
       → length other ≤ length bad))
-      ⊎ ((length bad ≡ 1) × ((other : List ℕ) → IsFront other octets → ¬ IsBeginning other))
+      ⊎ ((length bad ≡ 1) × ((other : List ℕ) → StartsWith other octets → ¬ IsBeginning other))
 
 -- A part: a character by its number, or a bad part by its octets.
 pub data Part : Type 0 where

@@ -1,5 +1,6 @@
 -- Where a search for the first fault is, and how many turns it took.
-use Rattle.std.specs.Prelude.{ℕ, ◌+◌, ◌*◌, ◌/◌, ◌<◌, ◌-◌, ◌≤◌, ◌≡◌, List, length, take, drop, slice_index, count_by, nat_le}
+use Rattle.std.specs.Prelude.{ℕ, ◌+◌, ◌*◌, ◌/◌, ◌<◌, ◌-◌, ◌≤◌, ◌≡◌, List, length, take, drop, slice_index, count_by}
+use Rattle.std.specs.Prelude.{nat_le}
 use Rattle.std.specs.List.{All}
 use Rattle.octseq_utf8.specs.Fault.{Fault, IsFault, fault_end}
 use Rattle.octseq_utf8.specs.Text.{Spells, chars}

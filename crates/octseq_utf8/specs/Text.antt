@@ -50,7 +50,7 @@ abbrev pub IsBoundary : List ℕ → ℕ → Type 0
 IsBoundary octets n = (front : List ℕ) × IsFrontOf (chars octets) n front
 
 -- The octets are a text followed by the encoding of one more character.
-pub record EndsWith (octets : List ℕ) (c : ℕ) : Type 0 where
+pub record EndsWithCharacter (octets : List ℕ) (c : ℕ) : Type 0 where
   pub before : List ℕ
   pub text : IsWellFormed before
   pub whole : octets ≡ before ++ encoding_of c

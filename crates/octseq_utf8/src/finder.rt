@@ -5,8 +5,8 @@
 //! - **Encodings.** While the current octet is 80 or more, four octets are loaded as one number, and one mask for each
 //!   length tests whether an encoding begins there. Two encodings of two octets fit one number, and are passed at once.
 //!   After an encoding of three or four octets, a loop tests for that length only. The masks cover the whole table:
-//!   they leave no encoding to the next step, though no proof needs that. A single octet below 80 between two encodings,
-//!   such as a space between words, takes a step of its own.
+//!   they leave no encoding to the next step, though no proof needs that. A single octet below 80 between two
+//!   encodings, such as a space between words, takes a step of its own.
 //! - **The table.** What no mask accepts is read octet by octet, by the table of the Unicode Standard. Only this step
 //!   decides that there is a fault, and its size. It looks at the second octet first, since most bad parts end before
 //!   it.
@@ -33,7 +33,7 @@ ghost use Rattle.octseq_utf8.specs.Text.{IsWellFormed, chars};
 use crate::fault::Utf8Fault;
 use crate::lanes::{ascii_len, is_ascii_of_two_lanes, is_high_in_thirty_two, is_short_ascii};
 use crate::turns::Turns;
-use crate::words::{begins, begins_three, begins_two, is_four, is_two_twos, last_word, word_at};
+use crate::words::{begins, begins_three, begins_two, is_four, is_pair_of_two, last_word, word_at};
 
 /// The number of octets of an encoding that begins with this one, or 0 if none does.
 #[tactic(auto, unfolding(crate::specs::Reading::width_of))]
@@ -101,7 +101,8 @@ pub enum FirstPart {
     Bad(Option<usize>),
 }
 
-/// Returns what octets begin with, by Table 3-7 of the Unicode Standard, and counts a turn. There is at least one octet.
+/// Returns what octets begin with, by Table 3-7 of the Unicode Standard, and counts a turn. There is at least one
+/// octet.
 pub fn first_part(octets: &[u8], turns: &mut Turns) -> FirstPart
     requires { 0 < length octets.now }
     ensures part { IsAtFront octets.now result }
@@ -145,7 +146,7 @@ fn part_at_front(octets: &[u8]) -> FirstPart
 /// Passes octets below 80 from a place on, in lanes of thirty-two that have no other octet. Returns the place after
 /// them.
 #[inline(always)]
-fn pass_lanes(octets: &[u8], from: usize, turns: &mut Turns) -> usize
+fn skip_lanes(octets: &[u8], from: usize, turns: &mut Turns) -> usize
     requires { from ≤ length octets.now }
     ensures past { from ≤ result }
     ensures passed { (start : ℕ) → IsSearching octets.now from start turns.old
@@ -163,7 +164,7 @@ fn pass_lanes(octets: &[u8], from: usize, turns: &mut Turns) -> usize
 /// Passes octets below 80 from a place on, while sixteen octets are left: first lanes that have no other octet, then
 /// the octets before the first of 80 or more. Returns the place after them.
 #[inline(always)]
-fn pass_ascii(octets: &[u8], from: usize, turns: &mut Turns) -> usize
+fn skip_ascii(octets: &[u8], from: usize, turns: &mut Turns) -> usize
     requires { from ≤ length octets.now }
     ensures past { from ≤ result }
     ensures further { from + 15 < length octets.now → slice_index octets.now from < 0x80 → from < result }
@@ -171,7 +172,7 @@ fn pass_ascii(octets: &[u8], from: usize, turns: &mut Turns) -> usize
         → IsSearching octets.now result start turns.new }
 {
     let lanes = octets.len().saturating_sub(15);
-    let mut at = pass_lanes(octets, from, turns);
+    let mut at = skip_lanes(octets, from, turns);
     while at < lanes {
         let low = ascii_len(octets, at);
         if low < 16 {
@@ -189,7 +190,7 @@ fn pass_ascii(octets: &[u8], from: usize, turns: &mut Turns) -> usize
 ///
 /// Text of one script is mostly encodings of one length, and a loop that tests for only that length is fastest.
 #[inline(always)]
-fn pass_run<const LEN: usize>(octets: &[u8], from: usize, turns: &mut Turns) -> usize
+fn skip_run<const LEN: usize>(octets: &[u8], from: usize, turns: &mut Turns) -> usize
     requires from { from ≤ length octets.now }
     requires len { (2 ≤ LEN) × (LEN ≤ 4) }
     ensures past { from ≤ result }
@@ -208,7 +209,7 @@ fn pass_run<const LEN: usize>(octets: &[u8], from: usize, turns: &mut Turns) -> 
 /// Passes encodings of two octets or more from a place on, and single octets below 80 between them, one a turn, while
 /// sixteen octets are left. Returns the place after them, or the fault there.
 #[inline(always)]
-fn pass_encodings(octets: &[u8], from: usize, turns: &mut Turns) -> Result<usize, Utf8Fault>
+fn skip_encodings(octets: &[u8], from: usize, turns: &mut Turns) -> Result<usize, Utf8Fault>
     requires { from ≤ length octets.now }
     ensures past { IfOk result (λ place. from ≤ place) }
     ensures further { from + 15 < length octets.now → 0x80 ≤ slice_index octets.now from
@@ -228,15 +229,15 @@ fn pass_encodings(octets: &[u8], from: usize, turns: &mut Turns) -> Result<usize
         let word = word_at(octets, at);
         if octets[at] < 0x80 {
             at += 1;
-        } else if is_two_twos(word) {
+        } else if is_pair_of_two(word) {
             turns.tick();
             at += 4;
         } else if begins_two(word) {
             at += 2;
         } else if begins_three(word) {
-            at = pass_run::<3>(octets, at + 3, turns);
+            at = skip_run::<3>(octets, at + 3, turns);
         } else if is_four(word) {
-            at = pass_run::<4>(octets, at + 4, turns);
+            at = skip_run::<4>(octets, at + 4, turns);
         } else {
             match part_at_front(&octets[at..]) {
                 FirstPart::Encoding(len) => at += len,
@@ -250,7 +251,7 @@ fn pass_encodings(octets: &[u8], from: usize, turns: &mut Turns) -> Result<usize
 /// Passes one part a turn from a place on, while four octets are left. Returns the place after them, or the fault
 /// there.
 #[inline(always)]
-fn pass_words(octets: &[u8], from: usize, turns: &mut Turns) -> Result<usize, Utf8Fault>
+fn skip_words(octets: &[u8], from: usize, turns: &mut Turns) -> Result<usize, Utf8Fault>
     requires { from ≤ length octets.now }
     ensures passed { IfOk result (λ place. IsAfter octets.now from place turns.old turns.new) }
     ensures few { IfOk result (λ place. length octets.now < place + 4) }
@@ -322,7 +323,7 @@ fn fault_by_parts(octets: &[u8], from: usize, turns: &mut Turns) -> Option<Utf8F
         turns.pass(octets.len() - from);
         return None;
     }
-    let mut at = match pass_words(octets, from, turns) {
+    let mut at = match skip_words(octets, from, turns) {
         Ok(at) => at,
         Err(fault) => return Some(fault),
     };
@@ -366,8 +367,8 @@ pub fn first_fault(octets: &[u8], turns: &mut Turns) -> Option<Utf8Fault>
     }
     let mut at = 0;
     while at + 15 < octets.len() {
-        match pass_encodings(octets, at, turns) {
-            Ok(end) => at = pass_ascii(octets, end, turns),
+        match skip_encodings(octets, at, turns) {
+            Ok(end) => at = skip_ascii(octets, end, turns),
             Err(fault) => return Some(fault),
         }
     }
@@ -379,7 +380,7 @@ pub fn first_fault(octets: &[u8], turns: &mut Turns) -> Option<Utf8Fault>
 /// # Examples
 ///
 /// ```
-/// // crates/octseq_uses/src/single_calls.rt
+/// // crates/octseq_callers/src/single_calls.rt
 /// match find_fault(octets) {
 ///     None => octets,
 ///     Some(fault) => &octets[..fault.valid_up_to()],

@@ -40,7 +40,7 @@ pub(crate) fn begins_two(word: u32) -> bool
 /// Whether the word is two encodings of two octets: each first octet has the top bits 110 and isn't C0 or C1, and each
 /// second one has the top bits 10.
 #[inline(always)]
-pub(crate) fn is_two_twos(word: u32) -> bool
+pub(crate) fn is_pair_of_two(word: u32) -> bool
     ensures first { result ≡ true → IsEncoding (take 2 (to_le_bytes w32 word)) }
     ensures second { result ≡ true → IsEncoding (drop 2 (to_le_bytes w32 word)) }
 {

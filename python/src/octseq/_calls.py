@@ -88,7 +88,7 @@ class Header(NamedTuple):
 
 
 class Row(NamedTuple):
-    """A question or a record, as `octseq_dns_row` has it. Places are counted from the first octet of its source."""
+    """A question or a record, as `octseq_dns_row` has it. Offsets are counted from the first octet of its source."""
 
     name_at: int
     data_at: int
@@ -100,7 +100,7 @@ class Row(NamedTuple):
 
 
 class BgpRow(NamedTuple):
-    """A prefix or a path attribute, as `octseq_bgp_row` has it. Places are counted from the message's first octet."""
+    """A prefix or a path attribute, as `octseq_bgp_row` has it. Offsets are counted from the message's first octet."""
 
     at: int
     len: int
@@ -230,16 +230,16 @@ def dns_query(number: int, flags: int, name: bytes, rtype: int, rclass: int) -> 
 
 
 def dns_answer(query: bytes, flags: int, source: bytes, rows: Sequence[Row]) -> bytes:
-    """The answer to a message, with rows whose places are in `source`. Malformed, BadRow, Immovable, TooLong."""
+    """The answer to a message, with rows whose offsets are in `source`. Malformed, BadRow, Immovable, TooLong."""
     array = ffi.new(_ROWS.kind, rows)
     arguments = query, len(query), flags, source, len(source), array, len(array)
     return _filled(_OCTETS, 65_535, lib.octseq_dns_answer, *arguments)
 
 
-def dns_name_compare(one: bytes, one_place: int, other: bytes, other_place: int) -> int:
-    """-1, 0 or 1: how the name at one place compares with that at another. Malformed."""
+def dns_name_compare(one: bytes, one_offset: int, other: bytes, other_offset: int) -> int:
+    """-1, 0 or 1: how the name at one offset compares with that at another. Malformed."""
     order = ffi.new(_ORDER)
-    _check(lib.octseq_dns_name_compare(one, len(one), one_place, other, len(other), other_place, order))
+    _check(lib.octseq_dns_name_compare(one, len(one), one_offset, other, len(other), other_offset, order))
     return order[0]
 
 
@@ -250,24 +250,24 @@ def dns_data_is_typed(data: bytes, row: Row) -> bool:
 
 
 def dns_data_fields(data: bytes, row: Row, room: int) -> Iterator[tuple[int, int, int, int]]:
-    """Of each field of the data of a row the place, the length, the number and the kind, as `octseq_dns_field` has
+    """Of each field of the data of a row the offset, the length, the number and the kind, as `octseq_dns_field` has
     them. `room` is a guess of how many fields there are. Malformed."""
     _, at, size, _, rtype, rclass, _ = row
     rows = _filled(_FIELDS, room, lib.octseq_dns_data_fields, data, len(data), at, size, rtype, rclass)
     return _FIELD.iter_unpack(rows)
 
 
-def dns_message_place(data: bytes) -> tuple[bool, int]:
+def dns_message_offset(data: bytes) -> tuple[bool, int]:
     """Whether octets are a message, and where reading them stops."""
-    place = ffi.new(_SIZE)
-    return lib.octseq_dns_message_fault(data, len(data), place) == lib.OCTSEQ_OK, place[0]
+    offset = ffi.new(_SIZE)
+    return lib.octseq_dns_message_fault(data, len(data), offset) == lib.OCTSEQ_OK, offset[0]
 
 
-def bgp_message_place(data: bytes, session: int) -> int:
+def bgp_message_offset(data: bytes, session: int) -> int:
     """Where reading octets as a message of a session stops."""
-    place = ffi.new(_SIZE)
-    lib.octseq_bgp_message_fault(data, len(data), session, place)
-    return place[0]
+    offset = ffi.new(_SIZE)
+    lib.octseq_bgp_message_fault(data, len(data), session, offset)
+    return offset[0]
 
 
 def bgp_rows(data: bytes, session: int, room: int) -> list[BgpRow]:
@@ -328,7 +328,7 @@ def mrt_attributes(data: bytes, room: int) -> bytes:
 
 
 def dns_record_from_text(text: str) -> bytes:
-    """The octets of the record that a text is, which is ASCII. Malformed, with the place; TooLong, MemoryError."""
+    """The octets of the record that a text is, which is ASCII. Malformed, with the offset; TooLong, MemoryError."""
     octets, offset = text.encode("ascii"), ffi.new(_SIZE)
 
     def call(*arguments: Any) -> int:
@@ -341,7 +341,7 @@ def dns_record_from_text(text: str) -> bytes:
 
 
 def dns_message_from_text(text: str) -> bytes:
-    """The message that a text is, which is ASCII. Malformed, with the place; TooLong, MemoryError."""
+    """The message that a text is, which is ASCII. Malformed, with the offset; TooLong, MemoryError."""
     octets, line, offset = text.encode("ascii"), ffi.new(_SIZE), ffi.new(_SIZE)
 
     def call(*arguments: Any) -> int:

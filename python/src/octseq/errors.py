@@ -5,7 +5,7 @@ from __future__ import annotations
 class Malformed(ValueError):
     """The octets, or the text, aren't what they were read as."""
 
-    place: int | None = None
+    offset: int | None = None
     """Where reading octets stopped, counted from the first of them, if that is known."""
 
     line: int | None = None
@@ -15,10 +15,10 @@ class Malformed(ValueError):
     """How many characters of that line come before the word that is refused."""
 
 
-def malformed_at(place: int, message: str) -> Malformed:
-    """The error about octets, of which reading stopped at a place."""
+def malformed_at(offset: int, message: str) -> Malformed:
+    """The error about octets, of which reading stopped at an offset."""
     error = Malformed(message)
-    error.place = place
+    error.offset = offset
     return error
 
 

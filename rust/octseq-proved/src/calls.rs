@@ -107,7 +107,7 @@ unsafe extern "C" {
     ) -> u32;
     fn octseq_lossy_end(state: *mut LossyState, out: *mut u8, room: usize, written: *mut usize) -> u32;
     fn octseq_dns_message_header(octets: *const u8, len: usize, header: *mut Header) -> u32;
-    fn octseq_dns_message_fault(octets: *const u8, len: usize, place: *mut usize) -> u32;
+    fn octseq_dns_message_fault(octets: *const u8, len: usize, offset: *mut usize) -> u32;
     fn octseq_dns_rows(octets: *const u8, len: usize, out: *mut Row, room: usize, count: *mut usize) -> u32;
     fn octseq_dns_message_text(octets: *const u8, len: usize, out: *mut u8, room: usize, written: *mut usize) -> u32;
     fn octseq_dns_rewrite(octets: *const u8, len: usize, out: *mut u8, room: usize, written: *mut usize) -> u32;
@@ -182,7 +182,7 @@ unsafe extern "C" {
     fn octseq_dns_name_text(
         octets: *const u8,
         len: usize,
-        place: usize,
+        offset: usize,
         out: *mut u8,
         room: usize,
         written: *mut usize,
@@ -190,7 +190,7 @@ unsafe extern "C" {
     fn octseq_dns_name_wire(
         octets: *const u8,
         len: usize,
-        place: usize,
+        offset: usize,
         out: *mut u8,
         room: usize,
         written: *mut usize,
@@ -199,10 +199,10 @@ unsafe extern "C" {
     fn octseq_dns_name_compare(
         one: *const u8,
         one_len: usize,
-        one_place: usize,
+        one_offset: usize,
         other: *const u8,
         other_len: usize,
-        other_place: usize,
+        other_offset: usize,
         order: *mut i32,
     ) -> u32;
     fn octseq_dns_data_is_typed(
@@ -239,7 +239,7 @@ unsafe extern "C" {
     fn octseq_dns_class_text(rclass: u16, out: *mut u8, room: usize, written: *mut usize) -> u32;
     fn octseq_dns_rtype_from_text(text: *const u8, len: usize, rtype: *mut u16) -> u32;
     fn octseq_dns_class_from_text(text: *const u8, len: usize, rclass: *mut u16) -> u32;
-    fn octseq_bgp_message_fault(octets: *const u8, len: usize, session: u32, place: *mut usize) -> u32;
+    fn octseq_bgp_message_fault(octets: *const u8, len: usize, session: u32, offset: *mut usize) -> u32;
     fn octseq_bgp_rows(
         octets: *const u8,
         len: usize,
@@ -273,7 +273,7 @@ unsafe extern "C" {
 pub type Written = (u32, usize);
 
 /// Where a text is refused: the line, from 1 on, and the offset in it.
-pub type TextPlace = (usize, usize);
+pub type TextOffset = (usize, usize);
 
 pub fn is_utf8(octets: &[u8]) -> bool {
     // SAFETY: `octets` is a slice that is borrowed for the call.
@@ -322,10 +322,10 @@ pub fn message_header(octets: &[u8]) -> (u32, Header) {
 
 /// The status, and where reading the octets as a message stops.
 pub fn message_fault(octets: &[u8]) -> (u32, usize) {
-    let mut place = 0;
-    // SAFETY: `octets` is a slice that is borrowed for the call; `place` is a variable.
-    let status = unsafe { octseq_dns_message_fault(octets.as_ptr(), octets.len(), &mut place) };
-    (status, place)
+    let mut offset = 0;
+    // SAFETY: `octets` is a slice that is borrowed for the call; `offset` is a variable.
+    let status = unsafe { octseq_dns_message_fault(octets.as_ptr(), octets.len(), &mut offset) };
+    (status, offset)
 }
 
 pub fn rows(octets: &[u8], out: &mut [Row]) -> Written {
@@ -440,7 +440,7 @@ pub fn answer_within(query: &[u8], flags: u16, source: &[u8], rows: &[Row], limi
 }
 
 /// What was written, and where the text is refused.
-pub fn record_from_text(text: &str, out: &mut [u8]) -> (Written, TextPlace) {
+pub fn record_from_text(text: &str, out: &mut [u8]) -> (Written, TextOffset) {
     let text = text.as_bytes();
     let (mut written, mut offset) = (0, 0);
     // SAFETY: `text` and `out` are slices that are borrowed for the call, `out` alone; the two others are variables,
@@ -453,7 +453,7 @@ pub fn record_from_text(text: &str, out: &mut [u8]) -> (Written, TextPlace) {
 }
 
 /// What was written, and where the text is refused.
-pub fn message_from_text(text: &str, out: &mut [u8]) -> (Written, TextPlace) {
+pub fn message_from_text(text: &str, out: &mut [u8]) -> (Written, TextOffset) {
     let text = text.as_bytes();
     let (mut written, mut line, mut offset) = (0, 0, 0);
     // SAFETY: `text` and `out` are slices that are borrowed for the call, `out` alone; the three others are variables,
@@ -465,22 +465,22 @@ pub fn message_from_text(text: &str, out: &mut [u8]) -> (Written, TextPlace) {
     ((status, written), (line, offset))
 }
 
-pub fn name_text(octets: &[u8], place: usize, out: &mut [u8]) -> Written {
+pub fn name_text(octets: &[u8], offset: usize, out: &mut [u8]) -> Written {
     let mut written = 0;
     // SAFETY: `octets` and `out` are slices that are borrowed for the call, `out` alone; `written` is a variable. Any
-    // place may be asked.
+    // offset may be asked.
     let status = unsafe {
-        octseq_dns_name_text(octets.as_ptr(), octets.len(), place, out.as_mut_ptr(), out.len(), &mut written)
+        octseq_dns_name_text(octets.as_ptr(), octets.len(), offset, out.as_mut_ptr(), out.len(), &mut written)
     };
     (status, written)
 }
 
-pub fn name_wire(octets: &[u8], place: usize, out: &mut [u8]) -> Written {
+pub fn name_wire(octets: &[u8], offset: usize, out: &mut [u8]) -> Written {
     let mut written = 0;
     // SAFETY: `octets` and `out` are slices that are borrowed for the call, `out` alone; `written` is a variable. Any
-    // place may be asked.
+    // offset may be asked.
     let status = unsafe {
-        octseq_dns_name_wire(octets.as_ptr(), octets.len(), place, out.as_mut_ptr(), out.len(), &mut written)
+        octseq_dns_name_wire(octets.as_ptr(), octets.len(), offset, out.as_mut_ptr(), out.len(), &mut written)
     };
     (status, written)
 }
@@ -494,20 +494,20 @@ pub fn name_from_text(text: &str, out: &mut [u8]) -> Written {
     (status, written)
 }
 
-/// The status, and the order of the name at a place of `one` and that at a place of `other`.
-pub fn name_compare(one: &[u8], one_place: usize, other: &[u8], other_place: usize) -> (u32, i32) {
+/// The status, and the order of the name at an offset of `one` and that at an offset of `other`.
+pub fn name_compare(one: &[u8], one_offset: usize, other: &[u8], other_offset: usize) -> (u32, i32) {
     let mut order = 0;
-    // SAFETY: `one` and `other` are slices that are borrowed for the call; `order` is a variable. Any places may be
+    // SAFETY: `one` and `other` are slices that are borrowed for the call; `order` is a variable. Any offsets may be
     // asked.
     let status = unsafe {
         let (one, one_len) = (one.as_ptr(), one.len());
-        octseq_dns_name_compare(one, one_len, one_place, other.as_ptr(), other.len(), other_place, &mut order)
+        octseq_dns_name_compare(one, one_len, one_offset, other.as_ptr(), other.len(), other_offset, &mut order)
     };
     (status, order)
 }
 
 pub fn data_is_typed(octets: &[u8], data_at: usize, data_len: usize, rtype: Rtype, class: Class) -> bool {
-    // SAFETY: `octets` is a slice that is borrowed for the call. Any places may be asked.
+    // SAFETY: `octets` is a slice that is borrowed for the call. Any offsets may be asked.
     unsafe { octseq_dns_data_is_typed(octets.as_ptr(), octets.len(), data_at, data_len, rtype.0, class.0) != 0 }
 }
 
@@ -521,7 +521,7 @@ pub fn data_text(
 ) -> Written {
     let mut written = 0;
     // SAFETY: `octets` and `out` are slices that are borrowed for the call, `out` alone; `written` is a variable. Any
-    // places may be asked.
+    // offsets may be asked.
     let status = unsafe {
         octseq_dns_data_text(
             octets.as_ptr(),
@@ -548,7 +548,7 @@ pub fn data_fields(
 ) -> Written {
     let mut count = 0;
     // SAFETY: `octets` and `out` are slices that are borrowed for the call, `out` alone; `count` is a variable. The
-    // layout of a row is checked above, and any numbers make a row. Any places may be asked.
+    // layout of a row is checked above, and any numbers make a row. Any offsets may be asked.
     let status = unsafe {
         octseq_dns_data_fields(
             octets.as_ptr(),
@@ -597,10 +597,10 @@ pub fn class_from_text(text: &str) -> (u32, Class) {
 
 /// The status, and where reading the octets as a message of a session stops.
 pub fn bgp_message_fault(octets: &[u8], session: u32) -> (u32, usize) {
-    let mut place = 0;
-    // SAFETY: `octets` is a slice that is borrowed for the call; `place` is a variable. Any session may be asked.
-    let status = unsafe { octseq_bgp_message_fault(octets.as_ptr(), octets.len(), session, &mut place) };
-    (status, place)
+    let mut offset = 0;
+    // SAFETY: `octets` is a slice that is borrowed for the call; `offset` is a variable. Any session may be asked.
+    let status = unsafe { octseq_bgp_message_fault(octets.as_ptr(), octets.len(), session, &mut offset) };
+    (status, offset)
 }
 
 pub fn bgp_rows(octets: &[u8], session: u32, out: &mut [bgp::Row]) -> Written {

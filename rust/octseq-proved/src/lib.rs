@@ -6,7 +6,7 @@
 //!
 //! Each call needs no more than `core`: texts and messages are written into a room that the caller lends. The feature
 //! `alloc` has the same calls with a [`String`](https://doc.rust-lang.org/alloc/string/) or a vector in the room's
-//! place, and the feature `std`, which is a default and has `alloc` in it, the reader of MRT files.
+//! offset, and the feature `std`, which is a default and has `alloc` in it, the reader of MRT files.
 #![no_std]
 #![deny(unsafe_op_in_unsafe_fn, missing_docs)]
 

@@ -18,8 +18,8 @@ pub struct Fault {
 impl fmt::Display for Fault {
     fn fmt(&self, f: &mut fmt::Formatter<'_>) -> fmt::Result {
         match self.error_len {
-            Some(len) => write!(f, "ill-formed UTF-8 at place {}, {len} octets", self.valid_up_to),
-            None => write!(f, "the octets end within a character that begins at place {}", self.valid_up_to),
+            Some(len) => write!(f, "ill-formed UTF-8 at offset {}, {len} octets", self.valid_up_to),
+            None => write!(f, "the octets end within a character that begins at offset {}", self.valid_up_to),
         }
     }
 }

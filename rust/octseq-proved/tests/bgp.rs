@@ -73,8 +73,8 @@ fn fronts_of_a_message_are_none() {
     }
 }
 
-/// Its parts are at the places 19, 21, 24, 26, 30 and 39: the length of the withdrawn prefixes and one of them, that of
-/// the attributes and two of them, and a prefix.
+/// Its parts are at the offsets 19, 21, 24, 26, 30 and 39: the length of the withdrawn prefixes and one of them, that
+/// of the attributes and two of them, and a prefix.
 #[test]
 fn updates_stop_at_the_first_part_that_is_not_there() {
     assert_eq!(first_fault(UPDATE, Session::MODERN), None);
@@ -82,16 +82,16 @@ fn updates_stop_at_the_first_part_that_is_not_there() {
         assert_eq!(first_fault(&UPDATE[..len], Session::MODERN), Some(0), "{len}");
     }
     let wrong = [(0, 0, 0), (16, 1, 0), (18, 6, 0), (19, 1, 19), (21, 33, 21), (25, 255, 24), (28, 255, 26)];
-    for (at, octet, place) in wrong.into_iter().chain([(32, 255, 30), (39, 16, 39), (39, 33, 39)]) {
+    for (at, octet, offset) in wrong.into_iter().chain([(32, 255, 30), (39, 16, 39), (39, 33, 39)]) {
         let mut octets = *UPDATE;
         octets[at] = octet;
-        assert_eq!(first_fault(&octets, Session::MODERN), Some(place), "{at} {octet}");
+        assert_eq!(first_fault(&octets, Session::MODERN), Some(offset), "{at} {octet}");
     }
     let session = Session { add_path: AddPath::all(true), ..Session::MODERN };
     assert_eq!((first_fault(PATH, session), first_fault(PATH, Session::MODERN)), (None, Some(28)));
 }
 
-/// An OPEN of one parameter, which is at place 29, a KEEPALIVE, a NOTIFICATION and a ROUTE-REFRESH.
+/// An OPEN of one parameter, which is at offset 29, a KEEPALIVE, a NOTIFICATION and a ROUTE-REFRESH.
 #[test]
 fn other_messages_stop_after_their_header_or_at_a_parameter() {
     let messages: [(&[u8], _); 9] = [
@@ -105,11 +105,11 @@ fn other_messages_stop_after_their_header_or_at_a_parameter() {
         (b"\x05\0\x01\0\x01", None),
         (b"\x05\0\x01\0", Some(19)),
     ];
-    for (after, place) in messages {
+    for (after, offset) in messages {
         let (mut octets, len) = ([0xFF; 34], 18 + after.len());
         octets[16..18].copy_from_slice(&(len as u16).to_be_bytes());
         octets[18..len].copy_from_slice(after);
-        assert_eq!(first_fault(&octets[..len], Session::MODERN), place, "{after:?}");
+        assert_eq!(first_fault(&octets[..len], Session::MODERN), offset, "{after:?}");
     }
 }
 

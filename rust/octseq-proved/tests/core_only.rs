@@ -6,7 +6,7 @@ use octseq_proved::{NoRoom, dns};
 /// The query for the address of `example.com.`, written down by RFC 1035, 4.1.
 const QUERY: &[u8; 29] = b"\x12\x34\x01\0\0\x01\0\0\0\0\0\0\x07example\x03com\0\0\x01\0\x01";
 
-/// Its answer, 192.0.2.1, whose name is a pointer to place 12.
+/// Its answer, 192.0.2.1, whose name is a pointer to offset 12.
 const ANSWER: &[u8; 45] = b"\x12\x34\x81\x80\0\x01\0\x01\0\0\0\0\x07example\x03com\0\0\x01\0\x01\
     \xC0\x0C\0\x01\0\x01\0\0\x01\x2C\0\x04\xC0\0\x02\x01";
 
@@ -113,7 +113,7 @@ fn entries_are_read_in_a_room() {
     let record = entries.next().unwrap();
     assert_eq!((record.section(), record.ttl()), (Section::Answer, 300));
     assert_eq!((record.rtype(), record.class()), (Rtype::A, Class::IN));
-    assert_eq!((record.name().place(), record.name()), (29, question.name()));
+    assert_eq!((record.name().offset(), record.name()), (29, question.name()));
     let data = record.data().unwrap();
     assert!(data.is_typed());
     assert_eq!(data.octets(), [192, 0, 2, 1]);
@@ -142,13 +142,13 @@ fn fronts_of_a_message_are_none() {
     }
 }
 
-/// The header, the question and the record are at the places 0, 12 and 29.
+/// The header, the question and the record are at the offsets 0, 12 and 29.
 #[test]
 fn messages_stop_at_the_first_part_that_is_not_there() {
     assert_eq!(dns::first_fault(ANSWER), None);
     for len in 0..ANSWER.len() {
-        let place = [0, 12, 29][usize::from(len >= 12) + usize::from(len >= 29)];
-        assert_eq!(dns::first_fault(&ANSWER[..len]), Some(place), "{len}");
+        let offset = [0, 12, 29][usize::from(len >= 12) + usize::from(len >= 29)];
+        assert_eq!(dns::first_fault(&ANSWER[..len]), Some(offset), "{len}");
     }
     let mut longer = [0; 65536];
     longer[..45].copy_from_slice(ANSWER);
@@ -173,8 +173,8 @@ fn a_name_is_read_and_written() {
 
 #[test]
 fn what_is_no_name_is_refused() {
-    for place in [28, 44, 45, usize::MAX] {
-        assert_eq!(Name::new(ANSWER, place).err(), Some(Error::Malformed), "{place}");
+    for offset in [28, 44, 45, usize::MAX] {
+        assert_eq!(Name::new(ANSWER, offset).err(), Some(Error::Malformed), "{offset}");
     }
     assert_eq!(Name::new(b"\xC0\0", 0).err(), Some(Error::Malformed));
     for text in ["", "example.com", "..", "a..b.", "\\256."] {

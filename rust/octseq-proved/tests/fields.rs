@@ -136,7 +136,7 @@ fn what_has_no_form_is_octets() {
     judge(b"", 65280, &[Field::Octets(b"")]);
 }
 
-/// The target of an MX is `mail` and a pointer to place 12.
+/// The target of an MX is `mail` and a pointer to offset 12.
 const ANSWER: &[u8; 50] = b"\0\x07\x84\0\0\x01\0\x01\0\0\0\0\x07example\x03com\0\0\x0F\0\x01\
     \xC0\x0C\0\x0F\0\x01\0\0\x01\x2C\0\x09\0\x0A\x04mail\xC0\x0C";
 

@@ -180,17 +180,17 @@ mod with_vectors {
         assert!(octets[20..].iter().all(|octet| *octet == 0));
     }
 
-    /// A pointer leads to a place of the record: at 0 is its name, at 2 the end of that, at 13 the pointer itself.
+    /// A pointer leads to an offset of the record: at 0 is its name, at 2 the end of that, at 13 the pointer itself.
     #[test]
     fn data_that_is_given_as_octets_may_have_pointers() {
         let query = query(7, 0, ".", Rtype::NS, Class::IN).unwrap();
-        for (place, data) in [(0, Ok("a.")), (2, Ok(".")), (13, Err(Error::Immovable)), (15, Err(Error::Immovable))] {
-            let octets = record_from_text(&format!("a. 1 IN NS \\# 2 c0{place:02x}")).unwrap();
+        for (offset, data) in [(0, Ok("a.")), (2, Ok(".")), (13, Err(Error::Immovable)), (15, Err(Error::Immovable))] {
+            let octets = record_from_text(&format!("a. 1 IN NS \\# 2 c0{offset:02x}")).unwrap();
             let record = Entry::of_record(&octets, Section::Answer).unwrap();
             let answer = Message::new(&query).unwrap().answer(0, record.source(), &[record.row()]);
             let shown =
                 answer.map(|octets| Message::new(&octets).unwrap().entries().unwrap()[1].data().unwrap().text());
-            assert_eq!(shown, data.map(|text| Ok(text.into())), "{place}");
+            assert_eq!(shown, data.map(|text| Ok(text.into())), "{offset}");
         }
     }
 

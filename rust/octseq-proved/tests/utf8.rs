@@ -130,8 +130,8 @@ fn a_room_is_enough_from_the_length_of_the_text_on() {
 
 #[test]
 fn faults_are_shown() {
-    assert_eq!(from_utf8(b"ab\xFF").unwrap_err().to_string(), "ill-formed UTF-8 at place 2, 1 octets");
-    let cut = "the octets end within a character that begins at place 1";
+    assert_eq!(from_utf8(b"ab\xFF").unwrap_err().to_string(), "ill-formed UTF-8 at offset 2, 1 octets");
+    let cut = "the octets end within a character that begins at offset 1";
     assert_eq!(from_utf8(b"a\xC3").unwrap_err().to_string(), cut);
     assert_eq!(NoRoom { needed: 9 }.to_string(), "too little room: it takes 9");
 }

@@ -67,7 +67,7 @@ pub fn append_i16_le<B: OctetsBuilder>(builder: &mut B, value: i16) -> Result<()
 /// # Examples
 ///
 /// ```
-/// // crates/octseq_uses/src/note.rt
+/// // crates/octseq_callers/src/note.rt
 /// append_u8(builder, MARK)?;
 /// append_u16_be(builder, number)?;
 /// append_part_u8(builder, words.as_bytes())?;

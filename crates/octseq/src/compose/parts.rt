@@ -1,6 +1,6 @@
 //! Parts at the end of a content: a length followed by its octets.
 ghost use Rattle.std.specs.Prelude.{◌≡◌, ◌+◌, ◌++◌, ◌↔◌, true, length, IsFalse, OnOk, OnErr};
-ghost use Rattle.octseq_core.specs.Limit.{IsPast};
+ghost use Rattle.octseq_core.specs.Limit.{ExceedsLimit};
 ghost use Rattle.octseq.specs.Composer.{AppendsPart};
 ghost use Rattle.octseq.specs.Refusal.{IsShort, IsMemory, IsTooLong, compose_error};
 
@@ -85,7 +85,7 @@ pub fn append_part_u32_be<B: OctetsBuilder + Truncate>(
 
 /// Whether a builder has room for `first + more` further octets. Always true without a limit.
 fn has_room<B: OctetsBuilder>(builder: &B, first: usize, more: usize) -> bool
-    ensures { IsFalse result ↔ IsPast B.limit (length (B.content builder.now) + (first + more)) }
+    ensures { IsFalse result ↔ ExceedsLimit B.limit (length (B.content builder.now) + (first + more)) }
 {
     match builder.max_len() {
         None => true,
@@ -106,7 +106,7 @@ fn append_both<B: OctetsBuilder + Truncate>(
     ensures err { OnErr result (B.content builder.new ≡ B.content builder.old) }
     ensures fits { ¬ IsTooLong compose_error result }
     ensures short { IsShort compose_error result
-        ↔ IsPast B.limit (length (B.content builder.old) + (length first.now + length more.now)) }
+        ↔ ExceedsLimit B.limit (length (B.content builder.old) + (length first.now + length more.now)) }
     ensures memory { IsMemory compose_error result → B.asks ≡ true }
     ensures borrows { B.borrows builder.new ≡ B.borrows builder.old }
 {

@@ -53,7 +53,7 @@ impl<R: AsOctets> Parser<R> {
     /// # Examples
     ///
     /// ```
-    /// // crates/octseq_uses/src/note.rt
+    /// // crates/octseq_callers/src/note.rt
     /// if parser.parse_u8()? != MARK {
     ///     return Err(ReadError::Malformed);
     /// }

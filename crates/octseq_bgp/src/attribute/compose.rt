@@ -27,8 +27,8 @@ pub trait ComposeAttribute {
     fn attribute_type(&self) -> AttributeType
         ensures { result ≡ value_type (says self.now) };
 
-    /// Returns the number of octets of the value, or `None` if it doesn't fit: a number, a count or its octets don't, or
-    /// a list that has one item or more has none.
+    /// Returns the number of octets of the value, or `None` if it doesn't fit: a number, a count or its octets don't,
+    /// or a list that has one item or more has none.
     fn compose_len(&self, session: &SessionConfig) -> Option<usize>
         ensures some { IfSome result (λ len. len ≡ length (value_octets session.now (says self.now))) }
         ensures fit { IsSome result ↔ FitsValue session.now (says self.now) };

@@ -7,7 +7,7 @@ ghost use Rattle.octseq_bgp.specs.declared.attribute.next_hop.NextHop.{NextHop a
 use crate::family::AfiSafiType;
 use crate::whole::parse_all;
 use octseq::{AsOctets, Malformed, Parser};
-use octseq_format::Octets;
+use octseq_format::OctetArray;
 
 /// The next hops of reachable prefixes.
 #[derive(Clone, Copy, Debug, PartialEq, Eq)]
@@ -21,7 +21,7 @@ pub enum NextHop {
 }
 
 /// Two IPv6 addresses.
-type TwoAddresses = (Octets<16>, Octets<16>);
+type TwoAddresses = (OctetArray<16>, OctetArray<16>);
 
 impl NextHop {
     /// Reads all that a parser has left as next hops of a family: 4 octets (IPv4 only), 16, or 32.
@@ -38,7 +38,7 @@ impl NextHop {
         ensures malformed { IsErr result → (it : Hop) → ¬ IsNextHop family (window parser) it }
     {
         if parser.remaining() == 16 {
-            return Ok(NextHop::Ipv6(parse_all::<R, Octets<16>>(parser)?));
+            return Ok(NextHop::Ipv6(parse_all::<R, OctetArray<16>>(parser)?));
         }
         if parser.remaining() == 32 {
             let (global, link_local) = parse_all::<R, TwoAddresses>(parser)?;
@@ -47,6 +47,6 @@ impl NextHop {
         if family.afi_number() != 1 {
             return Err(Malformed);
         }
-        Ok(NextHop::Ipv4(parse_all::<R, Octets<4>>(parser)?))
+        Ok(NextHop::Ipv4(parse_all::<R, OctetArray<4>>(parser)?))
     }
 }

@@ -14,8 +14,8 @@ use octseq::{AsOctets, Malformed, Parser, Turns};
 use octseq_format::{Counted, Nested, U8, U16Be};
 use std::alloc::AllocError;
 
-// The parser comes first, as in the values of other attributes. A value is then moved in the same pieces whatever it is,
-// which takes half the time.
+// The parser comes first, as in the values of other attributes. A value is then moved in the same pieces whatever it
+// is, which takes half the time.
 
 /// Reachable prefixes.
 #[derive(Debug)]

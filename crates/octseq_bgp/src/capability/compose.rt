@@ -177,6 +177,7 @@ impl<'a> ComposeCapability for NewCapability<'a> {
             NewCapability::FourOctetAsn(asn) => asn.part_len(true),
             NewCapability::AddPath(families) => add_path_len(families),
             NewCapability::Unknown(code, octets) => {
+                // A code is a number below 256.
                 let _code = *code;
                 if octets.len() > VALUE_MAX {
                     return None;

@@ -196,8 +196,7 @@ impl<R: AsOctets + Copy> Capability<R> {
         let Some(code) = CapabilityType::from_number(self.code) else {
             return Err(Malformed);
         };
-        let value = CapabilityValue::parse_counted(code, self.octets, turns)?;
-        Ok(value)
+        CapabilityValue::parse_counted(code, self.octets, turns)
     }
 
     /// Returns the value by its code, or else opaque octets.

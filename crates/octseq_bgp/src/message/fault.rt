@@ -38,14 +38,15 @@ impl<R: AsOctets + Copy> UpdateMessage<R> {
     /// that isn't accepted comes in order, with the worst handling of its faults, followed by a fault for a missing
     /// attribute, if one is missing. For the whole UPDATE, see [`handling`](Self::handling).
     pub fn faults(&self, external: bool) -> Faults<R>
-        ensures { (row : List said.Fault) → AreLeft result row → AreFaultsOf external (update_of self.now) row }
+        ensures { (row : List said.AttributeFault) → AreLeft result row
+            → AreFaultsOf external (update_of self.now) row }
     {
         let session = self.path_attributes.session();
         Faults {
             attributes: self.path_attributes,
             seen: [false; 256],
             external,
-            missing: missing_handling(self.misses(&session)),
+            missing: missing_handling(self.lacks_mandatory(&session)),
         }
     }
 }
@@ -59,10 +60,10 @@ impl<R: AsOctets + Copy> Faults<R> {
             × (attributes_left self.new.attributes ≡ []) × (self.new.seen ≡ self.old.seen) }
         ensures some { IfSome result (λ it. attributes_left self.old.attributes
             ≡ attribute_of it.0 ∷ attributes_left self.new.attributes) }
-        ensures accepted { IfSome result (λ it. rank it.1 ≡ 0 → (row : List said.Fault)
+        ensures accepted { IfSome result (λ it. rank it.1 ≡ 0 → (row : List said.AttributeFault)
             → AreLeft self.new row → AreLeft self.old row) }
-        ensures fault { IfSome result (λ it. ¬ (rank it.1 ≡ 0) → (row : List said.Fault) → AreLeft self.new row
-            → AreLeft self.old (record { place = Some (attribute_of it.0); rank = rank it.1 } ∷ row)) }
+        ensures fault { IfSome result (λ it. ¬ (rank it.1 ≡ 0) → (row : List said.AttributeFault) → AreLeft self.new row
+            → AreLeft self.old (record { attribute = Some (attribute_of it.0); rank = rank it.1 } ∷ row)) }
         ensures missing { self.new.missing ≡ self.old.missing }
     {
         let session = self.attributes.session();
@@ -87,7 +88,8 @@ impl<R: AsOctets + Copy> Iterator for Faults<R> {
 
     ghost next_gives = { λ old result new.
         (IsNone result → AreLeft old [])
-        × IfSome result (λ fault. (row : List said.Fault) → AreLeft new row → AreLeft old (fault_of fault ∷ row)) };
+        × IfSome result (λ fault. (row : List said.AttributeFault) → AreLeft new row
+        → AreLeft old (fault_of fault ∷ row)) };
 
     ghost remaining = { λ faults. at_most (faults_most faults) };
 

@@ -3,7 +3,7 @@ ghost use Rattle.std.specs.Prelude.{◌≡◌, ◌↔◌, ◌≤◌, ◌⊎◌, 
 ghost use Rattle.octseq.specs.Parser.{window};
 ghost use Rattle.octseq_bgp.specs.Handling.{rank, type_rank, opaque_rank, external_rank, flags_rank, again_rank};
 ghost use Rattle.octseq_bgp.specs.Handling.{unknown_rank, NamesFamily, IsRank, HasType};
-ghost use Rattle.octseq_bgp.specs.Handling.{IsWorst, Reaches, ReachesSome, Misses, IsHandling};
+ghost use Rattle.octseq_bgp.specs.Handling.{IsWorst, IsReachWithPrefixes, ReachesSome, LacksMandatory, IsHandling};
 ghost use Rattle.octseq_bgp.specs.Lists.{attribute_of, attributes_left};
 ghost use Rattle.octseq_bgp.specs.Parsed.{update_of};
 ghost use Rattle.octseq_bgp.specs.Value.{Value, HasForm};
@@ -80,7 +80,7 @@ fn external_handling(external: bool, kind: AttributeType) -> Handling
 }
 
 /// Returns the handling of an attribute whose octets don't have the form of its type.
-fn opaque_handling(external: bool, names: bool, kind: AttributeType) -> Handling
+fn malformed_handling(external: bool, names: bool, kind: AttributeType) -> Handling
     ensures { rank result ≡ opaque_rank external names kind }
 {
     match kind {
@@ -119,14 +119,14 @@ fn type_handling(
     let opaque = if typed {
         Handling::Accept
     } else {
-        opaque_handling(external, names, kind)
+        malformed_handling(external, names, kind)
     };
     let always = external_handling(external, kind).worse(opaque);
     flags_handling(kind, flags).worse(always)
 }
 
 /// Returns the handling of an attribute whose type has occurred before.
-fn again_handling(type_code: u8) -> Handling
+fn duplicate_handling(type_code: u8) -> Handling
     ensures { rank result ≡ again_rank type_code }
 {
     match type_code {
@@ -182,7 +182,7 @@ pub(crate) fn attribute_handling<R: AsOctets + Copy>(
     ensures { IsRank session.now external again (attribute_of attribute.now) (rank result) }
 {
     if again {
-        return again_handling(attribute.type_code);
+        return duplicate_handling(attribute.type_code);
     }
     match AttributeType::from_number(attribute.type_code) {
         None => unknown_handling(attribute.flags.0),
@@ -229,7 +229,7 @@ fn has_type<R: AsOctets + Copy>(attributes: PathAttributes<R>, type_code: u8) ->
 
 /// Whether an attribute is an MP_REACH_NLRI that has prefixes.
 fn reaches<R: AsOctets + Copy>(session: &SessionConfig, attribute: &PathAttribute<R>) -> bool
-    ensures { IsTrue result ↔ Reaches session.now (attribute_of attribute.now) }
+    ensures { IsTrue result ↔ IsReachWithPrefixes session.now (attribute_of attribute.now) }
 {
     if attribute.type_code != 14 {
         return false;
@@ -259,10 +259,10 @@ fn reaches_some<R: AsOctets + Copy>(session: &SessionConfig, attributes: PathAtt
 }
 
 /// Returns the handling by whether a mandatory attribute is missing.
-pub(crate) fn missing_handling(misses: bool) -> Handling
-    ensures { rank result ≡ (if misses then 2 else 0) }
+pub(crate) fn missing_handling(lacks_mandatory: bool) -> Handling
+    ensures { rank result ≡ (if lacks_mandatory then 2 else 0) }
 {
-    if misses {
+    if lacks_mandatory {
         Handling::TreatAsWithdraw
     } else {
         Handling::Accept
@@ -271,8 +271,8 @@ pub(crate) fn missing_handling(misses: bool) -> Handling
 
 impl<R: AsOctets + Copy> UpdateMessage<R> {
     /// Whether a mandatory attribute is missing.
-    pub(crate) fn misses(&self, session: &SessionConfig) -> bool
-        ensures { IsTrue result ↔ Misses session.now (update_of self.now) }
+    pub(crate) fn lacks_mandatory(&self, session: &SessionConfig) -> bool
+        ensures { IsTrue result ↔ LacksMandatory session.now (update_of self.now) }
     {
         let attributes = self.path_attributes;
         let announces = self.announced.len() > 0;
@@ -288,6 +288,6 @@ impl<R: AsOctets + Copy> UpdateMessage<R> {
     {
         let session = self.path_attributes.session();
         let worst = worst_handling(&session, external, self.path_attributes);
-        worst.worse(missing_handling(self.misses(&session)))
+        worst.worse(missing_handling(self.lacks_mandatory(&session)))
     }
 }

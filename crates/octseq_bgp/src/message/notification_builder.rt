@@ -1,6 +1,6 @@
 //! Writing NOTIFICATIONs: RFC 4271, 4.5.
 ghost use Rattle.std.specs.Prelude.{◌≡◌, ◌<◌, ◌≤◌, ◌↔◌, [], length, true, IfOk, OnOk, OnErr};
-ghost use Rattle.octseq.specs.Limit.{IsPast};
+ghost use Rattle.octseq.specs.Limit.{ExceedsLimit};
 ghost use Rattle.octseq.specs.Refusal.{IsMalformed, IsShort, IsMemory, append_error, write_error};
 ghost use Rattle.octseq_bgp.specs.WrittenMessage.{limit_of, longest};
 ghost use Rattle.octseq_bgp.specs.WrittenNotification.{communication_octets, notification_octets, with_data};
@@ -24,10 +24,10 @@ pub struct NotificationBuilder<B: AsOctets> {
 
 impl<B: AsOctets> Model for NotificationBuilder<B> {
     ghost use Rattle.std.specs.Coded.{codes};
-    ghost use Rattle.octseq_bgp.specs.WrittenMessage.{Writing};
+    ghost use Rattle.octseq_bgp.specs.WrittenMessage.{WritingMessage};
     ghost use Rattle.octseq_bgp.specs.WrittenNotification.{IsNotificationWritten, WrittenNotification, notification_in};
 
-    ghost Value = { Writing B WrittenNotification };
+    ghost Value = { WritingMessage B WrittenNotification };
 
     ghost view = { λ n. record { octets = n.octets; message = notification_in (B.content n.octets); most = n.most } };
 
@@ -60,7 +60,7 @@ impl<B: OctetsBuilder + Truncate + AsOctetsMut> NotificationBuilder<B> {
     ) -> Result<Self, AppendError>
         ensures message { IfOk result (λ n. n.message ≡ record { code = code; subcode = subcode; «data» = [] }) }
         ensures most { IfOk result (λ n. n.most ≡ longest session.now.extended_message) }
-        ensures short { IsShort append_error result ↔ IsPast B.limit 21 }
+        ensures short { IsShort append_error result ↔ ExceedsLimit B.limit 21 }
         ensures memory { IsMemory append_error result → B.asks ≡ true }
         ensures borrows { IfOk result (λ n. B.borrows n.octets ≡ B.borrows octets) }
     {
@@ -76,13 +76,13 @@ impl<B: OctetsBuilder + Truncate + AsOctetsMut> NotificationBuilder<B> {
     ///
     /// # Errors
     ///
-    /// `Short` exactly if the message would exceed the limit of the builder's type, or the maximum of the session: 4,096
-    /// octets, or 65,535 if messages are extended. Otherwise `Memory` if a request for memory was refused. The message
-    /// is then unchanged.
+    /// `Short` exactly if the message would exceed the limit of the builder's type, or the maximum of the session:
+    /// 4,096 octets, or 65,535 if messages are extended. Otherwise `Memory` if a request for memory was refused. The
+    /// message is then unchanged.
     pub fn push(&mut self, octets: &[u8]) -> Result<(), AppendError>
         ensures ok { OnOk result (self.new.message ≡ with_data self.old.message octets.now) }
         ensures err { OnErr result (self.new.message ≡ self.old.message) }
-        ensures short { IsShort append_error result ↔ IsPast (limit_of self.old.most B.limit)
+        ensures short { IsShort append_error result ↔ ExceedsLimit (limit_of self.old.most B.limit)
             (length (notification_octets (with_data self.old.message octets.now))) }
         ensures memory { IsMemory append_error result → B.asks ≡ true }
         ensures most { self.new.most ≡ self.old.most }
@@ -91,8 +91,8 @@ impl<B: OctetsBuilder + Truncate + AsOctetsMut> NotificationBuilder<B> {
         extend(&mut self.octets, self.most, &Slice(octets))
     }
 
-    /// Appends a text to the data, after its length, or nothing. As all data of code 6 and subcode 2 or 4 it is a shutdown
-    /// communication: RFC 9003, 2.
+    /// Appends a text to the data, after its length, or nothing. As all data of code 6 and subcode 2 or 4 it is a
+    /// shutdown communication: RFC 9003, 2.
     ///
     /// # Errors
     ///
@@ -102,7 +102,8 @@ impl<B: OctetsBuilder + Truncate + AsOctetsMut> NotificationBuilder<B> {
         ensures ok { OnOk result (self.new.message ≡ with_data self.old.message (communication_octets text.now)) }
         ensures err { OnErr result (self.new.message ≡ self.old.message) }
         ensures malformed { IsMalformed write_error result ↔ (255 < length text.now) }
-        ensures short { IsShort write_error result ↔ (length text.now ≤ 255) × IsPast (limit_of self.old.most B.limit)
+        ensures short { IsShort write_error result ↔ (length text.now ≤ 255)
+            × ExceedsLimit (limit_of self.old.most B.limit)
             (length (notification_octets (with_data self.old.message (communication_octets text.now)))) }
         ensures memory { IsMemory write_error result → B.asks ≡ true }
         ensures most { self.new.most ≡ self.old.most }

@@ -2,7 +2,7 @@
 ghost use Rattle.std.specs.Prelude.{◌≡◌, ◌≤◌, ◌<◌, ◌+◌, ◌^◌, ◌++◌, ◌↔◌, ℕ, List, length, true, false};
 ghost use Rattle.std.specs.Prelude.{IsTrue, IsSome, IfSome, IfOk};
 ghost use Rattle.octseq.specs.Integer.{octets_be};
-ghost use Rattle.octseq.specs.Limit.{IsPast, IsWithin};
+ghost use Rattle.octseq.specs.Limit.{ExceedsLimit, IsWithin};
 ghost use Rattle.octseq.specs.Refusal.{IsShort, IsMemory, append_error};
 ghost use Rattle.octseq_bgp.specs.OneOpen.{open_once};
 ghost use Rattle.octseq_bgp.specs.Open.{length_octets};
@@ -297,8 +297,8 @@ fn long_front(my_asn: u16, holdtime: u16, identifier: u32) -> [u8; 32]
 }
 
 impl<B: OctetsBuilder + Truncate + AsOctetsMut> OpenBuilder<B> {
-    /// Begins an OPEN of version 4 without parameters, in place of what the builder holds. Its parameters have at most 255
-    /// octets.
+    /// Begins an OPEN of version 4 without parameters, in place of what the builder holds. Its parameters have at
+    /// most 255 octets.
     ///
     /// # Errors
     ///
@@ -311,7 +311,7 @@ impl<B: OctetsBuilder + Truncate + AsOctetsMut> OpenBuilder<B> {
         identifier: u32,
     ) -> Result<Self, AppendError>
         ensures message { IfOk result (λ o. o.message ≡ bare_open false my_asn holdtime identifier) }
-        ensures short { IsShort append_error result ↔ IsPast B.limit 29 }
+        ensures short { IsShort append_error result ↔ ExceedsLimit B.limit 29 }
         ensures memory { IsMemory append_error result → B.asks ≡ true }
         ensures borrows { IfOk result (λ o. B.borrows o.octets ≡ B.borrows octets) }
     {
@@ -339,7 +339,7 @@ impl<B: OctetsBuilder + Truncate + AsOctetsMut> OpenBuilder<B> {
         identifier: u32,
     ) -> Result<Self, AppendError>
         ensures message { IfOk result (λ o. o.message ≡ bare_open true my_asn holdtime identifier) }
-        ensures short { IsShort append_error result ↔ IsPast B.limit 32 }
+        ensures short { IsShort append_error result ↔ ExceedsLimit B.limit 32 }
         ensures memory { IsMemory append_error result → B.asks ≡ true }
         ensures borrows { IfOk result (λ o. B.borrows o.octets ≡ B.borrows octets) }
     {
@@ -364,10 +364,10 @@ impl<B: OctetsBuilder + Truncate + AsOctetsMut> OpenBuilder<B> {
     ///
     /// # Errors
     ///
-    /// `Malformed` exactly if the length doesn't fit: it is more than 255, or in the long form more than 65,535; or if the
-    /// first parameter of the short form is of type 255, which would be read as the long form. Otherwise `Short` exactly
-    /// if the message would exceed the limit of the builder's type or 4,096 octets, or in the short form its parameters
-    /// 255. Otherwise `Memory` if a request for memory was refused. The message is then unchanged.
+    /// `Malformed` exactly if the length doesn't fit: it is more than 255, or in the long form more than 65,535; or
+    /// if the first parameter of the short form is of type 255, which would be read as the long form. Otherwise
+    /// `Short` exactly if the message would exceed the limit of the builder's type or 4,096 octets, or in the short
+    /// form its parameters 255. Otherwise `Memory` if a request for memory was refused. The message is then unchanged.
     pub fn push_parameter(&mut self, kind: u8, octets: &[u8]) -> Result<(), WriteError>
         ensures pushes { PushesParameter B.limit B.asks (CanFollow self.old.message (kind, octets.now)) result
             (kind, octets.now) self.old.message self.new.message }
@@ -380,8 +380,8 @@ impl<B: OctetsBuilder + Truncate + AsOctetsMut> OpenBuilder<B> {
     ///
     /// # Errors
     ///
-    /// `Malformed` exactly if the capability doesn't fit, or in the short form has more than 253 octets after its code and
-    /// length. Otherwise as for [`push_parameter`](Self::push_parameter).
+    /// `Malformed` exactly if the capability doesn't fit, or in the short form has more than 253 octets after its
+    /// code and length. Otherwise as for [`push_parameter`](Self::push_parameter).
     pub fn push_capability<C: ComposeCapability>(
         &mut self,
         capability: &C,

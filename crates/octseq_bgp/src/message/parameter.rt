@@ -1,7 +1,7 @@
 //! Optional parameters: RFC 4271, 4.2, and RFC 9072, 2.
 ghost use Rattle.std.specs.Prelude.{◌≡◌, ◌+◌, ◌≤◌, ℕ, List, IsErr, IfOk, ⊤};
 ghost use Rattle.octseq.specs.Parser.{window};
-ghost use Rattle.octseq.specs.Window.{Window as Place, left};
+ghost use Rattle.octseq.specs.Window.{Window as ParserWindow, left};
 ghost use Rattle.octseq_format.specs.Row.{Holds, held_once};
 ghost use Rattle.octseq_bgp.specs.Fills.{Counts, Fills, TakesFirst};
 ghost use Rattle.octseq_bgp.specs.OneParts.{one_tlv, prefix_code};
@@ -114,7 +114,7 @@ impl<R: AsOctets + Copy> Parameters<R> {
     ) -> Result<Parameters<R>, Malformed>
         ensures parameters { IfOk result (λ parameters.
             Fills (IsTlv (length_octets long)) (window parser) (parameters_left parameters)) }
-        ensures malformed { IsErr result → (row : List (ℕ × Place))
+        ensures malformed { IsErr result → (row : List (ℕ × ParserWindow))
             → ¬ Fills (IsTlv (length_octets long)) (window parser) row }
         ensures some { turns.old ≤ turns.new }
         ensures least { IfOk result (λ parameters. turns.old + length (parameters_left parameters) ≤ turns.new) }

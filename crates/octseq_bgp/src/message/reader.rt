@@ -9,7 +9,7 @@ ghost use Rattle.octseq_format.specs.Canonical.{AreOctets};
 ghost use Rattle.octseq_bgp.specs.Message.{IsMessage};
 ghost use Rattle.octseq_bgp.specs.Message as said;
 ghost use Rattle.octseq_bgp.specs.MessageReader.{reader_of, session_of, octets_of, is_over};
-ghost use Rattle.octseq_bgp.specs.Stream.{IsFramed, IsMisframed, IsCut};
+ghost use Rattle.octseq_bgp.specs.Stream.{IsFramed, IsMisframed, IsFrameCut};
 ghost use Rattle.octseq_bgp.specs.Stream.{IsMarked, longest_message, message_length};
 ghost use Rattle.octseq_bgp.specs.declared.session.SessionConfig.{SessionConfig as Session};
 
@@ -95,7 +95,7 @@ pub fn read_message<R: Read>(
         × Consumes (R.remaining reader.old) (R.remaining reader.new) octets.new.items }
     ensures end { result ≡ Ok false → Consumes (R.remaining reader.old) (R.remaining reader.new) []
         × IsAtEnd (R.remaining reader.new) }
-    ensures short { result ≡ Err ReadMessageError.Short → (read : List ℕ) × IsCut session.now read
+    ensures short { result ≡ Err ReadMessageError.Short → (read : List ℕ) × IsFrameCut session.now read
         × Consumes (R.remaining reader.old) (R.remaining reader.new) read × IsAtEnd (R.remaining reader.new) }
     ensures malformed { result ≡ Err ReadMessageError.Malformed → (read : List ℕ) × IsMisframed session.now read
         × Consumes (R.remaining reader.old) (R.remaining reader.new) read }
@@ -147,7 +147,8 @@ fn length_of(front: &[u8]) -> usize
     }
 }
 
-/// A reader of the messages of a stream, one at a time. It holds the octets of one message, and none after the last one.
+/// A reader of the messages of a stream, one at a time. It holds the octets of one message, and none after the last
+/// one.
 #[derive(Drop)]
 pub struct MessageReader<R> {
     frames: FrameReader<R, SessionConfig>,
@@ -181,7 +182,7 @@ impl<R: Read> MessageReader<R> {
             × Consumes (R.remaining (reader_of self.old)) (R.remaining (reader_of self.new)) (octets_of self.new) }
         ensures end { result ≡ Ok false → is_over self.old ≡ false → Consumes (R.remaining (reader_of self.old))
             (R.remaining (reader_of self.new)) [] × IsAtEnd (R.remaining (reader_of self.new)) }
-        ensures short { result ≡ Err ReadMessageError.Short → (read : List ℕ) × IsCut (session_of self.old) read
+        ensures short { result ≡ Err ReadMessageError.Short → (read : List ℕ) × IsFrameCut (session_of self.old) read
             × Consumes (R.remaining (reader_of self.old)) (R.remaining (reader_of self.new)) read
             × IsAtEnd (R.remaining (reader_of self.new)) }
         ensures malformed { result ≡ Err ReadMessageError.Malformed → (read : List ℕ)

@@ -1,6 +1,6 @@
 //! Messages that are written anew: RFC 4271, 4, and RFC 4760, 3 and 4.
 ghost use Rattle.std.specs.Prelude.{◌≡◌, ◌↔◌, ℕ, List, length, true, IsTrue, IfOk};
-ghost use Rattle.octseq.specs.Limit.{IsPast};
+ghost use Rattle.octseq.specs.Limit.{ExceedsLimit};
 ghost use Rattle.octseq.specs.Refusal.{IsMalformed, IsShort, IsMemory, append_error, write_error};
 ghost use Rattle.octseq_format.specs.Canonical.{AreOctets};
 ghost use Rattle.octseq_bgp.specs.Message as said;
@@ -23,7 +23,7 @@ use octseq_format::laws::are_octets;
 
 /// Whether so many octets are more than the limit of a builder.
 fn is_past<B: OctetsBuilder>(octets: &B, len: usize) -> bool
-    ensures { IsTrue result ↔ IsPast B.limit len }
+    ensures { IsTrue result ↔ ExceedsLimit B.limit len }
 {
     match octets.max_len() {
         Some(limit) => len > limit,
@@ -41,7 +41,8 @@ fn rewrite_message<R: AsOctets + Copy, B: OctetsBuilder + Truncate>(
     requires { IsMessage session.now octets.now (message_of message.now) }
     ensures rewritten { IfOk result (λ b. IsMessageRewritten octets.now (message_of message.now) (B.content b)) }
     ensures short { IsShort append_error result
-        ↔ ((out : List ℕ) × IsMessageRewritten octets.now (message_of message.now) out × IsPast B.limit (length out)) }
+        ↔ ((out : List ℕ) × IsMessageRewritten octets.now (message_of message.now) out
+        × ExceedsLimit B.limit (length out)) }
     ensures memory { IsMemory append_error result → B.asks ≡ true }
     ensures borrows { IfOk result (λ b. B.borrows b ≡ B.borrows builder) }
 {
@@ -81,7 +82,7 @@ pub fn rewrite<R: AsOctets + Copy, B: OctetsBuilder + Truncate>(
     ensures malformed { IsMalformed write_error result
         ↔ ((m : said.Message) → ¬ IsMessage session (R.content octets) m) }
     ensures short { IsShort write_error result
-        ↔ ((out : List ℕ) × IsRewritten session (R.content octets) out × IsPast B.limit (length out)) }
+        ↔ ((out : List ℕ) × IsRewritten session (R.content octets) out × ExceedsLimit B.limit (length out)) }
     ensures memory { IsMemory write_error result → B.asks ≡ true }
     ensures borrows { IfOk result (λ b. B.borrows b ≡ B.borrows builder) }
 {

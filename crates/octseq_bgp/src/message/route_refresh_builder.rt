@@ -1,6 +1,6 @@
 //! Writing ROUTE-REFRESHs: RFC 2918, 3, RFC 7313, 3.2, and RFC 5291, 4.
 ghost use Rattle.std.specs.Prelude.{◌≡◌, ◌↔◌, [], length, true, IfOk, OnOk, OnErr};
-ghost use Rattle.octseq.specs.Limit.{IsPast};
+ghost use Rattle.octseq.specs.Limit.{ExceedsLimit};
 ghost use Rattle.octseq.specs.Refusal.{IsShort, IsMemory, append_error};
 ghost use Rattle.octseq_bgp.specs.WrittenMessage.{limit_of, longest};
 ghost use Rattle.octseq_bgp.specs.WrittenRouteRefresh.{route_refresh_octets, with_orf};
@@ -21,11 +21,11 @@ pub struct RouteRefreshBuilder<B: AsOctets> {
 
 impl<B: AsOctets> Model for RouteRefreshBuilder<B> {
     ghost use Rattle.std.specs.Coded.{codes};
-    ghost use Rattle.octseq_bgp.specs.WrittenMessage.{Writing};
+    ghost use Rattle.octseq_bgp.specs.WrittenMessage.{WritingMessage};
     ghost use Rattle.octseq_bgp.specs.WrittenRouteRefresh.{IsRouteRefreshWritten, WrittenRouteRefresh};
     ghost use Rattle.octseq_bgp.specs.WrittenRouteRefresh.{route_refresh_in};
 
-    ghost Value = { Writing B WrittenRouteRefresh };
+    ghost Value = { WritingMessage B WrittenRouteRefresh };
 
     ghost view = { λ r. record { octets = r.octets; message = route_refresh_in (B.content r.octets); most = r.most } };
 
@@ -58,9 +58,10 @@ impl<B: OctetsBuilder + Truncate + AsOctetsMut> RouteRefreshBuilder<B> {
         subtype: u8,
         safi: u8,
     ) -> Result<Self, AppendError>
-        ensures message { IfOk result (λ r. r.message ≡ record { afi = afi; subtype = subtype; safi = safi; orf = [] }) }
+        ensures message { IfOk result
+            (λ r. r.message ≡ record { afi = afi; subtype = subtype; safi = safi; orf = [] }) }
         ensures most { IfOk result (λ r. r.most ≡ longest session.now.extended_message) }
-        ensures short { IsShort append_error result ↔ IsPast B.limit 23 }
+        ensures short { IsShort append_error result ↔ ExceedsLimit B.limit 23 }
         ensures memory { IsMemory append_error result → B.asks ≡ true }
         ensures borrows { IfOk result (λ r. B.borrows r.octets ≡ B.borrows octets) }
     {
@@ -76,13 +77,13 @@ impl<B: OctetsBuilder + Truncate + AsOctetsMut> RouteRefreshBuilder<B> {
     ///
     /// # Errors
     ///
-    /// `Short` exactly if the message would exceed the limit of the builder's type, or the maximum of the session: 4,096
-    /// octets, or 65,535 if messages are extended. Otherwise `Memory` if a request for memory was refused. The message
-    /// is then unchanged.
+    /// `Short` exactly if the message would exceed the limit of the builder's type, or the maximum of the session:
+    /// 4,096 octets, or 65,535 if messages are extended. Otherwise `Memory` if a request for memory was refused. The
+    /// message is then unchanged.
     pub fn push(&mut self, octets: &[u8]) -> Result<(), AppendError>
         ensures ok { OnOk result (self.new.message ≡ with_orf self.old.message octets.now) }
         ensures err { OnErr result (self.new.message ≡ self.old.message) }
-        ensures short { IsShort append_error result ↔ IsPast (limit_of self.old.most B.limit)
+        ensures short { IsShort append_error result ↔ ExceedsLimit (limit_of self.old.most B.limit)
             (length (route_refresh_octets (with_orf self.old.message octets.now))) }
         ensures memory { IsMemory append_error result → B.asks ≡ true }
         ensures most { self.new.most ≡ self.old.most }

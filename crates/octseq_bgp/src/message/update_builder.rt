@@ -4,9 +4,9 @@
 //! which turns into that of the next, so nothing can be pushed to an earlier part. Each push writes something whole or
 //! not at all, and the octets are a message at all times.
 ghost use Rattle.std.specs.Prelude.{◌≡◌, ◌↔◌, ◌≤◌, None, true, IfOk};
-ghost use Rattle.octseq.specs.Limit.{IsPast};
+ghost use Rattle.octseq.specs.Limit.{ExceedsLimit};
 ghost use Rattle.octseq.specs.Refusal.{IsShort, IsMemory, append_error};
-ghost use Rattle.octseq_bgp.specs.Held.{Held, held_once};
+ghost use Rattle.octseq_bgp.specs.Held.{HeldUpdate, held_once};
 ghost use Rattle.octseq_bgp.specs.Written.{update_octets, UpdateFits, longest};
 
 use crate::message::update_builder::octets::UpdateOctets;
@@ -27,8 +27,8 @@ mod prefixes;
 mod reach;
 mod values;
 
-/// An UPDATE that is written up to a part. Contracts see the builder of its octets, the session, what it says, and which
-/// list of prefixes can be continued.
+/// An UPDATE that is written up to a part. Contracts see the builder of its octets, the session, what it says, and
+/// which list of prefixes can be continued.
 #[derive(Drop)]
 pub struct UpdateBuilder<B: AsOctets, P: Part> {
     octets: UpdateOctets<B>,
@@ -36,8 +36,8 @@ pub struct UpdateBuilder<B: AsOctets, P: Part> {
     open_list: Option<MpList>,
     open_at: usize,
     part: PhantomData<P>,
-    ghost held: { Held P.reaches session octets open_list open_at } by { held_once P.reaches session octets open_list
-        open_at },
+    ghost held: { HeldUpdate P.reaches session octets open_list open_at } by { held_once P.reaches session
+        octets open_list open_at },
 }
 
 impl<B: AsOctets, P: Part> Model for UpdateBuilder<B, P> {
@@ -130,7 +130,7 @@ impl<B: OctetsBuilder + Truncate + AsOctetsMut> UpdateBuilder<B, Withdrawn> {
         ensures update { IfOk result (λ b. b.update ≡ empty_update) }
         ensures session { IfOk result (λ b. b.session ≡ session) }
         ensures open_list { IfOk result (λ b. b.open_list ≡ None) }
-        ensures short { IsShort append_error result ↔ IsPast B.limit 23 }
+        ensures short { IsShort append_error result ↔ ExceedsLimit B.limit 23 }
         ensures memory { IsMemory append_error result → B.asks ≡ true }
         ensures borrows { IfOk result (λ b. B.borrows b.octets ≡ B.borrows octets) }
     {

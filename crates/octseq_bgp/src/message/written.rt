@@ -1,6 +1,6 @@
 //! The octets of messages that are written.
 ghost use Rattle.std.specs.Prelude.{◌≡◌, ◌≤◌, ◌↔◌, length, true, IfOk};
-ghost use Rattle.octseq.specs.Limit.{IsPast};
+ghost use Rattle.octseq.specs.Limit.{ExceedsLimit};
 ghost use Rattle.octseq.specs.Refusal.{IsShort, IsMemory, append_error};
 ghost use Rattle.octseq_bgp.specs.WrittenMessage.{longest};
 
@@ -29,7 +29,7 @@ pub(super) fn longest(session: &SessionConfig) -> usize
 /// Begins a message, in place of what the builder holds.
 pub(super) fn begin<B: OctetsBuilder + Truncate>(octets: B, front: &[u8]) -> Result<B, AppendError>
     ensures ok { IfOk result (λ b. B.content b ≡ front.now) }
-    ensures short { IsShort append_error result ↔ IsPast B.limit (length front.now) }
+    ensures short { IsShort append_error result ↔ ExceedsLimit B.limit (length front.now) }
     ensures memory { IsMemory append_error result → B.asks ≡ true }
     ensures borrows { IfOk result (λ b. B.borrows b ≡ B.borrows octets) }
 {

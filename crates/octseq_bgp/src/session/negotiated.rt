@@ -4,7 +4,15 @@ ghost use Rattle.octseq_bgp.specs.Capability.{CapabilityValue as Value};
 ghost use Rattle.octseq_bgp.specs.CapabilityOf.{capabilities_left, capability_value_of, parameter_value_of};
 ghost use Rattle.octseq_bgp.specs.Items.{items_left};
 ghost use Rattle.octseq_bgp.specs.Lists.{parameters_left};
-ghost use Rattle.octseq_bgp.specs.Negotiated.{AreValues, SayAll, also_says, all_say, silence, path_flags, agrees};
+ghost use Rattle.octseq_bgp.specs.Negotiated.{
+  AreValues,
+  SayAll,
+  also_says,
+  all_say,
+  none_advertised,
+  path_flags,
+  agrees,
+};
 ghost use Rattle.octseq_bgp.specs.Negotiated.{IsAgreed, said_capabilities, paths_agreed};
 ghost use Rattle.octseq_bgp.specs.SpokenOf.{spoken_of, paths_of};
 
@@ -18,15 +26,15 @@ use std::alloc::AllocError;
 
 /// What capabilities say together.
 #[derive(Debug)]
-struct Spoken<R: AsOctets> {
+struct Advertised<R: AsOctets> {
     four_octet_asn: bool,
     extended_message: bool,
     paths: Option<Items<R, FamilyTuple>>,
 }
 
-impl<R: AsOctets + Copy> Copy for Spoken<R> {}
+impl<R: AsOctets + Copy> Copy for Advertised<R> {}
 
-impl<R: AsOctets + Copy> Clone for Spoken<R> {
+impl<R: AsOctets + Copy> Clone for Advertised<R> {
     ghost is_clone = { λ spoken copy. copy ≡ spoken };
 
     ghost is_infallible = { λ _. ⊤ };
@@ -36,12 +44,12 @@ impl<R: AsOctets + Copy> Clone for Spoken<R> {
     }
 }
 
-impl<R: AsOctets + Copy> Spoken<R> {
+impl<R: AsOctets + Copy> Advertised<R> {
     /// Returns the state in which nothing was said.
-    fn silence() -> Spoken<R>
-        ensures { spoken_of result ≡ silence }
+    fn none_advertised() -> Advertised<R>
+        ensures { spoken_of result ≡ none_advertised }
     {
-        Spoken {
+        Advertised {
             four_octet_asn: false,
             extended_message: false,
             paths: None,
@@ -49,21 +57,21 @@ impl<R: AsOctets + Copy> Spoken<R> {
     }
 
     /// Adds what one more capability says.
-    fn also(self, value: CapabilityValue<R>) -> Spoken<R>
+    fn also(self, value: CapabilityValue<R>) -> Advertised<R>
         ensures { spoken_of result ≡ also_says (spoken_of self) (capability_value_of value) }
     {
         match value {
-            CapabilityValue::FourOctetAsn(_) => Spoken {
+            CapabilityValue::FourOctetAsn(_) => Advertised {
                 four_octet_asn: true,
                 extended_message: self.extended_message,
                 paths: self.paths,
             },
-            CapabilityValue::ExtendedMessage => Spoken {
+            CapabilityValue::ExtendedMessage => Advertised {
                 four_octet_asn: self.four_octet_asn,
                 extended_message: true,
                 paths: self.paths,
             },
-            CapabilityValue::AddPath(paths) => Spoken {
+            CapabilityValue::AddPath(paths) => Advertised {
                 four_octet_asn: self.four_octet_asn,
                 extended_message: self.extended_message,
                 paths: Some(paths),
@@ -106,10 +114,10 @@ fn last_flags<R: AsOctets + Copy>(family: AfiSafiType, paths: Items<R, FamilyTup
 }
 
 /// Adds what capabilities say.
-fn hear_capabilities<R: AsOctets + Copy>(
-    before: Spoken<R>,
+fn add_capabilities<R: AsOctets + Copy>(
+    before: Advertised<R>,
     capabilities: Capabilities<R>,
-) -> Spoken<R>
+) -> Advertised<R>
     ensures { (values : List Value) × AreValues (capabilities_left capabilities) values
         × (spoken_of result ≡ all_say (spoken_of before) values) }
 {
@@ -122,25 +130,28 @@ fn hear_capabilities<R: AsOctets + Copy>(
 }
 
 /// Adds what a parameter says.
-fn hear_parameter<R: AsOctets + Copy>(before: Spoken<R>, value: ParameterValue<R>) -> Spoken<R>
+fn add_parameter<R: AsOctets + Copy>(
+    before: Advertised<R>,
+    value: ParameterValue<R>,
+) -> Advertised<R>
     ensures { (values : List Value) × AreValues (said_capabilities (parameter_value_of value)) values
         × (spoken_of result ≡ all_say (spoken_of before) values) }
 {
     match value {
-        ParameterValue::Capabilities(capabilities) => hear_capabilities(before, capabilities),
+        ParameterValue::Capabilities(capabilities) => add_capabilities(before, capabilities),
         ParameterValue::Opaque(_) => before,
     }
 }
 
 /// Returns what all parameters say.
-fn hear_parameters<R: AsOctets + Copy>(parameters: Parameters<R>) -> Spoken<R>
+fn advertised_by<R: AsOctets + Copy>(parameters: Parameters<R>) -> Advertised<R>
     ensures { (values : List Value) × SayAll (parameters_left parameters) values
-        × (spoken_of result ≡ all_say silence values) }
+        × (spoken_of result ≡ all_say none_advertised values) }
 {
-    let mut spoken = Spoken::silence();
+    let mut spoken = Advertised::none_advertised();
     let mut ahead = parameters;
     'parameters: while let Some(parameter) = ahead.next() {
-        spoken = hear_parameter(spoken, parameter.value());
+        spoken = add_parameter(spoken, parameter.value());
     }
     spoken
 }
@@ -153,8 +164,8 @@ impl SessionConfig {
     ) -> SessionConfig
         ensures { IsAgreed (parameters_left ours.now.parameters) (parameters_left theirs.now.parameters) result }
     {
-        let we = hear_parameters(ours.parameters);
-        let they = hear_parameters(theirs.parameters);
+        let we = advertised_by(ours.parameters);
+        let they = advertised_by(theirs.parameters);
         SessionConfig {
             four_octet_asn: we.four_octet_asn && they.four_octet_asn,
             add_path: agreed_paths(&we, &they),
@@ -165,8 +176,8 @@ impl SessionConfig {
 
 /// Returns the families whose path ids we receive and they send.
 fn agreed_paths<R: AsOctets + Copy, S: AsOctets + Copy>(
-    ours: &Spoken<R>,
-    theirs: &Spoken<S>,
+    ours: &Advertised<R>,
+    theirs: &Advertised<S>,
 ) -> AddPath
     ensures { result ≡ paths_agreed (spoken_of ours.now) (spoken_of theirs.now) }
 {

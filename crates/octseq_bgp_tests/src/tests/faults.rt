@@ -9,7 +9,7 @@ use std::alloc::AllocGlobal;
 use std::process::Abort;
 
 /// Returns the type of the attribute of a fault, or 0 for a missing one.
-fn place<R: AsOctets + Copy>(fault: &Fault<R>) -> u8 {
+fn type_code<R: AsOctets + Copy>(fault: &Fault<R>) -> u8 {
     match &fault.attribute {
         Some(attribute) => attribute.type_code,
         None => 0,
@@ -24,7 +24,7 @@ fn faults<R: AsOctets + Copy>(
 ) -> Vec<(u8, Handling)> {
     let mut all = Vec::new(rt.alloc());
     for fault in update.faults(external) {
-        unwrap(rt, all.push((place(&fault), fault.handling)));
+        unwrap(rt, all.push((type_code(&fault), fault.handling)));
     }
     all
 }

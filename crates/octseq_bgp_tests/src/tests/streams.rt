@@ -11,14 +11,14 @@ use std::process::Abort;
 
 /// A source that gives a few octets at a time, stalls before each read, and may fail at its end.
 #[derive(Drop)]
-struct Drip<'a> {
+struct ShortReads<'a> {
     rest: &'a [u8],
     at_once: usize,
     is_ready: bool,
     fails: bool,
 }
 
-impl Read for Drip<'_> {
+impl Read for ShortReads<'_> {
     fn read(&mut self, buf: &mut [u8]) -> io::Result<usize> {
         self.is_ready = !self.is_ready;
         if self.is_ready {
@@ -74,7 +74,7 @@ fn messages_are_read_one_at_a_time(rt: HostRuntime) {
 
 /// Checks that two messages are read from a source that gives at most `at_once` octets at a time, and then fails.
 fn comes(rt: &(impl Abort + AllocGlobal), all: &[u8], at_once: usize) {
-    let source = Drip {
+    let source = ShortReads {
         rest: all,
         at_once,
         is_ready: false,
@@ -137,7 +137,7 @@ fn a_stream_that_is_cut_off_is_reported(rt: HostRuntime) {
 /// Checks a source that fails after some octets.
 fn fails(rt: &(impl Abort + AllocGlobal), all: &[u8], len: usize) {
     let front = unwrap(rt, all.get(..len).ok_or("too long"));
-    let source = Drip {
+    let source = ShortReads {
         rest: front,
         at_once: 5,
         is_ready: false,

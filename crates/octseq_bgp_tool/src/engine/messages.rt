@@ -1,7 +1,7 @@
 //! Streams of messages.
 ghost use Rattle.std.specs.Prelude.{◌≡◌, ◌≢◌, ◌++◌, ℕ, List, [], Bool, IfOk, OnErr, Ok};
 ghost use Rattle.std.specs.Io.KnownBytes.{Consumes, IsAtEnd};
-ghost use Rattle.octseq_bgp.specs.Stream.{IsCut, IsFramed, IsMisframed};
+ghost use Rattle.octseq_bgp.specs.Stream.{IsFrameCut, IsFramed, IsMisframed};
 ghost use Rattle.octseq_bgp.specs.declared.session.SessionConfig.{SessionConfig as Session};
 ghost use Rattle.octseq_bgp_tool.specs.Out.{as_they_are};
 ghost use Rattle.octseq_bgp_tool.specs.Streams.{IsAnew, IsBlock, IsMessagesEnd, IsMessagesRest, IsPiece};

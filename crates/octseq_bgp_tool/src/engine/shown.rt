@@ -5,7 +5,7 @@ ghost use Rattle.octseq_bgp_tool.specs.Shown.{IsMessagePiece, IsNote, IsRead, Is
 
 use octseq::{AsOctets, StrBuilder};
 use octseq_bgp::laws::{one_message, one_stop, one_text};
-use octseq_bgp::message::{Message, place_of_fault};
+use octseq_bgp::message::{Message, fault_offset};
 use octseq_bgp::session::SessionConfig;
 use octseq_cli::{FrameCommand, FrameOutput, stop_line};
 use std::alloc::{AllocError, Global};
@@ -60,7 +60,7 @@ pub(super) fn push_shown<R: AsOctets + Copy>(
 }
 
 /// Returns the note about octets on standard error, by what they are and their number: nothing, or the line with the
-/// place where reading stopped.
+/// offset where reading stopped.
 pub(super) fn note_on(
     alloc: Global,
     what: &str,
@@ -74,7 +74,7 @@ pub(super) fn note_on(
     if is_message {
         return Ok(Vec::new(alloc));
     }
-    stop_line(alloc, what, number, place_of_fault(octets, session))
+    stop_line(alloc, what, number, fault_offset(octets, session))
 }
 
 /// The whole input as one message of a session.

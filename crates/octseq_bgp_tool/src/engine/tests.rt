@@ -186,10 +186,10 @@ fn a_malformed_message_is_reported_with_its_place(rt: HostRuntime) {
             43,
         ),
     ];
-    for (word, octets, place) in cases {
+    for (word, octets, offset) in cases {
         let line = unwrap(
             &rt,
-            format!(in rt.alloc(); "message 1: malformed at octet {place}\n"),
+            format!(in rt.alloc(); "message 1: malformed at octet {offset}\n"),
         );
         shows(
             &rt,

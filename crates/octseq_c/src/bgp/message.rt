@@ -11,25 +11,25 @@ ghost use Rattle.octseq_c.specs.Status.{status_ok, status_malformed};
 use crate::bgp::session::session_of;
 use crate::status::{MALFORMED, OK};
 use octseq::{AsOctets, Malformed, Turns};
-use octseq_bgp::message::{Message, place_of_fault};
+use octseq_bgp::message::{Message, fault_offset};
 
 /// Reports whether the octets are a message, and where reading stops: for a message at its end.
 #[unsafe(no_mangle)]
-pub extern "C" fn octseq_bgp_message_fault(octets: &[u8], session: u32, place: &mut usize) -> u32
-    ensures place { IsStop (session_of session) octets.now place.new }
+pub extern "C" fn octseq_bgp_message_fault(octets: &[u8], session: u32, offset: &mut usize) -> u32
+    ensures offset { IsStop (session_of session) octets.now offset.new }
     ensures malformed { (result ≡ status_malformed) ↔ ¬ IsBgpMessage (session_of session) octets.now }
     ensures only { (result ≡ status_ok) ⊎ (result ≡ status_malformed) }
 {
-    report_fault(octets, session, place)
+    report_fault(octets, session, offset)
 }
 
 /// Does the same, for octets of any kind.
-fn report_fault<R: AsOctets + Copy>(octets: R, session: u32, place: &mut usize) -> u32
-    ensures place { IsStop (session_of session) (R.content octets) place.new }
+fn report_fault<R: AsOctets + Copy>(octets: R, session: u32, offset: &mut usize) -> u32
+    ensures offset { IsStop (session_of session) (R.content octets) offset.new }
     ensures malformed { (result ≡ status_malformed) ↔ ¬ IsBgpMessage (session_of session) (R.content octets) }
     ensures only { (result ≡ status_ok) ⊎ (result ≡ status_malformed) }
 {
-    *place = place_of_fault(octets, session_of(session));
+    *offset = fault_offset(octets, session_of(session));
     match message_of(octets, session) {
         Ok(_) => OK,
         Err(Malformed) => MALFORMED,

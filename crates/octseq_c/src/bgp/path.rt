@@ -7,7 +7,7 @@ ghost use Rattle.octseq_bgp.specs.PathOf.{asns_left, path_of, segment_of};
 ghost use Rattle.octseq_bgp.specs.Value.{IsPath};
 ghost use Rattle.octseq_c.specs.BgpPath.{AreHopsOf, IsAsPath, hops_of, path_room, row_of_asn, rows_of_segment};
 ghost use Rattle.octseq_c.specs.BgpSession.{session_of};
-ghost use Rattle.octseq_c.specs.Puts.{Fills, Puts};
+ghost use Rattle.octseq_c.specs.Puts.{FillsPrefix, Puts};
 ghost use Rattle.octseq_c.specs.Status.{status_ok, status_no_room, status_malformed};
 
 use crate::bgp::session::session_of;
@@ -115,7 +115,7 @@ fn hops_count<R: AsOctets + Copy>(path: AsPath<R>) -> usize
 /// Writes the AS numbers of a path to the front of a buffer that has room for them.
 fn fill_hops<R: AsOctets + Copy>(out: &mut [BgpHop], path: AsPath<R>)
     requires { length (hops_of (path_of path)) ≤ length out.old }
-    ensures { Fills (hops_of (path_of path)) out.old out.new }
+    ensures { FillsPrefix (hops_of (path_of path)) out.old out.new }
 {
     let mut ahead = path;
     let mut at = 0;

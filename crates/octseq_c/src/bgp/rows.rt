@@ -1,5 +1,6 @@
 //! The parts of an UPDATE as rows of numbers.
-ghost use Rattle.std.specs.Prelude.{◌≡◌, ◌≢◌, ◌↔◌, ◌⊎◌, ◌+◌, ◌*◌, ◌<◌, ◌≤◌, ◌^◌, ◌++◌, ℕ, List, map, take, drop, length};
+ghost use Rattle.std.specs.Prelude.{◌≡◌, ◌≢◌, ◌↔◌, ◌⊎◌, ◌+◌, ◌*◌, ◌<◌, ◌≤◌, ◌^◌, ◌++◌, ℕ, List, map, take, drop};
+ghost use Rattle.std.specs.Prelude.{length};
 ghost use Rattle.octseq.specs.Parser.{window};
 ghost use Rattle.octseq.specs.Window.{left};
 ghost use Rattle.octseq_bgp.specs.Lists.{attribute_of, attributes_left, attributes_session, nlri_of, prefixes_left};
@@ -11,7 +12,7 @@ ghost use Rattle.octseq_c.specs.BgpRows.{AreAttributeRows, AreBgpRowsOf, AreMess
 ghost use Rattle.octseq_c.specs.BgpRows.{afi_of_address, path_count, path_number};
 ghost use Rattle.octseq_c.specs.BgpRows.{row_of_attribute, row_of_prefix, rows_of_attribute, rows_of_value};
 ghost use Rattle.octseq_c.specs.BgpSession.{session_of};
-ghost use Rattle.octseq_c.specs.Puts.{Fills, Puts};
+ghost use Rattle.octseq_c.specs.Puts.{FillsPrefix, Puts};
 ghost use Rattle.octseq_c.specs.Status.{status_ok, status_no_room, status_malformed};
 
 use crate::bgp::message::message_of;
@@ -165,7 +166,7 @@ fn value_count<R: AsOctets + Copy>(attribute: &PathAttribute<R>) -> usize
 /// Writes the rows of a message to the front of a buffer that has room for them.
 fn fill_message<R: AsOctets + Copy>(out: &mut [BgpRow], message: &Message<R>)
     requires { (rows : List BgpRow) × AreMessageRows (message_of message.now) rows × (length rows ≤ length out.old) }
-    ensures { (rows : List BgpRow) × AreMessageRows (message_of message.now) rows × Fills rows out.old out.new }
+    ensures { (rows : List BgpRow) × AreMessageRows (message_of message.now) rows × FillsPrefix rows out.old out.new }
 {
     match message {
         Message::Update(update) => fill_update(out, update),
@@ -176,7 +177,7 @@ fn fill_message<R: AsOctets + Copy>(out: &mut [BgpRow], message: &Message<R>)
 /// Writes the rows of an UPDATE to the front of a buffer that has room for them.
 fn fill_update<R: AsOctets + Copy>(out: &mut [BgpRow], update: &UpdateMessage<R>)
     requires { (rows : List BgpRow) × AreUpdateRows (update_of update.now) rows × (length rows ≤ length out.old) }
-    ensures { (rows : List BgpRow) × AreUpdateRows (update_of update.now) rows × Fills rows out.old out.new }
+    ensures { (rows : List BgpRow) × AreUpdateRows (update_of update.now) rows × FillsPrefix rows out.old out.new }
 {
     let at = fill_prefixes(out, 0, WITHDRAWN, UNICAST, update.withdrawn);
     let at = fill_attributes(out, at, update.path_attributes);

@@ -6,7 +6,7 @@ ghost use Rattle.octseq_mrt.specs.ReadTurns.{entries_turns, record_turns};
 ghost use Rattle.octseq_mrt.specs.Records.{IsRecordOctets};
 ghost use Rattle.octseq_c.specs.BgpRows.{row_of_attribute};
 ghost use Rattle.octseq_c.specs.MrtRows.{AreMrtAttributesOf, rows_of_attributes, rows_of_entries};
-ghost use Rattle.octseq_c.specs.Puts.{Fills, Puts};
+ghost use Rattle.octseq_c.specs.Puts.{FillsPrefix, Puts};
 ghost use Rattle.octseq_c.specs.Status.{status_ok, status_no_room, status_malformed};
 
 use crate::bgp::rows::{BgpRow, attribute_row};
@@ -77,7 +77,7 @@ fn entries_count<R: AsOctets + Copy>(entries: RibEntries<R>) -> usize
 /// Writes the rows of a value to the front of a buffer that has room for them.
 fn fill_rows<R: AsOctets + Copy>(out: &mut [BgpRow], value: &RecordValue<R>)
     requires { length (rows_of_entries (value_of value.now)) ≤ length out.old }
-    ensures { Fills (rows_of_entries (value_of value.now)) out.old out.new }
+    ensures { FillsPrefix (rows_of_entries (value_of value.now)) out.old out.new }
 {
     match value {
         RecordValue::Rib(rib) => fill_entries(out, rib.entries),
@@ -88,7 +88,7 @@ fn fill_rows<R: AsOctets + Copy>(out: &mut [BgpRow], value: &RecordValue<R>)
 /// Writes the rows of the attributes of entries to the front of a buffer that has room for them.
 fn fill_entries<R: AsOctets + Copy>(out: &mut [BgpRow], entries: RibEntries<R>)
     requires { length (flat_map rows_of_attributes (entries_left entries)) ≤ length out.old }
-    ensures { Fills (flat_map rows_of_attributes (entries_left entries)) out.old out.new }
+    ensures { FillsPrefix (flat_map rows_of_attributes (entries_left entries)) out.old out.new }
 {
     let mut at = 0;
     for entry in entries {

@@ -7,7 +7,7 @@ ghost use Rattle.octseq_mrt.specs.ReadTurns.{entries_turns, record_turns};
 ghost use Rattle.octseq_mrt.specs.Records.{IsRecordOctets};
 ghost use Rattle.octseq_c.specs.MrtRows.{AreMrtRowsOf, row_of_entry, row_of_peer, row_of_rib, row_of_table};
 ghost use Rattle.octseq_c.specs.MrtRows.{rows_of_record};
-ghost use Rattle.octseq_c.specs.Puts.{Fills, Puts};
+ghost use Rattle.octseq_c.specs.Puts.{FillsPrefix, Puts};
 ghost use Rattle.octseq_c.specs.Status.{status_ok, status_no_room, status_malformed};
 
 use crate::mrt::record::record_value;
@@ -103,7 +103,7 @@ pub fn attributes_count<R: AsOctets + Copy>(attributes: RibAttributes<R>) -> usi
 fn fill_rows<R: AsOctets + Copy>(out: &mut [MrtRow], value: &RecordValue<R>)
     requires few { record_turns (value_of value.now) < 2 ^ 64 }
     requires room { length (rows_of_record (value_of value.now)) ≤ length out.old }
-    ensures { Fills (rows_of_record (value_of value.now)) out.old out.new }
+    ensures { FillsPrefix (rows_of_record (value_of value.now)) out.old out.new }
 {
     match value {
         RecordValue::PeerIndexTable(table) => fill_table(out, table),
@@ -116,7 +116,8 @@ fn fill_rows<R: AsOctets + Copy>(out: &mut [MrtRow], value: &RecordValue<R>)
 /// Writes the rows of a table to the front of a buffer that has room for them.
 fn fill_table<R: AsOctets + Copy>(out: &mut [MrtRow], table: &PeerIndexTable<R>)
     requires { 1 + length (peers_left table.now.peers) ≤ length out.old }
-    ensures { Fills (row_of_table (table_of table.now) ∷ map row_of_peer (peers_left table.now.peers)) out.old out.new }
+    ensures { FillsPrefix
+        (row_of_table (table_of table.now) ∷ map row_of_peer (peers_left table.now.peers)) out.old out.new }
 {
     let end = fill_peers(out, 1, table.peers);
     out[0] = table_row(table, end - 1);
@@ -126,7 +127,8 @@ fn fill_table<R: AsOctets + Copy>(out: &mut [MrtRow], table: &PeerIndexTable<R>)
 fn fill_rib<R: AsOctets + Copy>(out: &mut [MrtRow], rib: &Rib<R>)
     requires few { entries_turns (entries_left rib.now.entries) < 2 ^ 64 }
     requires room { 1 + length (entries_left rib.now.entries) ≤ length out.old }
-    ensures { Fills (row_of_rib (rib_of rib.now) ∷ map row_of_entry (entries_left rib.now.entries)) out.old out.new }
+    ensures { FillsPrefix
+        (row_of_rib (rib_of rib.now) ∷ map row_of_entry (entries_left rib.now.entries)) out.old out.new }
 {
     let end = fill_entries(out, 1, rib.entries);
     out[0] = rib_row(rib, end - 1);

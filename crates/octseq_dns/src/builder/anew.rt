@@ -1,14 +1,14 @@
 //! Rewriting the entries of a message, one after another.
 ghost use Rattle.std.specs.Prelude.{◌≡◌, ◌≤◌, ◌+◌, ◌*◌, ◌⊎◌, List, length, map, true, IfOk, OnOk};
 ghost use Rattle.std.specs.List.{AllZip, sum_by};
-ghost use Rattle.octseq.specs.Limit.{IsPast, IsWithin};
+ghost use Rattle.octseq.specs.Limit.{ExceedsLimit, IsWithin};
 ghost use Rattle.octseq.specs.Refusal.{IsShort, IsMemory, IsMalformed, append_error};
 ghost use Rattle.octseq_dns_compress.specs.Composed.{message_limit};
 ghost use Rattle.octseq_dns_compress.specs.State.{with_entries};
 ghost use Rattle.octseq_dns_message.specs.Parsed.{questions_of, records_of};
 ghost use Rattle.octseq_dns.specs.Appended.{Appended};
 ghost use Rattle.octseq_dns.specs.Contents.{Message as Contents, Question as Asked, Record as Written};
-ghost use Rattle.octseq_dns.specs.Contents.{FitsHeader, FitsQuestion, FitsRecord, headed, octets_of};
+ghost use Rattle.octseq_dns.specs.Contents.{FitsHeader, FitsQuestion, FitsRecord, with_only_header, octets_of};
 ghost use Rattle.octseq_dns.specs.Contents.{question_entry, record_entry};
 ghost use Rattle.octseq_dns.specs.Labels.{labels_in, question_labels, record_labels};
 ghost use Rattle.octseq_dns.specs.Moved.{CanMove};
@@ -34,10 +34,10 @@ fn begin<B: OctetsBuilder + Truncate + AsOctetsMut, T: Compressor>(
     header: &Header,
     counts: &HeaderCounts,
 ) -> Result<Composer<B, T>, AppendError>
-    ensures state { IfOk result (λ c. c.state ≡ headed header.now counts.now) }
+    ensures state { IfOk result (λ c. c.state ≡ with_only_header header.now counts.now) }
     ensures within { IfOk result (λ c. IsWithin (message_limit B.limit) (length c.state.octets)) }
     ensures fits { FitsHeader header.now }
-    ensures short { IsShort append_error result → IsPast (message_limit B.limit) 12 }
+    ensures short { IsShort append_error result → ExceedsLimit (message_limit B.limit) 12 }
     ensures memory { IsMemory append_error result → B.asks ≡ true }
     ensures borrows { IfOk result (λ c. B.borrows c.octets ≡ B.borrows octets) }
 {
@@ -58,7 +58,7 @@ pub(super) fn append_questions<
     ensures within { OnOk result (IsWithin (message_limit B.limit) (length message.old.state.octets)
         → IsWithin (message_limit B.limit) (length message.new.state.octets)) }
     ensures short { IsShort append_error result → (written : List Asked)
-        → AllZip IsQuestionOf (questions_of source.now) written → IsPast (message_limit B.limit)
+        → AllZip IsQuestionOf (questions_of source.now) written → ExceedsLimit (message_limit B.limit)
         (length (with_entries T.most message.old.state (map question_entry written)).octets) }
     ensures memory { IsMemory append_error result → (B.asks ≡ true) ⊎ (T.asks ≡ true) }
     ensures borrows { B.borrows message.new.octets ≡ B.borrows message.old.octets }
@@ -73,8 +73,8 @@ pub(super) fn append_questions<
     Ok(())
 }
 
-/// Appends the records of a message, each with its parsed data, up to the first that can't be moved. Returns whether one
-/// of them is an OPT record.
+/// Appends the records of a message, each with its parsed data, up to the first that can't be moved. Returns whether
+/// one of them is an OPT record.
 fn append_records<B: OctetsBuilder + Truncate + AsOctetsMut, T: Compressor, R: AsOctets + Copy>(
     message: &mut Composer<B, T>,
     source: &Message<R>,
@@ -88,7 +88,7 @@ fn append_records<B: OctetsBuilder + Truncate + AsOctetsMut, T: Compressor, R: A
     ensures opt { IfOk result (λ has_opt. has_opt ≡ any_opt (records_of source.now)) }
     ensures immovable { IsMalformed rewrite_error result → ¬ CanMove (records_of source.now) }
     ensures short { IsShort rewrite_error result → (written : List Written)
-        → AllZip IsRecordOf (records_of source.now) written → IsPast (message_limit B.limit)
+        → AllZip IsRecordOf (records_of source.now) written → ExceedsLimit (message_limit B.limit)
         (length (with_entries T.most message.old.state (map record_entry written)).octets) }
     ensures memory { IsMemory rewrite_error result → (B.asks ≡ true) ⊎ (T.asks ≡ true) }
     ensures borrows { B.borrows message.new.octets ≡ B.borrows message.old.octets }
@@ -125,7 +125,7 @@ pub(crate) fn compose_anew<
     ensures movable { OnOk result (CanMove (records_of source.now)) }
     ensures immovable { IsMalformed rewrite_error result → ¬ CanMove (records_of source.now) }
     ensures short { IsShort rewrite_error result → (m : Contents) → IsContentsOf source.now m
-        → IsPast (message_limit B.limit) (length (octets_of T.most m)) }
+        → ExceedsLimit (message_limit B.limit) (length (octets_of T.most m)) }
     ensures memory { IsMemory rewrite_error result → (B.asks ≡ true) ⊎ (T.asks ≡ true) }
     ensures borrows { IfOk result (λ b. B.borrows b.octets ≡ B.borrows octets) }
     ensures on { turns.old ≤ turns.new }

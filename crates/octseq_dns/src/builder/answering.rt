@@ -1,11 +1,11 @@
 //! Answering messages: RFC 1035, 4.1.1.
 ghost use Rattle.std.specs.Prelude.{◌≡◌, ◌⊎◌, length, true, IfOk};
-ghost use Rattle.octseq.specs.Limit.{IsPast, IsWithin};
+ghost use Rattle.octseq.specs.Limit.{ExceedsLimit, IsWithin};
 ghost use Rattle.octseq.specs.Refusal.{IsShort, IsMemory, append_error};
 ghost use Rattle.octseq_dns_compress.specs.Composed.{message_limit};
 ghost use Rattle.octseq_dns.specs.Answering.{answer_header, answer_to};
 ghost use Rattle.octseq_dns.specs.Contents.{octets_of};
-ghost use Rattle.octseq_dns.specs.Writes.{Writes, least_limit};
+ghost use Rattle.octseq_dns.specs.Writes.{ComposesMessage, least_limit};
 
 use crate::builder::anew::append_questions;
 use crate::builder::entry::is_past;
@@ -44,12 +44,12 @@ impl<B: OctetsBuilder + Truncate + AsOctetsMut, T: Compressor> MessageBuilder<B,
         rcode: Rcode,
     ) -> Result<AnswerBuilder<B, T>, AppendError>
         ensures written { IfOk result (λ b.
-            Writes T.most (answer_to message.now rcode) b.state b.header b.counts) }
+            ComposesMessage T.most (answer_to message.now rcode) b.state b.header b.counts) }
         ensures fits { let limit = least_limit self.push_limit (message_limit B.limit) in
             IfOk result (λ b. IsWithin limit (length self.state.octets) → IsWithin limit (length b.state.octets)) }
         ensures push_limit { IfOk result (λ b. b.push_limit ≡ self.push_limit) }
         ensures has_opt { IfOk result (λ b. b.has_opt ≡ self.has_opt) }
-        ensures short { IsShort append_error result → IsPast (least_limit self.push_limit (message_limit B.limit))
+        ensures short { IsShort append_error result → ExceedsLimit (least_limit self.push_limit (message_limit B.limit))
             (length (octets_of T.most (answer_to message.now rcode))) }
         ensures memory { IsMemory append_error result → (B.asks ≡ true) ⊎ (T.asks ≡ true) }
         ensures borrows { IfOk result (λ b. B.borrows b.octets ≡ B.borrows self.octets) }

@@ -1,7 +1,7 @@
 //! Appending entries to a message: RFC 1035, 4.1.2 and 4.1.3.
 ghost use Rattle.std.specs.Prelude.{◌≡◌, ◌<◌, ◌≤◌, ◌+◌, ◌*◌, ◌⊎◌, ◌++◌, length, true, IsTrue, OnOk};
 ghost use Rattle.octseq.specs.Integer.{octets_be};
-ghost use Rattle.octseq.specs.Limit.{IsPast, IsWithin};
+ghost use Rattle.octseq.specs.Limit.{ExceedsLimit, IsWithin};
 ghost use Rattle.octseq.specs.Refusal.{IsShort, IsMemory, append_error};
 ghost use Rattle.octseq_dns_compress.specs.Composed.{message_limit, Composes};
 ghost use Rattle.octseq_dns_compress.specs.State.{with_counted, with_entry, label_count};
@@ -10,7 +10,7 @@ ghost use Rattle.octseq_dns_compress.specs.Fits.{FitsField};
 ghost use Rattle.octseq_dns_name.specs.Read.{labels_of};
 ghost use Rattle.octseq_dns.specs.Contents.{FitsQuestion, FitsRecord, question_entry, record_entry};
 ghost use Rattle.octseq_dns.specs.Pushed.{pushed_question, pushed_record};
-ghost use Rattle.octseq_dns.specs.Writes.{Appends, least_limit};
+ghost use Rattle.octseq_dns.specs.Writes.{ChangesMessage, least_limit};
 
 use crate::rdata::ComposeRecordData;
 use octseq::builder::AsOctetsMut;
@@ -84,7 +84,7 @@ fn append_data<B: OctetsBuilder + Truncate + AsOctetsMut, T: Compressor, D: Comp
     ensures ok { OnOk result (message.new.state ≡ with_counted T.most message.old.state (D.fields rdata.now)) }
     ensures within { OnOk result (IsWithin (message_limit B.limit)
         (length (with_counted T.most message.old.state (D.fields rdata.now)).octets)) }
-    ensures short { IsShort append_error result → IsPast (message_limit B.limit)
+    ensures short { IsShort append_error result → ExceedsLimit (message_limit B.limit)
         (length (with_counted T.most message.old.state (D.fields rdata.now)).octets) }
     ensures memory { IsMemory append_error result → (B.asks ≡ true) ⊎ (T.asks ≡ true) }
     ensures begun { message.new.begun ≡ message.old.begun }
@@ -123,7 +123,7 @@ pub(super) fn compose_record<
         (record_entry (pushed_record owner.now (D.rtype_of rdata.now) class ttl (D.fields rdata.now)))) }
     ensures within { OnOk result (IsWithin (message_limit B.limit) (length (with_entry T.most message.old.state
         (record_entry (pushed_record owner.now (D.rtype_of rdata.now) class ttl (D.fields rdata.now)))).octets)) }
-    ensures short { IsShort append_error result → IsPast (message_limit B.limit)
+    ensures short { IsShort append_error result → ExceedsLimit (message_limit B.limit)
         (length (with_entry T.most message.old.state
         (record_entry (pushed_record owner.now (D.rtype_of rdata.now) class ttl (D.fields rdata.now)))).octets) }
     ensures memory { IsMemory append_error result → (B.asks ≡ true) ⊎ (T.asks ≡ true) }
@@ -144,7 +144,7 @@ pub(super) fn compose_record<
 
 /// Whether `len` octets exceed a limit, if there is one.
 pub(super) fn is_past(limit: Option<usize>, len: usize) -> bool
-    ensures past { IsTrue result → IsPast limit len }
+    ensures past { IsTrue result → ExceedsLimit limit len }
     ensures within { ¬ IsTrue result → IsWithin limit len }
 {
     match limit {
@@ -166,7 +166,7 @@ pub(super) fn append_question<
     qclass: Class,
     turns: &mut Turns,
 ) -> Result<(), AppendError>
-    ensures appended { Appends (least_limit push_limit (message_limit B.limit))
+    ensures appended { ChangesMessage (least_limit push_limit (message_limit B.limit))
         ((B.asks ≡ true) ⊎ (T.asks ≡ true)) result
         (with_entry T.most message.old.state (question_entry (pushed_question qname.now qtype qclass)))
         message.old.state message.new.state }
@@ -179,11 +179,11 @@ pub(super) fn append_question<
 {
     message.begin_entry();
     if let Err(error) = compose_question(message, qname, qtype, qclass, turns) {
-        message.take_back();
+        message.rollback();
         return Err(error);
     }
     if is_past(push_limit, message.as_slice().len()) {
-        message.take_back();
+        message.rollback();
         return Err(AppendError::Short(ShortBuf));
     }
     Ok(())
@@ -204,7 +204,7 @@ pub(super) fn append_record<
     rdata: &D,
     turns: &mut Turns,
 ) -> Result<(), AppendError>
-    ensures appended { Appends (least_limit push_limit (message_limit B.limit))
+    ensures appended { ChangesMessage (least_limit push_limit (message_limit B.limit))
         ((B.asks ≡ true) ⊎ (T.asks ≡ true)) result
         (with_entry T.most message.old.state
         (record_entry (pushed_record owner.now (D.rtype_of rdata.now) class ttl (D.fields rdata.now))))
@@ -219,11 +219,11 @@ pub(super) fn append_record<
 {
     message.begin_entry();
     if let Err(error) = compose_record(message, owner, class, ttl, rdata, turns) {
-        message.take_back();
+        message.rollback();
         return Err(error);
     }
     if is_past(push_limit, message.as_slice().len()) {
-        message.take_back();
+        message.rollback();
         return Err(AppendError::Short(ShortBuf));
     }
     Ok(())

@@ -1,10 +1,10 @@
 //! Starting a message.
 ghost use Rattle.std.specs.Prelude.{◌≡◌, true, false, IfOk, ◌↔◌, length};
-ghost use Rattle.octseq.specs.Limit.{IsPast, IsWithin};
+ghost use Rattle.octseq.specs.Limit.{ExceedsLimit, IsWithin};
 ghost use Rattle.octseq.specs.Refusal.{IsShort, IsMemory, append_error};
 ghost use Rattle.octseq_dns_compress.specs.Composed.{message_limit};
 ghost use Rattle.octseq_dns.specs.Blank.{blank_header, blank_message};
-ghost use Rattle.octseq_dns.specs.Writes.{Writes};
+ghost use Rattle.octseq_dns.specs.Writes.{ComposesMessage};
 
 use crate::builder::{MessageBuilder, QuestionBuilder, SectionBuilder};
 use octseq::builder::AsOctetsMut;
@@ -35,11 +35,11 @@ impl<B: OctetsBuilder + Truncate + AsOctetsMut, T: Compressor> MessageBuilder<B,
     /// let (octets, _) = questions.answer().authority().additional().finish();
     /// ```
     pub fn from_builder(octets: B, table: T) -> Result<Self, AppendError>
-        ensures written { IfOk result (λ m. Writes T.most blank_message m.state m.header m.counts) }
+        ensures written { IfOk result (λ m. ComposesMessage T.most blank_message m.state m.header m.counts) }
         ensures within { IfOk result (λ m. IsWithin (message_limit B.limit) (length m.state.octets)) }
         ensures push_limit { IfOk result (λ m. m.push_limit ≡ None) }
         ensures has_opt { IfOk result (λ m. m.has_opt ≡ false) }
-        ensures short { IsShort append_error result ↔ IsPast B.limit 12 }
+        ensures short { IsShort append_error result ↔ ExceedsLimit B.limit 12 }
         ensures memory { IsMemory append_error result → B.asks ≡ true }
         ensures borrows { IfOk result (λ m. B.borrows m.octets ≡ B.borrows octets) }
     {

@@ -6,7 +6,7 @@ ghost use Rattle.octseq_dns_compress.specs.State.{with_entry};
 ghost use Rattle.octseq_dns_name.specs.Read.{labels_of};
 ghost use Rattle.octseq_dns.specs.Contents.{Message, header_octets, question_entry};
 ghost use Rattle.octseq_dns.specs.Pushed.{pushed_question};
-ghost use Rattle.octseq_dns.specs.Writes.{Pushes, UpToQuestions, Writes, least_limit, more_questions};
+ghost use Rattle.octseq_dns.specs.Writes.{Pushes, UpToQuestions, ComposesMessage, least_limit, more_questions};
 
 use crate::builder::entry::append_question;
 use crate::builder::header::octets_of;
@@ -45,8 +45,8 @@ impl<B: OctetsBuilder + Truncate + AsOctetsMut, T: Compressor> QuestionBuilder<B
             (with_entry T.most self.old.state (question_entry (pushed_question qname.now qtype qclass)))
             (header_octets self.new.header self.new.counts) self.old.counts.qdcount self.old.state self.new.state }
         ensures written { OnOk result ((m : Message)
-            → Writes T.most m self.old.state self.old.header self.old.counts
-            → Writes T.most (more_questions m (pushed_question qname.now qtype qclass))
+            → ComposesMessage T.most m self.old.state self.old.header self.old.counts
+            → ComposesMessage T.most (more_questions m (pushed_question qname.now qtype qclass))
             self.new.state self.new.header self.new.counts) }
         ensures within { OnOk result (IsWithin (least_limit self.old.push_limit (message_limit B.limit))
             (length self.new.state.octets)) }
@@ -80,8 +80,8 @@ impl<B: OctetsBuilder + Truncate + AsOctetsMut, T: Compressor> QuestionBuilder<B
             (with_entry T.most self.old.state (question_entry (pushed_question qname.now qtype qclass)))
             (header_octets self.new.header self.new.counts) self.old.counts.qdcount self.old.state self.new.state }
         ensures written { OnOk result ((m : Message)
-            → Writes T.most m self.old.state self.old.header self.old.counts
-            → Writes T.most (more_questions m (pushed_question qname.now qtype qclass))
+            → ComposesMessage T.most m self.old.state self.old.header self.old.counts
+            → ComposesMessage T.most (more_questions m (pushed_question qname.now qtype qclass))
             self.new.state self.new.header self.new.counts) }
         ensures within { OnOk result (IsWithin (least_limit self.old.push_limit (message_limit B.limit))
             (length self.new.state.octets)) }

@@ -6,7 +6,7 @@ ghost use Rattle.octseq_dns_compress.specs.State.{label_count, with_entry};
 ghost use Rattle.octseq_dns_name.specs.Read.{labels_of};
 ghost use Rattle.octseq_dns.specs.Contents.{Message, header_octets, record_entry};
 ghost use Rattle.octseq_dns.specs.Pushed.{pushed_record};
-ghost use Rattle.octseq_dns.specs.Writes.{IsBuilt, Pushes, UpToAdditionals, Writes, least_limit};
+ghost use Rattle.octseq_dns.specs.Writes.{IsBuilt, Pushes, UpToAdditionals, ComposesMessage, least_limit};
 
 use crate::builder::entry::append_record;
 use crate::builder::header::octets_of;
@@ -57,8 +57,9 @@ impl<B: OctetsBuilder + Truncate + AsOctetsMut, T: Compressor, S: RecordSection>
             (header_octets self.new.header self.new.counts) (S.count self.old.counts)
             self.old.state self.new.state }
         ensures written { OnOk result ((m : Message)
-            → Writes T.most m self.old.state self.old.header self.old.counts
-            → Writes T.most (S.more m (pushed_record owner.now (D.rtype_of rdata.now) class ttl (D.fields rdata.now)))
+            → ComposesMessage T.most m self.old.state self.old.header self.old.counts
+            → ComposesMessage T.most
+            (S.more m (pushed_record owner.now (D.rtype_of rdata.now) class ttl (D.fields rdata.now)))
             self.new.state self.new.header self.new.counts) }
         ensures within { OnOk result (IsWithin (least_limit self.old.push_limit (message_limit B.limit))
             (length self.new.state.octets)) }
@@ -96,8 +97,9 @@ impl<B: OctetsBuilder + Truncate + AsOctetsMut, T: Compressor, S: RecordSection>
             (header_octets self.new.header self.new.counts) (S.count self.old.counts)
             self.old.state self.new.state }
         ensures written { OnOk result ((m : Message)
-            → Writes T.most m self.old.state self.old.header self.old.counts
-            → Writes T.most (S.more m (pushed_record owner.now (D.rtype_of rdata.now) class ttl (D.fields rdata.now)))
+            → ComposesMessage T.most m self.old.state self.old.header self.old.counts
+            → ComposesMessage T.most
+            (S.more m (pushed_record owner.now (D.rtype_of rdata.now) class ttl (D.fields rdata.now)))
             self.new.state self.new.header self.new.counts) }
         ensures within { OnOk result (IsWithin (least_limit self.old.push_limit (message_limit B.limit))
             (length self.new.state.octets)) }

@@ -4,7 +4,7 @@ ghost use Rattle.std.specs.Io.KnownBytes.{Consumes, IsAtEnd};
 ghost use Rattle.octseq.specs.Code.{HasFront};
 ghost use Rattle.octseq.specs.Part.{part_of};
 ghost use Rattle.octseq_dns.specs.FrameReader.{reader_of, frame_of, is_over};
-ghost use Rattle.octseq_dns.specs.Frames.{FitsStream, IsCut};
+ghost use Rattle.octseq_dns.specs.Frames.{FitsStream, IsMessageCut};
 
 use crate::frames::{FrameError, MessageFraming};
 use std::alloc::Global;
@@ -41,7 +41,7 @@ impl<R: Read> FrameReader<R> {
             (R.remaining (reader_of self.new)) (part_of 2 (frame_of self.new)) }
         ensures end { result ≡ Ok false → is_over self.old ≡ false → Consumes (R.remaining (reader_of self.old))
             (R.remaining (reader_of self.new)) [] × IsAtEnd (R.remaining (reader_of self.new)) }
-        ensures short { result ≡ Err FrameError.Short → (read : List ℕ) × IsCut read
+        ensures short { result ≡ Err FrameError.Short → (read : List ℕ) × IsMessageCut read
             × Consumes (R.remaining (reader_of self.old)) (R.remaining (reader_of self.new)) read
             × IsAtEnd (R.remaining (reader_of self.new)) }
         ensures malformed { result ≢ Err FrameError.Malformed }

@@ -2,7 +2,7 @@
 ghost use Rattle.std.specs.Prelude.{◌≡◌, ◌<◌, ℕ, List, length, OnOk, Err};
 ghost use Rattle.std.specs.Io.KnownBytes.{Appends};
 ghost use Rattle.octseq.specs.Part.{part_of};
-ghost use Rattle.octseq.specs.Parts.{IsFront};
+ghost use Rattle.octseq.specs.Parts.{StartsWith};
 ghost use Rattle.octseq_dns.specs.Frames.{FitsStream};
 
 use octseq_stream::WriteFrameError;
@@ -19,7 +19,7 @@ pub fn write_frame<W: Write>(writer: &mut W, message: &[u8]) -> Result<(), Write
     ensures fits { OnOk result (FitsStream message.now) }
     ensures long { result ≡ Err WriteFrameError.TooLong → 65535 < length message.now }
     ensures refused { 65535 < length message.now → (result ≡ Err WriteFrameError.TooLong) × (writer.new ≡ writer.old) }
-    ensures front { (front : List ℕ) × IsFront front (part_of 2 message.now)
+    ensures front { (front : List ℕ) × StartsWith front (part_of 2 message.now)
         × Appends (W.contents writer.old) (W.contents writer.new) front }
 {
     octseq_stream::write_frame(writer, message)

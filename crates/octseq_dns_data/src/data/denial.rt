@@ -8,9 +8,9 @@ ghost use Rattle.octseq_dns_data.specs.Typed.{nsec3param_of, nsec_form, nsec_of,
 
 use crate::base_text::write_base32hex;
 use crate::data::formed::Formed;
-use crate::data::plain_name::PlainName;
 use crate::data::some_octets::OwnerHash;
 use crate::data::txt::CharStr;
+use crate::data::uncompressed_name::UncompressedName;
 use crate::layout::{Field, Layout, Tail};
 use crate::rtype_bitmap::RtypeBitmap;
 use octseq::AsOctets;
@@ -42,7 +42,7 @@ impl<R: AsOctets + Copy> Clone for Nsec<R> {
 }
 
 impl<R: AsOctets + Copy> Fields<R> for Nsec<R> {
-    type Format = (PlainName, Formed<RtypeBitmap<R>>);
+    type Format = (UncompressedName, Formed<RtypeBitmap<R>>);
 
     ghost fields = { λ nsec. (nsec.next_name, nsec.types) };
 

@@ -8,8 +8,8 @@ ghost use Rattle.octseq_dns_data.specs.Typed.{digest_form, dnskey_of, ds_of, key
 
 use crate::base_text::write_base64;
 use crate::data::formed::Formed;
-use crate::data::plain_name::PlainName;
 use crate::data::some_octets::SomeOctets;
+use crate::data::uncompressed_name::UncompressedName;
 use crate::iana::Rtype;
 use crate::layout::{Field, Layout, Tail};
 use octseq::AsOctets;
@@ -197,7 +197,7 @@ impl<R: AsOctets + Copy> Fields<R> for Rrsig<R> {
         U32Be,
         U32Be,
         U16Be,
-        (PlainName, Formed<SomeOctets<R>>),
+        (UncompressedName, Formed<SomeOctets<R>>),
     );
 
     ghost fields = { λ sig. (

@@ -54,9 +54,9 @@ pub struct Formed<V> {
 impl<R: AsOctets + Copy, V: FormedOctets<R>> Format<R> for Formed<V> {
     type Value = V;
 
-    type Delimited = No;
+    type SelfDelimiting = No;
 
-    type Moving = No;
+    type NonEmpty = No;
 
     ghost Found = { Window };
 
@@ -91,6 +91,7 @@ impl<R: AsOctets + Copy, V: FormedOctets<R>> Format<R> for Formed<V> {
     #[inline(always)]
     fn parse_counted(parser: &mut Parser<R>, turns: &mut Turns) -> Result<V, Malformed> {
         let formed = V::from_parser(parser, turns)?;
+        // Its window is within the octets.
         let _inside = formed.parser();
         parser.advance_to_end();
         Ok(formed)

@@ -3,7 +3,7 @@ ghost use Rattle.std.specs.Prelude.{◌≡◌, ⊤, Some};
 ghost use Rattle.octseq_dns_data.specs.Typed.{service_form, svcb_of};
 
 use crate::data::formed::Formed;
-use crate::data::plain_name::PlainName;
+use crate::data::uncompressed_name::UncompressedName;
 use crate::layout::{Field, Layout, Tail};
 use crate::svc_params::SvcParams;
 use octseq::AsOctets;
@@ -36,7 +36,7 @@ impl<R: AsOctets + Copy> Clone for Svcb<R> {
 }
 
 impl<R: AsOctets + Copy> Fields<R> for Svcb<R> {
-    type Format = (U16Be, PlainName, Formed<SvcParams<R>>);
+    type Format = (U16Be, UncompressedName, Formed<SvcParams<R>>);
 
     ghost fields = { λ svcb. (svcb.priority, svcb.target, svcb.params) };
 

@@ -3,7 +3,7 @@ ghost use Rattle.std.specs.Prelude.{◌≡◌, ◌≤◌, ◌+◌, ◌-◌, ⊤,
 ghost use Rattle.std.specs.List.{All};
 ghost use Rattle.octseq.specs.Parser.{window};
 ghost use Rattle.octseq.specs.Window.{left};
-ghost use Rattle.octseq_dns_data.specs.OneRow.{Reaches, strings_once};
+ghost use Rattle.octseq_dns_data.specs.OneRow.{IsRowTo, strings_once};
 ghost use Rattle.octseq_dns_data.specs.Strings.{HasString, spelling};
 
 use crate::data::formed::FormedOctets;
@@ -132,7 +132,7 @@ impl<R: AsOctets> fmt::Display for CharStr<R> {
 pub struct Txt<R: AsOctets> {
     parser: Parser<R>,
     end: usize,
-    ghost strings: { Reaches HasString (window parser) end } by { strings_once (window parser) end },
+    ghost strings: { IsRowTo HasString (window parser) end } by { strings_once (window parser) end },
     ghost some: { 1 ≤ length strings.0 },
     ghost begins: { (window parser).position ≤ end },
     ghost within: { end ≤ (window parser).end },
@@ -260,7 +260,7 @@ impl<R: AsOctets + Copy> fmt::Display for Txt<R> {
 pub struct Strings<R: AsOctets> {
     parser: Parser<R>,
     end: usize,
-    ghost ahead: { Reaches HasString (window parser) end } by { strings_once (window parser) end },
+    ghost ahead: { IsRowTo HasString (window parser) end } by { strings_once (window parser) end },
 }
 
 impl<R: AsOctets + Copy> Copy for Strings<R> {}

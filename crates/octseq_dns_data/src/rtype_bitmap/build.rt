@@ -3,7 +3,7 @@ ghost use Rattle.std.specs.Prelude.{◌≡◌, ℕ, ◌+◌, ◌<◌, ◌≤◌,
 ghost use Rattle.std.specs.Prelude.{OnErr};
 ghost use Rattle.std.specs.List.{Contains, flat_map};
 ghost use Rattle.octseq.specs.Appends.{Appends};
-ghost use Rattle.octseq.specs.Limit.{IsPast};
+ghost use Rattle.octseq.specs.Limit.{ExceedsLimit};
 ghost use Rattle.octseq.specs.Refusal.{IsShort, IsMemory, append_error};
 ghost use Rattle.octseq_dns_data.specs.RtypeBitmap.{IsRtypeBitmap, block_octets, types_of};
 ghost use Rattle.octseq_dns_data.specs.RtypeBitmapMade.{bitmap_of, bitmap_size, is_among, octet_of, window_blocks};
@@ -31,7 +31,7 @@ impl<B: EmptyBuilder> RtypeBitmap<B> {
         ensures octets { IfOk result (λ bitmap. bitmap_octets bitmap ≡ bitmap_of rtypes.now) }
         ensures types { IfOk result (λ bitmap. (rtype : ℕ) → rtype < 65536
             → Contains (rtypes_of bitmap) rtype ↔ Contains rtypes.now rtype) }
-        ensures short { IsShort append_error result ↔ IsPast B.limit (length (bitmap_of rtypes.now)) }
+        ensures short { IsShort append_error result ↔ ExceedsLimit B.limit (length (bitmap_of rtypes.now)) }
         ensures memory { IsMemory append_error result → B.asks ≡ true }
     {
         let octets = octets_of(rtypes);
@@ -47,7 +47,7 @@ impl<B: EmptyBuilder> RtypeBitmap<B> {
     /// Copies octets that are within the limit.
     fn copied(alloc: Global, octets: &[u8]) -> Result<RtypeBitmap<B>, AllocError>
         requires bitmap { IsRtypeBitmap octets.now }
-        requires within { ¬ IsPast B.limit (length octets.now) }
+        requires within { ¬ ExceedsLimit B.limit (length octets.now) }
         ensures ok { IfOk result (λ bitmap. bitmap_octets bitmap ≡ octets.now) }
         ensures memory { OnErr result (B.asks ≡ true) }
     {
@@ -79,8 +79,8 @@ pub fn append_rtypes<B: OctetsBuilder>(builder: &mut B, rtypes: &[Rtype]) -> Res
 
 /// Whether a length exceeds the limit of a type.
 fn is_past<B: OctetsLimit>(len: usize) -> bool
-    ensures past { IsTrue result → IsPast B.limit len }
-    ensures within { IsFalse result → ¬ IsPast B.limit len }
+    ensures past { IsTrue result → ExceedsLimit B.limit len }
+    ensures within { IsFalse result → ¬ ExceedsLimit B.limit len }
 {
     match B::limit() {
         Some(limit) => limit < len,

@@ -77,7 +77,7 @@ fn next_place(bitmap: &[u8], place: usize) -> Option<usize>
     None
 }
 
-/// Whether the bit of a place is set.
+/// Whether the bit of an offset is set.
 fn is_listed(bitmap: &[u8], place: usize) -> bool
     requires { place < 8 * length bitmap.now }
     ensures { result ≡ is_listed bitmap.now place }

@@ -8,7 +8,7 @@ ghost use Rattle.octseq_dns_data.specs.SvcParams.{ids_of, keys_of, params_turns,
 
 use crate::svc_params::key::{ALPN, IPV4HINT, IPV6HINT, MANDATORY, NO_DEFAULT_ALPN, PORT};
 use octseq::{AsOctets, Malformed, Parser, Turns};
-use octseq_format::{Format, Octets, are_octets};
+use octseq_format::{Format, OctetArray, are_octets};
 
 /// Reads the next parameter, whatever its value.
 pub(crate) fn take_param<R: AsOctets + Copy>(
@@ -55,7 +55,7 @@ pub(crate) fn take_octets<R: AsOctets + Copy, const N: usize>(
     ensures none { IsErr result → split_octets N (rest (window parser.old)) ≡ None }
     ensures kept { OnErr result (window parser.new ≡ window parser.old) }
 {
-    let octets = Octets::<N>::parse(parser)?;
+    let octets = OctetArray::<N>::parse(parser)?;
     Ok(octets)
 }
 

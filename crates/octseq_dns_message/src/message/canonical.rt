@@ -1,7 +1,7 @@
 //! The canonical name for the qname of a message: RFC 1034, 3.6.2.
 ghost use Rattle.std.specs.Prelude.{◌≡◌, ◌+◌, ◌*◌, ◌<◌, ◌≤◌, List, length, IsSome, IsNone, IfSome};
 ghost use Rattle.octseq_dns_message.specs.AliasTurns.{alias_turns, canonical_turns};
-ghost use Rattle.octseq_dns_message.specs.Canonical.{IsAlias, LeadsTo, IsCanonical};
+ghost use Rattle.octseq_dns_message.specs.Canonical.{IsAlias, IsAliasOf, IsCanonicalName};
 ghost use Rattle.octseq_dns_message.specs.Entry as said;
 ghost use Rattle.octseq_dns_message.specs.Said.{record_of};
 ghost use Rattle.octseq_dns_message.specs.Walk.{records_left};
@@ -22,7 +22,7 @@ pub const ALIAS_MAX: usize = 15;
 /// It does nothing. Calling it brings the law into the caller's proof.
 pub fn one_canonical_name()
     ensures { (questions : List said.Question) (answers : List said.Record) (name other : named.Name)
-        → IsCanonical questions answers name → IsCanonical questions answers other → name ≡ other }
+        → IsCanonicalName questions answers name → IsCanonicalName questions answers other → name ≡ other }
 {}
 
 impl<R: AsOctets + Copy> Message<R> {
@@ -35,9 +35,9 @@ impl<R: AsOctets + Copy> Message<R> {
     /// question, or if more than 15 aliases follow one another, as in a loop.
     pub fn canonical_name(&self) -> Option<ParsedName<R>>
         ensures canonical { IfSome result (λ name.
-            IsCanonical (questions_of self.now) (answers_of self.now) (name_of name)) }
+            IsCanonicalName (questions_of self.now) (answers_of self.now) (name_of name)) }
         ensures none { IsNone result → (name : named.Name)
-            → ¬ IsCanonical (questions_of self.now) (answers_of self.now) name }
+            → ¬ IsCanonicalName (questions_of self.now) (answers_of self.now) name }
     {
         self.canonical_name_counted(&mut Turns::new())
     }
@@ -47,12 +47,12 @@ impl<R: AsOctets + Copy> Message<R> {
     /// the root of its target.
     pub fn canonical_name_counted(&self, turns: &mut Turns) -> Option<ParsedName<R>>
         ensures canonical { IfSome result (λ name.
-            IsCanonical (questions_of self.now) (answers_of self.now) (name_of name)) }
+            IsCanonicalName (questions_of self.now) (answers_of self.now) (name_of name)) }
         ensures none { IsNone result → (name : named.Name)
-            → ¬ IsCanonical (questions_of self.now) (answers_of self.now) name }
+            → ¬ IsCanonicalName (questions_of self.now) (answers_of self.now) name }
         ensures some { turns.old ≤ turns.new }
         ensures least { IfSome result (λ name.
-            (is : IsCanonical (questions_of self.now) (answers_of self.now) (name_of name))
+            (is : IsCanonicalName (questions_of self.now) (answers_of self.now) (name_of name))
             → turns.old + canonical_turns (questions_of self.now) (answers_of self.now) (name_of name) is ≤ turns.new) }
         ensures aliases { IsNone result → 0 < length (questions_of self.now) → turns.old + 16 * 2 ≤ turns.new }
         ensures turns { turns.new ≤ turns.old + 16 * (511 * length (answers_of self.now)) }
@@ -78,12 +78,12 @@ fn alias_target<R: AsOctets + Copy>(
     turns: &mut Turns,
 ) -> Option<ParsedName<R>>
     ensures target { IfSome result (λ target.
-        LeadsTo class (records_left records) (name_of name.now) (name_of target)) }
+        IsAliasOf class (records_left records) (name_of name.now) (name_of target)) }
     ensures none { IsNone result → (target : named.Name)
-        → ¬ LeadsTo class (records_left records) (name_of name.now) target }
+        → ¬ IsAliasOf class (records_left records) (name_of name.now) target }
     ensures some { turns.old ≤ turns.new }
     ensures least { IfSome result (λ target.
-        (is : LeadsTo class (records_left records) (name_of name.now) (name_of target))
+        (is : IsAliasOf class (records_left records) (name_of name.now) (name_of target))
         → turns.old + alias_turns class (records_left records) (name_of name.now) (name_of target) is ≤ turns.new) }
     ensures all { IsNone result → turns.old + length (records_left records) ≤ turns.new }
     ensures turns { turns.new ≤ turns.old + 511 * length (records_left records) }

@@ -48,7 +48,7 @@ impl<R: AsOctets + Copy> Record<R> {
     ghost use Rattle.octseq_dns_name.specs.NameTurns.{CountsName};
     ghost use Rattle.octseq_dns_name.specs.Read.{name_of};
     ghost use Rattle.octseq_dns_message.specs.Said.{record_of};
-    ghost use Rattle.octseq_dns_data.specs.Typed.{rdata_of, IsAt};
+    ghost use Rattle.octseq_dns_data.specs.Typed.{rdata_of, AreStringsAt};
 
     /// Reads the next record of a message.
     ///
@@ -156,7 +156,7 @@ impl<R: AsOctets + Copy> Record<R> {
     /// is data of a type without a form here.
     pub fn data(&self) -> Data<R>
         ensures rdata { IsDataOf (record_of self.now) (rdata_of result) }
-        ensures place { IsAt (at (record_of self.now).rdata.position (record_of self.now).owner.place) result }
+        ensures place { AreStringsAt (at (record_of self.now).rdata.position (record_of self.now).owner.place) result }
     {
         self.data_counted(&mut Turns::new())
     }
@@ -166,7 +166,7 @@ impl<R: AsOctets + Copy> Record<R> {
     /// for each octet.
     pub fn data_counted(&self, turns: &mut Turns) -> Data<R>
         ensures rdata { IsDataOf (record_of self.now) (rdata_of result) }
-        ensures place { IsAt (at (record_of self.now).rdata.position (record_of self.now).owner.place) result }
+        ensures place { AreStringsAt (at (record_of self.now).rdata.position (record_of self.now).owner.place) result }
         ensures some { turns.old ≤ turns.new }
         ensures least { turns.old + rdata_turns (rdata_of result) ≤ turns.new }
         ensures turns { turns.new ≤ turns.old + 510 + left (record_of self.now).rdata }

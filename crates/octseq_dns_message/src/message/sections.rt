@@ -14,7 +14,7 @@ use octseq_dns_name::Malformed;
 
 /// Passes `count` questions.
 #[inline(always)]
-pub(crate) fn pass_questions<R: AsOctets + Copy>(
+pub(crate) fn read_questions<R: AsOctets + Copy>(
     parser: &mut Parser<R>,
     count: u16,
     turns: &mut Turns,
@@ -40,7 +40,7 @@ pub(crate) fn pass_questions<R: AsOctets + Copy>(
 
 /// Passes `count` records.
 #[inline(always)]
-pub(crate) fn pass_records<R: AsOctets + Copy>(
+pub(crate) fn read_records<R: AsOctets + Copy>(
     parser: &mut Parser<R>,
     count: u16,
     turns: &mut Turns,

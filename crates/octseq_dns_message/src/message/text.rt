@@ -1,7 +1,7 @@
 //! The text of records and of whole messages.
 ghost use Rattle.std.specs.Prelude.{◌≡◌, ◌≢◌, ◌+◌, ◌++◌, ℕ, List, Some, None, true, length, codes, IsErr, OnOk, OnErr};
 ghost use Rattle.std.specs.Fmt.{WritesOnOk, HasWritten, IsPlainFormatter};
-ghost use Rattle.octseq.specs.Limit.{IsPast};
+ghost use Rattle.octseq.specs.Limit.{ExceedsLimit};
 ghost use Rattle.octseq.specs.Refusal.{IsShort, IsMemory};
 ghost use Rattle.octseq.specs.Display.{display_error};
 ghost use Rattle.octseq_dns_data.specs.Data.{ParsedRdata};
@@ -191,10 +191,10 @@ impl<R: AsOctets + Copy> Message<R> {
         ensures err { OnErr result (B.content text.new ≡ B.content text.old) }
         ensures past { (lines : List ℕ) → IsMessageText (header_of self.now) (questions_of self.now)
             (answers_of self.now) (authorities_of self.now) (additionals_of self.now) lines
-            → IsPast B.limit (length (B.content text.old) + length lines) → IsErr result }
+            → ExceedsLimit B.limit (length (B.content text.old) + length lines) → IsErr result }
         ensures short { IsShort display_error result → (lines : List ℕ) → IsMessageText (header_of self.now)
             (questions_of self.now) (answers_of self.now) (authorities_of self.now) (additionals_of self.now) lines
-            → IsPast B.limit (length (B.content text.old) + length lines) }
+            → ExceedsLimit B.limit (length (B.content text.old) + length lines) }
         ensures limited { IsShort display_error result → B.limit ≢ None }
         ensures memory { IsMemory display_error result → B.asks ≡ true }
         ensures borrows { B.borrows text.new ≡ B.borrows text.old }

@@ -6,13 +6,13 @@ ghost use Rattle.octseq.specs.Window.{rest};
 ghost use Rattle.octseq_dns_message.specs.OptionData as said;
 ghost use Rattle.octseq_dns_message.specs.OptionData.{IsWithoutZero, IsClientSubnet, IsCookie};
 ghost use Rattle.octseq_dns_message.specs.OptionData.{IsExtendedError, IsTypedOption, IsOptionData};
-ghost use Rattle.octseq_dns_message.specs.OptionData.{HasAddressesOf, HoldsBits, IsPrefix};
+ghost use Rattle.octseq_dns_message.specs.OptionData.{HasAddressesOf, HoldsBits, IsSubnet};
 ghost use Rattle.octseq_dns_message.specs.Opt.{EdnsOption as Found};
 
 use crate::opt::EdnsOption;
 use octseq::builder::infallible;
 use octseq::{AsOctets, Parser};
-use octseq_format::{Format, Nested, Octets, U8, U16Be};
+use octseq_format::{Format, Nested, OctetArray, U8, U16Be};
 use std::alloc::AllocError;
 
 /// The name server identifier: RFC 5001, 4.1.
@@ -189,7 +189,7 @@ impl<R: AsOctets + Copy> ClientSubnet<R> {
     /// Whether neither prefix is longer than an address of the family, and the address is as few octets as hold the
     /// source prefix, with zero bits after it.
     fn is_prefix(&self) -> bool
-        ensures { IsTrue result ↔ IsPrefix (client_subnet_of self.now) }
+        ensures { IsTrue result ↔ IsSubnet (client_subnet_of self.now) }
     {
         match bits_of_family(self.family) {
             Some(bits) => {
@@ -244,7 +244,7 @@ impl<R: AsOctets + Copy> Cookie<R> {
         ensures none { IsNone result → (it : said.Cookie) → ¬ IsCookie (window octets) it }
     {
         let mut ahead = octets;
-        let Ok(parts) = <(Octets<8>, Nested)>::parse(&mut ahead) else {
+        let Ok(parts) = <(OctetArray<8>, Nested)>::parse(&mut ahead) else {
             return None;
         };
         let (client, server) = parts;

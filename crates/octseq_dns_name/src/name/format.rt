@@ -24,9 +24,9 @@ pub struct DomainName;
 impl<R: AsOctets + Copy> Format<R> for DomainName {
     type Value = ParsedName<R>;
 
-    type Delimited = Yes;
+    type SelfDelimiting = Yes;
 
-    type Moving = Yes;
+    type NonEmpty = Yes;
 
     ghost Found = { Named };
 

@@ -49,7 +49,7 @@ impl<R: AsOctets> Label<R> {
         self.parser.remaining()
     }
 
-    /// Returns the place of the first octet, counted from the first octet of the message.
+    /// Returns the offset of the first octet, counted from the first octet of the message.
     pub fn pos(&self) -> usize
         ensures { result ≡ (label_place self.now).position }
     {

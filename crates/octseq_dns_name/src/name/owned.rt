@@ -1,7 +1,7 @@
 //! Names that own their octets.
 ghost use Rattle.std.specs.Prelude.{◌≡◌, ◌+◌, ◌≤◌, ◌↔◌, true, ℕ, List, [], ◌++◌, length, IsTrue, IfOk, OnOk, OnErr};
 ghost use Rattle.octseq.specs.Window.{whole};
-ghost use Rattle.octseq.specs.Limit.{IsPast};
+ghost use Rattle.octseq.specs.Limit.{ExceedsLimit};
 ghost use Rattle.octseq.specs.Refusal.{IsShort, IsMemory, append_error};
 ghost use Rattle.octseq_dns_name.specs.Name.{wire_length};
 ghost use Rattle.octseq_dns_name.specs.OneName.{Named, named_once};
@@ -97,7 +97,7 @@ impl<B: AsOctets> Name<B> {
     ) -> Result<Name<B>, AllocError>
     where
         B: EmptyBuilder,
-        requires { ¬ IsPast B.limit (wire_length (labels_of name.now)) }
+        requires { ¬ ExceedsLimit B.limit (wire_length (labels_of name.now)) }
         ensures ok { IfOk result (λ copy. owned_labels copy ≡ labels_of name.now) }
         ensures memory { OnErr result (B.asks ≡ true) }
     {
@@ -119,7 +119,7 @@ impl<R: AsOctets + Copy> ParsedName<R> {
     /// refused.
     pub fn try_to_name<B: EmptyBuilder>(&self, alloc: Global) -> Result<Name<B>, AppendError>
         ensures ok { IfOk result (λ name. owned_labels name ≡ labels_of self.now) }
-        ensures short { IsShort append_error result ↔ IsPast B.limit (wire_length (labels_of self.now)) }
+        ensures short { IsShort append_error result ↔ ExceedsLimit B.limit (wire_length (labels_of self.now)) }
         ensures memory { IsMemory append_error result → B.asks ≡ true }
     {
         match B::limit() {

@@ -1,15 +1,15 @@
-//! The end of the name at a place: its labels are passed, and then what its first pointer leads to.
+//! The end of the name at an offset: its labels are passed, and then what its first pointer leads to.
 ghost use Rattle.std.specs.Prelude.{◌≡◌, ◌+◌, ◌<◌, ◌≤◌, ℕ, length, slice_index};
 ghost use Rattle.std.specs.Prelude.{IsTrue, IsFalse, IsNone, IfSome};
 ghost use Rattle.octseq.specs.Window.{Window};
 ghost use Rattle.octseq_dns_name.specs.Name.{HasPointer};
-ghost use Rattle.octseq_dns_name.specs.Pass.{window_at, place_in, NoName, NoRest, PassesLabels, Rests, Ends};
+ghost use Rattle.octseq_dns_name.specs.Pass.{window_at, place_in, NoName, NoRest, PassesLabels, Rests, NameEnds};
 
 use crate::name::wire::LABEL_MAX;
 use crate::name::{NAME_MAX, POINTER_MAX};
 use octseq::Turns;
 
-/// Returns where the name at a place ends, and its number of octets in wire form. It counts a turn for the root, for
+/// Returns where the name at an offset ends, and its number of octets in wire form. It counts a turn for the root, for
 /// each label and for each pointer.
 #[inline(always)]
 pub(crate) fn name_end(
@@ -21,13 +21,13 @@ pub(crate) fn name_end(
     requires ordered { place ≤ end }
     requires within { end ≤ length octets.now }
     ensures some { IfSome result (λ found.
-        Ends (window_at octets.now place end) found.0 found.1 turns.old turns.new) }
+        NameEnds (window_at octets.now place end) found.0 found.1 turns.old turns.new) }
     ensures none { IsNone result → NoName (window_at octets.now place end) }
     ensures turns { turns.new ≤ turns.old + 255 }
     ensures least { turns.old + 1 ≤ turns.new }
 {
     turns.tick();
-    let at = pass_labels(octets, place, end, turns)?;
+    let at = skip_labels(octets, place, end, turns)?;
     let before = at - place + 1;
     if octets[at] == 0 {
         return Some((at + 1, before));
@@ -35,16 +35,16 @@ pub(crate) fn name_end(
     if !points_before(octets, at, end, place) {
         return None;
     }
-    let to = place_at(octets, at);
+    let to = pointer_target(octets, at);
     turns.tick();
-    let len = pass_rest(octets, to, end, before, turns)?;
+    let len = skip_rest(octets, to, end, before, turns)?;
     Some((at + 2, len))
 }
 
-/// Passes the labels at a place. Returns the place of the first octet that isn't a label's length, or `None` if there
-/// is no name: the labels reach the end, or are too long.
+/// Passes the labels at an offset. Returns the offset of the first octet that isn't a label's length, or `None` if
+/// there is no name: the labels reach the end, or are too long.
 #[inline(always)]
-fn pass_labels(octets: &[u8], place: usize, end: usize, turns: &mut Turns) -> Option<usize>
+fn skip_labels(octets: &[u8], place: usize, end: usize, turns: &mut Turns) -> Option<usize>
     requires ordered { place ≤ end }
     requires within { end ≤ length octets.now }
     ensures some { IfSome result (λ at. PassesLabels (window_at octets.now place end) at turns.old turns.new) }
@@ -65,7 +65,7 @@ fn pass_labels(octets: &[u8], place: usize, end: usize, turns: &mut Turns) -> Op
     None
 }
 
-/// Whether a pointer is at a place that leads before `start`.
+/// Whether a pointer is at an offset that leads before `start`.
 #[inline(always)]
 fn points_before(octets: &[u8], at: usize, end: usize, start: usize) -> bool
     requires ordered { at < end }
@@ -82,12 +82,12 @@ fn points_before(octets: &[u8], at: usize, end: usize, start: usize) -> bool
     if end - at < 2 {
         return false;
     }
-    place_at(octets, at) < start
+    pointer_target(octets, at) < start
 }
 
-/// Where the pointer at a place leads.
+/// Where the pointer at an offset leads.
 #[inline(always)]
-fn place_at(octets: &[u8], at: usize) -> usize
+fn pointer_target(octets: &[u8], at: usize) -> usize
     requires whole { at + 1 < length octets.now }
     requires mark { 192 ≤ slice_index octets.now at }
     ensures { result ≡ place_in octets.now at }
@@ -98,7 +98,7 @@ fn place_at(octets: &[u8], at: usize) -> usize
 /// Passes the rest of a name, from where its first pointer leads. Returns the number of octets of the name in wire
 /// form, given the number before the rest, the root's one included.
 #[inline(always)]
-fn pass_rest(
+fn skip_rest(
     octets: &[u8],
     to: usize,
     end: usize,
@@ -134,7 +134,7 @@ fn pass_rest(
         if !points_before(octets, at, end, start) {
             return None;
         }
-        start = place_at(octets, at);
+        start = pointer_target(octets, at);
         at = start;
         pointers += 1;
         if pointers > POINTER_MAX {

@@ -1,7 +1,7 @@
 //! Relations between names: the parent of a name, the names that it ends with, and those that it begins with.
 ghost use Rattle.std.specs.Prelude.{◌≡◌, ◌≤◌, ◌↔◌, ⊤, [], length, drop, IsTrue, IsNone, IfSome};
 ghost use Rattle.octseq_dns_name.specs.Read.{labels_of, labels_left, place_of};
-ghost use Rattle.octseq_dns_name.specs.Relatives.{EndsWith, StartsWith, FirstEndsAt, suffixes};
+ghost use Rattle.octseq_dns_name.specs.Relatives.{NameEndsWith, NameStartsWith, FirstEndsAt, suffixes};
 
 use crate::name::compare::{labels_eq, passed};
 use crate::name::step::next_label;
@@ -36,7 +36,7 @@ impl<R: AsOctets + Copy> ParsedName<R> {
 
     /// Whether its last labels are those of `base`, ignoring ASCII case. Every name ends with the root.
     pub fn ends_with<S: AsOctets + Copy>(&self, base: &ParsedName<S>) -> bool
-        ensures { IsTrue result ↔ EndsWith (labels_of self.now) (labels_of base.now) }
+        ensures { IsTrue result ↔ NameEndsWith (labels_of self.now) (labels_of base.now) }
     {
         let (count, others) = (self.label_count(), base.label_count());
         if count < others {
@@ -48,7 +48,7 @@ impl<R: AsOctets + Copy> ParsedName<R> {
     /// Whether its first labels are those of `base`, ignoring ASCII case. The root of `base`, which isn't a label,
     /// doesn't count.
     pub fn starts_with<S: AsOctets + Copy>(&self, base: &ParsedName<S>) -> bool
-        ensures { IsTrue result ↔ StartsWith (labels_of self.now) (labels_of base.now) }
+        ensures { IsTrue result ↔ NameStartsWith (labels_of self.now) (labels_of base.now) }
     {
         labels_start_with(self.labels(), base.labels())
     }
@@ -59,7 +59,7 @@ fn labels_start_with<R: AsOctets + Copy, S: AsOctets + Copy>(
     labels: Labels<R>,
     others: Labels<S>,
 ) -> bool
-    ensures { IsTrue result ↔ StartsWith (labels_left labels) (labels_left others) }
+    ensures { IsTrue result ↔ NameStartsWith (labels_left labels) (labels_left others) }
 {
     let mut ahead = labels;
     for other in others {

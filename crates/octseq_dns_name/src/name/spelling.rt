@@ -4,8 +4,15 @@ ghost use Rattle.std.specs.Prelude.{IsNone, IfSome, IfOk, IfErr, OnErr, MatchOpt
 ghost use Rattle.octseq_dns_name.specs.NameFormat.{bodies};
 ghost use Rattle.octseq_dns_name.specs.Origin.{SpellsWithOrigin, IsRefusedWithOrigin};
 ghost use Rattle.octseq_dns_name.specs.Read.{labels_of};
-ghost use Rattle.octseq_dns_name.specs.Refused.{Reads, ReadsLabels, ReadsAll, SpellsNone, IsIllegal, IsFault};
-ghost use Rattle.octseq_dns_name.specs.Refused.{IsRefused};
+ghost use Rattle.octseq_dns_name.specs.Refused.{
+  ReadsLabelPart,
+  ReadsLabels,
+  ReadsAll,
+  SpellsNone,
+  IsIllegal,
+  IsLabelFault,
+};
+ghost use Rattle.octseq_dns_name.specs.Refused.{IsNameRefused};
 ghost use Rattle.octseq_dns_name.specs.Spelling.{SpellsOctet, SpellsName};
 ghost use Rattle.octseq_dns_name.specs.Wire.{IsWireOf};
 ghost use Rattle.octseq.specs.OctetsText.{three_digits};
@@ -23,7 +30,7 @@ use octseq::{Array, AsOctets, OctetsBuilder};
 pub(crate) fn wire_of(text: &[u8]) -> Result<Array<255>, FromTextError>
     ensures ok { IfOk result (λ octets. (labels : List (List ℕ)) × IsWireOf labels octets.content
         × SpellsName labels text.now) }
-    ensures refused { IfErr result (λ fault. IsRefused fault text.now) }
+    ensures refused { IfErr result (λ fault. IsNameRefused fault text.now) }
 {
     if text == b".".as_slice() {
         return Ok(with_root(Array::new()));
@@ -63,14 +70,14 @@ pub(crate) fn wire_with_origin<R: AsOctets + Copy>(
     Ok(with_root(octets))
 }
 
-/// Reads labels from a text, each followed by a full stop. Returns their wire form without the root, and the label that
-/// the text ends with if no full stop follows it, or no octets.
+/// Reads labels from a text, each followed by a full stop. Returns their wire form without the root, and the
+/// label that the text ends with if no full stop follows it, or no octets.
 fn read_labels(text: &[u8]) -> Result<(Array<255>, Array<63>), FromTextError>
     ensures ok { IfOk result (λ read. (labels : List (List ℕ)) × (read.0.content ≡ bodies labels)
         × ReadsAll text.now labels read.1.content) }
     ensures room { IfOk result (λ read. length read.0.content + 1 ≤ 255) }
     ensures refused { IfErr result (λ fault. (labels : List (List ℕ)) × (rest : List ℕ)
-        × ReadsLabels text.now labels rest × IsFault fault labels rest) }
+        × ReadsLabels text.now labels rest × IsLabelFault fault labels rest) }
     ensures within { IfErr result (λ fault. ¬ (fault ≡ FromTextError.UnexpectedEnd)) }
 {
     let mut octets = Array::<255>::new();
@@ -92,11 +99,11 @@ fn read_labels(text: &[u8]) -> Result<(Array<255>, Array<63>), FromTextError>
 /// Takes a label from the front of a text, and the full stop after it. Returns the label with what follows the full
 /// stop, or with `None` if the text ends with the label.
 fn next_part(text: &[u8]) -> Result<(Array<63>, Option<&[u8]>), FromTextError>
-    ensures ok { IfOk result (λ taken. MatchOption taken.1 (Reads text.now taken.0.content [])
-        (λ rest. Reads text.now taken.0.content (46 ∷ rest.now))) }
+    ensures ok { IfOk result (λ taken. MatchOption taken.1 (ReadsLabelPart text.now taken.0.content [])
+        (λ rest. ReadsLabelPart text.now taken.0.content (46 ∷ rest.now))) }
     ensures some { IfOk result (λ taken. IfSome taken.1 (λ _. 1 ≤ length taken.0.content)) }
     ensures short { IfOk result (λ taken. length taken.0.content ≤ 63) }
-    ensures refused { IfErr result (λ fault. (labels : List (List ℕ)) → IsFault fault labels text.now) }
+    ensures refused { IfErr result (λ fault. (labels : List (List ℕ)) → IsLabelFault fault labels text.now) }
     ensures within { IfErr result (λ fault. ¬ (fault ≡ FromTextError.UnexpectedEnd)) }
 {
     let mut label = Array::<63>::new();

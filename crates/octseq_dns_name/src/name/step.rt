@@ -5,7 +5,7 @@ ghost use Rattle.octseq.specs.Window.{Window, rest};
 ghost use Rattle.octseq_dns_name.specs.Name.{IsName, HasLabels};
 ghost use Rattle.octseq_dns_name.specs.NextLabel.{NextLabel};
 ghost use Rattle.octseq_dns_name.specs.OneName.{Ahead, Named};
-ghost use Rattle.octseq_dns_name.specs.Piece.{Piece, HasPiece, piece, IsPlaced, IsShort, IsShortLabel};
+ghost use Rattle.octseq_dns_name.specs.Piece.{Piece, HasPiece, piece, IsPlaced, IsLabelPiece, IsShortLabel};
 
 use crate::error::Malformed;
 use octseq::builder::infallible;
@@ -18,7 +18,7 @@ pub(crate) enum Step<R: AsOctets> {
     Root,
     /// A label: a parser of its octets.
     Label(Parser<R>),
-    /// A pointer: the place where the name goes on.
+    /// A pointer: the offset where the name goes on.
     Pointer(usize),
 }
 
@@ -70,7 +70,7 @@ pub(crate) fn next_label<R: AsOctets + Copy>(
     ensures none { IsNone result → (labels : List (List ℕ)) (pointers : ℕ) (end : Window)
         → HasLabels start.old (window parser.old) labels pointers end → labels ≡ [] }
     ensures ordered { start.new ≤ (window parser.new).position }
-    ensures short { IfSome result IsShort }
+    ensures short { IfSome result IsLabelPiece }
     ensures place { IfSome result (λ label.
         NextLabel start.old (window parser.old) (window label) start.new (window parser.new)) }
 {
@@ -88,7 +88,7 @@ pub(crate) fn next_label<R: AsOctets + Copy>(
 
 /// Passes a name that was read, through the root or its first pointer, which it doesn't follow.
 #[inline(always)]
-pub(crate) fn pass_known<R: AsOctets + Copy>(parser: &mut Parser<R>)
+pub(crate) fn skip_known<R: AsOctets + Copy>(parser: &mut Parser<R>)
     requires { Named (window parser.old) }
     ensures end { (labels : List (List ℕ)) (end : Window) → IsName (window parser.old) labels end
         → end ≡ window parser.new }

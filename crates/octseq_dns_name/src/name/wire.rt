@@ -1,7 +1,7 @@
 //! The plain wire form of labels.
 ghost use Rattle.std.specs.Prelude.{◌≡◌, ◌↔◌, ◌+◌, ◌<◌, ◌≤◌, true, ℕ, List, [], ◌∷◌, ◌++◌, length, map};
 ghost use Rattle.std.specs.Prelude.{IsTrue, IfOk, IfErr, OnOk, OnErr};
-ghost use Rattle.octseq.specs.Limit.{IsPast};
+ghost use Rattle.octseq.specs.Limit.{ExceedsLimit};
 ghost use Rattle.octseq_dns_name.specs.Name.{wire_length};
 ghost use Rattle.octseq_dns_name.specs.Read.{labels_left, labels_of};
 ghost use Rattle.octseq_dns_name.specs.Unfit.{IsWrong, HasWrong};
@@ -32,7 +32,7 @@ pub(crate) fn append_labels<B: OctetsBuilder, R: AsOctets + Copy>(
     octets: &mut B,
     labels: Labels<R>,
 ) -> Result<(), AllocError>
-    requires { ¬ IsPast B.limit (length (B.content octets.old) + wire_length (labels_left labels)) }
+    requires { ¬ ExceedsLimit B.limit (length (B.content octets.old) + wire_length (labels_left labels)) }
     ensures ok { OnOk result (B.content octets.new ≡ B.content octets.old ++ wire (labels_left labels)) }
     ensures labels { OnOk result (AreLabels (labels_left labels)) }
     ensures memory { OnErr result (B.asks ≡ true) }
@@ -47,7 +47,7 @@ pub(crate) fn append_labels<B: OctetsBuilder, R: AsOctets + Copy>(
 
 /// Appends a slice to a builder that has room for it.
 pub(crate) fn append<B: OctetsBuilder>(octets: &mut B, slice: &[u8]) -> Result<(), AllocError>
-    requires { ¬ IsPast B.limit (length (B.content octets.old) + length slice.now) }
+    requires { ¬ ExceedsLimit B.limit (length (B.content octets.old) + length slice.now) }
     ensures ok { OnOk result (B.content octets.new ≡ B.content octets.old ++ slice.now) }
     ensures memory { OnErr result (B.asks ≡ true) }
 {

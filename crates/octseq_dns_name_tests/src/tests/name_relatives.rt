@@ -7,7 +7,7 @@ use octseq_dns_name::{Name, ParsedName};
 use std::alloc::AllocGlobal;
 use std::process::Abort;
 
-/// Reads the name at a place of a message.
+/// Reads the name at an offset of a message.
 fn name_at<R: Octets + Copy>(rt: &impl Abort, octets: R, place: usize) -> ParsedName<R> {
     let mut parser = Parser::from_ref(octets);
     unwrap(rt, parser.seek(place));
@@ -33,7 +33,7 @@ fn has_parent<R: Octets + Copy>(
     }
 }
 
-/// Returns the place of the parent of the name at a place.
+/// Returns the offset of the parent of the name at an offset.
 fn parent_place<R: Octets + Copy>(rt: &impl Abort, octets: R, place: usize) -> Option<usize> {
     let parent = name_at(rt, octets, place).parent()?;
     Some(parent.parser().pos())

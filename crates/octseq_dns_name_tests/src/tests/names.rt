@@ -52,8 +52,8 @@ fn names_have_the_canonical_order(rt: HostRuntime) {
         b"\x01\xC8\x01z\x07example\x00",
     ];
     for (place, one) in names.iter().enumerate() {
-        for (other_place, other) in names.iter().enumerate() {
-            let wanted = (place.cmp(&other_place), place == other_place);
+        for (other_offset, other) in names.iter().enumerate() {
+            let wanted = (place.cmp(&other_offset), place == other_offset);
             assert_equal!(&rt, compared(&rt, one, other), wanted);
         }
     }

@@ -10,7 +10,7 @@ use octseq_dns::{
 use std::alloc::AllocGlobal;
 use std::process::Abort;
 
-/// Returns the place after the name at a place of octets, and the wire length of the name.
+/// Returns the offset after the name at an offset of octets, and the wire length of the name.
 fn name_at(octets: &[u8], place: usize) -> Option<(usize, usize)> {
     let mut parser = Parser::from_ref(octets);
     parser.seek(place).ok()?;
@@ -20,7 +20,7 @@ fn name_at(octets: &[u8], place: usize) -> Option<(usize, usize)> {
     }
 }
 
-/// Returns the name at a place of octets.
+/// Returns the name at an offset of octets.
 fn parsed_at<'a>(rt: &impl Abort, octets: &'a [u8], place: usize) -> ParsedName<&'a [u8]> {
     let mut parser = Parser::from_ref(octets);
     unwrap(rt, parser.seek(place));
@@ -33,7 +33,7 @@ fn is_label(rt: &impl Abort, label: &Label<&[u8]>, wanted: &[u8]) {
     assert_equal!(rt, label.len(), wanted.len());
 }
 
-/// Checks the labels of the name at a place.
+/// Checks the labels of the name at an offset.
 fn has_labels(rt: &impl Abort, octets: &[u8], place: usize, wanted: &[&[u8]]) {
     let name = parsed_at(rt, octets, place);
     assert_equal!(rt, name.label_count(), wanted.len());

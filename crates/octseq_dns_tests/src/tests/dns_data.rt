@@ -9,7 +9,7 @@ use octseq_dns::{Data, Malformed, Message, ParsedName};
 use std::alloc::AllocGlobal;
 use std::process::Abort;
 
-/// A question for `example.com.` at place 12, and the owner of an answer, which points to it.
+/// A question for `example.com.` at offset 12, and the owner of an answer, which points to it.
 const FRONT: &[u8] =
     b"\x12\x34\x85\x80\x00\x01\x00\x01\x00\x00\x00\x00\x07example\x03com\x00\x00\x01\x00\x01\xC0\x0C";
 
@@ -223,7 +223,7 @@ fn data_is_read_from_each_kind_of_octets(rt: HostRuntime) {
     unwrap(&rt, over_each(&rt, &IsService, octets.as_slice()));
 }
 
-/// Checks the places and the lengths of the strings of a text.
+/// Checks the offsets and the lengths of the strings of a text.
 fn stand_in_the_message<R: Octets + Copy>(rt: &impl Abort, txt: &Txt<R>) {
     let places = [(42, 1), (44, 0), (45, 2)];
     let mut count = 0usize;

@@ -10,7 +10,7 @@ use octseq_dns::{Malformed, Message, ParsedName, Rtype};
 use std::alloc::AllocGlobal;
 use std::process::Abort;
 
-/// A question for `example.com.` of class IN, at place 12.
+/// A question for `example.com.` of class IN, at offset 12.
 const QUESTION: &[u8] = b"\x07example\x03com\x00\x00\x01\x00\x01";
 
 /// Appends a header with counts.
@@ -39,7 +39,7 @@ fn asked(rt: &(impl Abort + AllocGlobal), count: u8) -> Vec<u8> {
     octets
 }
 
-/// Returns the places of the first question of a message, and of its sole question.
+/// Returns the offsets of the first question of a message, and of its sole question.
 fn places<R: Octets + Copy>(rt: &impl Abort, octets: R) -> (Option<usize>, Option<usize>) {
     let message = unwrap(rt, Message::parse(octets));
     let first = message

@@ -9,11 +9,11 @@ use octseq_format::{Format, Of, Repeated};
 use std::alloc::AllocGlobal;
 use std::process::Abort;
 
-/// `F.ISI.ARPA.` at place 0, and at place 12 a number of 2 octets, `FOO` and a pointer to place 0: names of RFC 1035,
-/// 4.1.4.
+/// `F.ISI.ARPA.` at offset 0, and at offset 12 a number of 2 octets, `FOO` and a pointer to offset 0: names of RFC
+/// 1035, 4.1.4.
 const EXCHANGE: &[u8] = b"\x01F\x03ISI\x04ARPA\0\0\x0A\x03FOO\xC0\0";
 
-/// Reads the value at a place. Returns where it ends, and how it is written.
+/// Reads the value at an offset. Returns where it ends, and how it is written.
 fn written<R: AsOctets + Copy, F: Format<R>, B: EmptyBuilder + Truncate>(
     rt: &(impl Abort + AllocGlobal),
     octets: R,

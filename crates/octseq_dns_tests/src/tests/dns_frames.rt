@@ -34,12 +34,12 @@ impl Read for Slow<'_> {
 
 /// A sink that takes one octet at a time, and refuses those beyond its room.
 #[derive(Drop)]
-struct Narrow {
+struct ShortWrites {
     taken: Vec<u8>,
     room: usize,
 }
 
-impl Write for Narrow {
+impl Write for ShortWrites {
     fn write(&mut self, buf: &[u8]) -> io::Result<usize> {
         if self.taken.len() >= self.room {
             return Err(Error::from(ErrorKind::BrokenPipe));
@@ -53,16 +53,16 @@ impl Write for Narrow {
 }
 
 #[test]
-fn a_failed_write_leaves_a_front(rt: HostRuntime) {
+fn a_failed_write_leaves_a_prefix(rt: HostRuntime) {
     for room in 0..4 {
         let taken = Vec::new(rt.alloc());
-        let mut sink = Narrow { taken, room };
+        let mut sink = ShortWrites { taken, room };
         let failed = write_frame(&mut sink, b"ab");
         assert_true!(&rt, matches!(failed, Err(WriteFrameError::Write(_))));
         assert_equal!(&rt, sink.taken.as_slice(), &STREAM[..room]);
     }
     let taken = Vec::new(rt.alloc());
-    let mut sink = Narrow { taken, room: 4 };
+    let mut sink = ShortWrites { taken, room: 4 };
     unwrap(&rt, write_frame(&mut sink, b"ab"));
     assert_equal!(&rt, sink.taken.as_slice(), &STREAM[..4]);
 }

@@ -4,7 +4,7 @@ use octseq::octets::Octets;
 use octseq::str::DisplayError;
 use octseq::{Array, AsOctets, Parser, StrBuilder};
 use octseq_asserts::{assert_equal, assert_true};
-use octseq_dns::message::{Section, Sections, place_of_fault};
+use octseq_dns::message::{Section, Sections, fault_offset};
 use octseq_dns::{Data, Malformed, Message, Record, Rtype, Ttl};
 use std::alloc::AllocGlobal;
 use std::process::Abort;
@@ -32,7 +32,7 @@ fn first_qtype(octets: &[u8]) -> Result<Option<Rtype>, Malformed> {
     Ok(message.questions().next().map(|asked| asked.qtype()))
 }
 
-/// Returns the TTL of the record at a place of a message in a slice.
+/// Returns the TTL of the record at an offset of a message in a slice.
 fn ttl_at(octets: &[u8], place: usize) -> Result<Ttl, Malformed> {
     let mut parser = Parser::from_ref(octets);
     parser.seek(place)?;
@@ -226,10 +226,10 @@ fn a_message_shows_as_it_is_appended(rt: HostRuntime) {
 
 #[test]
 fn a_fault_is_at_the_first_part_that_isnt_there(rt: HostRuntime) {
-    assert_equal!(&rt, place_of_fault(b""), 0);
-    assert_equal!(&rt, place_of_fault(&ANSWERED[..11]), 0);
-    assert_equal!(&rt, place_of_fault(&ANSWERED[..28]), 12);
-    assert_equal!(&rt, place_of_fault(&ANSWERED[..44]), 29);
-    assert_equal!(&rt, place_of_fault(ANSWERED), 45);
-    assert_equal!(&rt, place_of_fault(&[0; 13]), 12);
+    assert_equal!(&rt, fault_offset(b""), 0);
+    assert_equal!(&rt, fault_offset(&ANSWERED[..11]), 0);
+    assert_equal!(&rt, fault_offset(&ANSWERED[..28]), 12);
+    assert_equal!(&rt, fault_offset(&ANSWERED[..44]), 29);
+    assert_equal!(&rt, fault_offset(ANSWERED), 45);
+    assert_equal!(&rt, fault_offset(&[0; 13]), 12);
 }

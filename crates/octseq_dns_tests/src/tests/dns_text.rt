@@ -7,7 +7,7 @@ use std::alloc::AllocGlobal;
 use std::fmt::Write;
 use std::process::Abort;
 
-/// A question for `example.com.` at place 12, and the owner of an answer, which points to it.
+/// A question for `example.com.` at offset 12, and the owner of an answer, which points to it.
 const FRONT: &[u8] =
     b"\x12\x34\x85\x80\x00\x01\x00\x01\x00\x00\x00\x00\x07example\x03com\x00\x00\x01\x00\x01\xC0\x0C";
 

@@ -6,7 +6,7 @@ use octseq_dns::{Data, Message, Target, rewrite};
 use std::alloc::AllocGlobal;
 use std::process::Abort;
 
-/// A question for `example.com.` at place 12, and the owner of an answer, which points to it.
+/// A question for `example.com.` at offset 12, and the owner of an answer, which points to it.
 const FRONT: &[u8] =
     b"\x12\x34\x85\x80\x00\x01\x00\x01\x00\x00\x00\x00\x07example\x03com\x00\x00\x01\x00\x01\xC0\x0C";
 
@@ -118,9 +118,14 @@ static ROWS: [Row; 21] = [
     },
     Row {
         rtype: 65,
-        read: b"\0\x01\x03foo\0\0\0\0\x04\0\x01\0\x03\0\x01\0\x06\x02h2\x02h3\0\x03\0\x02\x01\xBB\0\x04\0\x08\x01\x02\x03\x04\x05\x06\x07\x08\0\x05\0\x01\0\0\x06\0\x10 \x01\x0D\xB8\0\0\0\0\0\0\0\0\0\0\0\x01\0\x07\0\0\x02\x9B\0\x02\"\0",
-        written: b"\0\x01\x03foo\0\0\0\0\x04\0\x01\0\x03\0\x01\0\x06\x02h2\x02h3\0\x03\0\x02\x01\xBB\0\x04\0\x08\x01\x02\x03\x04\x05\x06\x07\x08\0\x05\0\x01\0\0\x06\0\x10 \x01\x0D\xB8\0\0\0\0\0\0\0\0\0\0\0\x01\0\x07\0\0\x02\x9B\0\x02\"\0",
-        text: "1 foo. mandatory=\"alpn,port\" alpn=\"h2,h3\" port=\"443\" ipv4hint=\"1.2.3.4,5.6.7.8\" ech=\"AA==\" ipv6hint=\"2001:db8::1\" key7 key667=\"\\\"\\000\"",
+        read: b"\0\x01\x03foo\0\0\0\0\x04\0\x01\0\x03\0\x01\0\x06\x02h2\x02h3\0\x03\0\x02\x01\xBB\0\x04\0\x08\x01\
+            \x02\x03\x04\x05\x06\x07\x08\0\x05\0\x01\0\0\x06\0\x10 \x01\x0D\xB8\0\0\0\0\0\0\0\0\0\0\0\x01\0\x07\0\0\
+            \x02\x9B\0\x02\"\0",
+        written: b"\0\x01\x03foo\0\0\0\0\x04\0\x01\0\x03\0\x01\0\x06\x02h2\x02h3\0\x03\0\x02\x01\xBB\0\x04\0\x08\
+            \x01\x02\x03\x04\x05\x06\x07\x08\0\x05\0\x01\0\0\x06\0\x10 \x01\x0D\xB8\0\0\0\0\0\0\0\0\0\0\0\x01\0\x07\
+            \0\0\x02\x9B\0\x02\"\0",
+        text: "1 foo. mandatory=\"alpn,port\" alpn=\"h2,h3\" port=\"443\" ipv4hint=\"1.2.3.4,5.6.7.8\" ech=\"AA==\
+            \" ipv6hint=\"2001:db8::1\" key7 key667=\"\\\"\\000\"",
     },
     Row {
         rtype: 256,

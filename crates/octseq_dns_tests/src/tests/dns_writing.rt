@@ -79,7 +79,7 @@ fn answered<B: OctetsBuilder + Truncate + AsOctetsMut, T: Compressor>(
     answers.authority().additional().finish()
 }
 
-/// Checks that a table has targets at these places, from which the given numbers of pointers are followed, and no
+/// Checks that a table has targets at these offsets, from which the given numbers of pointers are followed, and no
 /// others.
 pub(super) fn has_targets<T: Compressor>(rt: &impl Abort, table: &T, wanted: &[(u16, u8)]) {
     let targets = table.as_slice();
@@ -90,7 +90,7 @@ pub(super) fn has_targets<T: Compressor>(rt: &impl Abort, table: &T, wanted: &[(
     }
 }
 
-/// Checks that they are written with a pointer, and that the places of the question's labels are known.
+/// Checks that they are written with a pointer, and that the offsets of the question's labels are known.
 fn is_answered<B: OctetsBuilder + Truncate + AsOctetsMut, T: Compressor>(
     rt: &impl Abort,
     octets: B,
@@ -646,7 +646,7 @@ fn a_pointer_says_a_place_up_to_16383(rt: HostRuntime) {
     }
 }
 
-/// Checks that an empty table takes targets until it is full, and then keeps those before a place.
+/// Checks that an empty table takes targets until it is full, and then keeps those before an offset.
 fn keeps<T: Compressor>(rt: &impl Abort, mut table: T, most: usize) {
     for at in [12, 14, 16] {
         if !table.is_full() {

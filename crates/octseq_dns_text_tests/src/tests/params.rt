@@ -36,7 +36,7 @@ static VECTORS: [(&str, &[u8]); 9] = [
     ),
 ];
 
-/// The failures of RFC 9460, D.3, and the places of the words that aren't what they have to be. Of a key that is
+/// The failures of RFC 9460, D.3, and the offsets of the words that aren't what they have to be. Of a key that is
 /// mandatory and isn't there, nothing is said here: data is read, not judged.
 static FAILURES: [(&str, usize); 8] = [
     ("key123=abc key123=def", 11),
@@ -70,7 +70,7 @@ ipv6hint=\"2001:db8::1\" key7 key667=\"\\\"\\000\"",
     (r#"key8="""#, b"\x00\x08\x00\x00"),
 ];
 
-/// Texts whose words aren't parameters, and the places of the first such words.
+/// Texts whose words aren't parameters, and the offsets of the first such words.
 static REFUSED: [(&str, usize); 27] = [
     ("port=53 mandatory=key123,key123", 8),
     ("port=53 key3=53", 8),

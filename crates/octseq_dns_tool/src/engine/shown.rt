@@ -4,7 +4,7 @@ ghost use Rattle.octseq_dns_tool.specs.Shown.{IsMessagePiece, IsNote, IsShown};
 
 use octseq::StrBuilder;
 use octseq_cli::{FrameCommand, FrameOutput, stop_line};
-use octseq_dns::message::{self, Message, place_of_fault};
+use octseq_dns::message::{self, Message, fault_offset};
 use std::alloc::{AllocError, Global};
 
 /// Octets make one output and one note.
@@ -51,7 +51,7 @@ pub(super) fn note_on(
     if is_message {
         return Ok(Vec::new(alloc));
     }
-    stop_line(alloc, "message", number, place_of_fault(octets))
+    stop_line(alloc, "message", number, fault_offset(octets))
 }
 
 /// The whole input as one message.

@@ -9,6 +9,5 @@ type Packet = (U16Be, Counted<U8, Text, 0>);
 /// Reads a packet, and writes one with the next number and the same text.
 pub fn next_packet(alloc: Global, octets: &[u8]) -> anyhow::Result<Array<64>> {
     let (number, text) = Packet::parse_whole(octets)?;
-    let packet = Packet::compose_whole(alloc, &(number.wrapping_add(1), text))?;
-    Ok(packet)
+    Ok(Packet::compose_whole(alloc, &(number.wrapping_add(1), text))?)
 }

@@ -3,13 +3,13 @@ ghost use Rattle.std.specs.Prelude.{◌≡◌, ◌/◌, ◌%◌, nat_eq};
 
 use crate::tests::{is_said, is_unwritten, isnt_said};
 use octseq_format::{
-    After, Any, Case, Counted, Flag, Format, Itself, Key, KeyBits, Keyed, Leb128, Low, Octets,
+    After, Any, Case, Counted, Flag, Format, Itself, Key, KeyBits, Keyed, Leb128, OctetArray,
     OneOf2, OneOf3, OneOf4, Reckoning, Sized, Switch, Tagged, Test, Then, Through, U8, U16Be,
-    U24Be, U32Be, U32Le, U64Le, When, Within, WithinBy,
+    U24Be, U32Be, U32Le, U64Le, UInt, When, Within, WithinBy,
 };
 
 /// A frame of HTTP/2 with a payload of eight octets: length, type, flags and stream, and the payload (RFC 9113, 4.1).
-type Frame = Keyed<(Key<U24Be, Itself>, U8, U8, U32Be), Sized<Octets<8>, 0>>;
+type Frame = Keyed<(Key<U24Be, Itself>, U8, U8, U32Be), Sized<OctetArray<8>, 0>>;
 
 #[test]
 fn a_head_may_have_the_length(rt: HostRuntime) {
@@ -24,13 +24,13 @@ fn a_head_may_have_the_length(rt: HostRuntime) {
 }
 
 /// The same frame, whose value has no length: it is that of the payload.
-type Measured = Tagged<U24Be, After<(U8, U8, U32Be), Sized<Octets<8>, 0>>>;
+type Measured = Tagged<U24Be, After<(U8, U8, U32Be), Sized<OctetArray<8>, 0>>>;
 
 /// A datagram of UDP: ports, a length that counts the header too, a checksum, and a payload of two octets (RFC 768).
 type Datagram = (
     U16Be,
     U16Be,
-    Tagged<U16Be, After<U16Be, Sized<Octets<2>, 8>>>,
+    Tagged<U16Be, After<U16Be, Sized<OctetArray<2>, 8>>>,
 );
 
 #[test]
@@ -63,11 +63,11 @@ impl Reckoning for WireType {
 
 /// A field of Protocol Buffers: its number and wire type, and its value.
 type Field = Keyed<
-    KeyBits<Leb128<10, 64>, (Low<29>, Low<3>), WireType>,
+    KeyBits<Leb128<10, 64>, (UInt<29>, UInt<3>), WireType>,
     (
         Case<0, Key<Leb128<10, 64>, Itself>>,
         Case<1, U64Le>,
-        Case<2, Counted<Leb128<10, 64>, Octets<7>, 0>>,
+        Case<2, Counted<Leb128<10, 64>, OctetArray<7>, 0>>,
         Case<5, U32Le>,
     ),
 >;
@@ -110,13 +110,13 @@ impl Test for Masked {
 }
 
 /// Octets of a message, as many as the lowest seven bits say.
-type Payload = Through<LowSeven, Sized<Octets<5>, 0>>;
+type Payload = Through<LowSeven, Sized<OctetArray<5>, 0>>;
 
 /// A frame of a WebSocket: FIN, three reserved bits, an opcode, whether it is masked and a length; if it is masked, a
 /// key of four octets; and the octets (RFC 6455, 5.2).
 type Message = Keyed<
-    KeyBits<U16Be, (Flag, Low<3>, Low<4>, (Flag, Low<7>)), Itself>,
-    (When<Masked, Then<Any<Octets<4>>, Payload>>, Payload),
+    KeyBits<U16Be, (Flag, UInt<3>, UInt<4>, (Flag, UInt<7>)), Itself>,
+    (When<Masked, Then<Any<OctetArray<4>>, Payload>>, Payload),
 >;
 
 /// The two frames are the first of RFC 6455, 5.7.

@@ -3,10 +3,10 @@ use crate::tests::{compose, is_said, read, refusal, unwrap};
 use octseq::{Array, AsOctets, Malformed, Parser, Turns, WriteError};
 use octseq_asserts::assert_equal;
 use octseq_format::{
-    At, Bits, Case, Counted, Exactly, Flag, Format, I8, I16Be, I16Le, I32Be, I32Le, I64Be, I64Le,
-    I128Be, I128Le, Low, ManyBy, Nested, Octets, OneOf2, Optional, Others, Repeated, Rest, Sized,
+    At, Bits, Case, Const, Counted, Flag, Format, I8, I16Be, I16Le, I32Be, I32Le, I64Be, I64Le,
+    I128Be, I128Le, ManyBy, Nested, OctetArray, OneOf2, Optional, Others, Repeated, Rest, Sized,
     Tagged, Test, Text, U8, U16Be, U16Le, U24Be, U24Le, U32Be, U32Le, U48Be, U48Le, U64Be, U64Le,
-    U128Be, U128Le, Where, Window, ZeroEnded, append_all, parse_all_composed, parse_many,
+    U128Be, U128Le, UInt, Where, Window, ZeroEnded, append_all, parse_all_composed, parse_many,
 };
 use std::alloc::Global;
 
@@ -75,10 +75,10 @@ impl Test for Known {
 
 #[test]
 fn a_number_may_be_fixed_or_tested(rt: HostRuntime) {
-    is_said::<Exactly<U16Be, 258>>(&rt, b"\x01\x02", ());
+    is_said::<Const<U16Be, 258>>(&rt, b"\x01\x02", ());
     assert_equal!(
         &rt,
-        refusal::<Exactly<U16Be, 258>, &[u8]>(b"\x01\x03"),
+        refusal::<Const<U16Be, 258>, &[u8]>(b"\x01\x03"),
         Some(Malformed)
     );
     is_said::<Where<U8, Known>>(&rt, b"\x04", 4);
@@ -92,21 +92,21 @@ fn a_number_may_be_fixed_or_tested(rt: HostRuntime) {
 }
 
 /// The flags of a DNS message: a response, an opcode, three flags, another one, three zero bits, and an rcode.
-type DnsFlags = (Flag, (Low<4>, Flag, Flag), (Flag, Flag, Low<3>, Low<4>));
+type DnsFlags = (Flag, (UInt<4>, Flag, Flag), (Flag, Flag, UInt<3>, UInt<4>));
 
 #[test]
 fn a_number_may_be_bits(rt: HostRuntime) {
-    is_said::<Bits<U8, (Low<2>, Low<3>, Low<3>)>>(&rt, b"\x23", (0, 4, 3));
+    is_said::<Bits<U8, (UInt<2>, UInt<3>, UInt<3>)>>(&rt, b"\x23", (0, 4, 3));
     is_said::<Bits<U16Be, DnsFlags>>(
         &rt,
         b"\x85\x83",
         (true, (0, true, false), (true, true, 0, 3)),
     );
-    let value = <Bits<U8, (Low<2>, Low<3>)> as Format<&[u8]>>::parse_whole(b"\x1F".as_slice());
+    let value = <Bits<U8, (UInt<2>, UInt<3>)> as Format<&[u8]>>::parse_whole(b"\x1F".as_slice());
     assert_equal!(&rt, value, Ok((3, 7)));
-    let refused = refusal::<Bits<U8, (Low<2>, Low<3>)>, &[u8]>(b"\x20");
+    let refused = refusal::<Bits<U8, (UInt<2>, UInt<3>)>, &[u8]>(b"\x20");
     assert_equal!(&rt, refused, Some(Malformed));
-    let written: Result<Vec<u8>, _> = compose::<Bits<U8, (Low<2>, Low<6>)>, &[u8], _>(
+    let written: Result<Vec<u8>, _> = compose::<Bits<U8, (UInt<2>, UInt<6>)>, &[u8], _>(
         rt.alloc(),
         &(4, 0),
     );
@@ -231,7 +231,7 @@ fn len_of_text<R: AsOctets + Copy>(octets: R) -> Result<usize, Malformed> {
 
 #[test]
 fn octets_may_be_a_text_or_many(rt: HostRuntime) {
-    is_said::<Octets<3>>(&rt, b"abc", *b"abc");
+    is_said::<OctetArray<3>>(&rt, b"abc", *b"abc");
     assert_equal!(&rt, len_of_text("h\u{e9}".as_bytes()), Ok(3));
     assert_equal!(&rt, len_of_text(b"h\xC3".as_slice()), Err(Malformed));
     assert_equal!(
@@ -259,8 +259,12 @@ fn is_copied<'a, F: Format<&'a [u8]>>(_octets: &'a [u8]) -> bool {
 fn what_is_said_in_one_way_is_copied(rt: HostRuntime) {
     let octets = b"\x01".as_slice();
     assert_equal!(&rt, is_copied::<Repeated<(U8, U16Be)>>(octets), true);
-    assert_equal!(&rt, is_copied::<Counted<U16Be, Octets<4>, 2>>(octets), true);
-    assert_equal!(&rt, is_copied::<Exactly<U8, 1>>(octets), true);
+    assert_equal!(
+        &rt,
+        is_copied::<Counted<U16Be, OctetArray<4>, 2>>(octets),
+        true
+    );
+    assert_equal!(&rt, is_copied::<Const<U8, 1>>(octets), true);
     assert_equal!(&rt, is_copied::<(U8, Optional<U8>)>(octets), false);
 }
 

@@ -60,8 +60,8 @@ fn octets_that_their_length_cant_count_are_malformed(rt: HostRuntime) {
 fn a_length_may_count_octets_before_it(rt: HostRuntime) {
     let octets = b"\x05ab".as_slice();
     let value = <Counted<U8, Rest, 3> as Format<&[u8]>>::parse_whole(octets);
-    let place = value.map(|rest| (rest.pos(), rest.len()));
-    assert_equal!(&rt, place, Ok((1, 2)));
+    let offset = value.map(|rest| (rest.pos(), rest.len()));
+    assert_equal!(&rt, offset, Ok((1, 2)));
     for octets in [b"\x02".as_slice(), b"\x04ab", b"\x06ab"] {
         let refused = <Counted<U8, Rest, 3> as Format<&[u8]>>::parse_whole(octets);
         assert_equal!(&rt, refused.err(), Some(Malformed));

@@ -4,8 +4,8 @@ use crate::tests::{compose, is_said, read, refusal, unwrap};
 use octseq::{Malformed, WriteError};
 use octseq_asserts::assert_equal;
 use octseq_format::{
-    Case, CompactSize, Counted, DerLength, Format, Itself, Key, Leb128, Minimal, Number, Octets,
-    OneOf2, Others, QuicInteger, Rest, Tagged, U8, U16Le, U24Le, U32Le,
+    Case, CompactSize, Counted, DerLength, Format, Itself, Key, Leb128, Minimal, Number,
+    OctetArray, OneOf2, Others, QuicInteger, Rest, Tagged, U8, U16Le, U24Le, U32Le,
 };
 use std::alloc::AllocGlobal;
 use std::process::Abort;
@@ -70,7 +70,7 @@ fn a_compact_size_may_be_a_length(rt: HostRuntime) {
     counts::<CompactSize>(&rt, b"\x03abc", b"abc");
     counts_none::<CompactSize>(&rt, b"\x03ab");
     counts_none::<CompactSize>(&rt, b"\xFD\x03");
-    is_said::<Counted<CompactSize, Octets<3>, 0>>(&rt, b"\x03abc", *b"abc");
+    is_said::<Counted<CompactSize, OctetArray<3>, 0>>(&rt, b"\x03abc", *b"abc");
 }
 
 /// The four numbers are those of RFC 9000, A.1.
@@ -143,7 +143,7 @@ fn a_length_of_der_is_definite_and_minimal(rt: HostRuntime) {
 /// An INTEGER of DER, the number 258: X.690, 8.3.
 #[test]
 fn a_length_of_der_counts_octets(rt: HostRuntime) {
-    is_said::<Tagged<U8, Case<2, Counted<DerLength, Octets<2>, 0>>>>(
+    is_said::<Tagged<U8, Case<2, Counted<DerLength, OctetArray<2>, 0>>>>(
         &rt,
         b"\x02\x02\x01\x02",
         *b"\x01\x02",
@@ -171,7 +171,7 @@ fn a_length_may_be_little_endian(rt: HostRuntime) {
     counts::<U32Le>(&rt, b"\x03\0\0\0abc", b"abc");
     counts_none::<U16Le>(&rt, b"\0\x03abc");
     counts_none::<U16Le>(&rt, b"\x03\0ab");
-    is_said::<Counted<U16Le, Octets<3>, 2>>(&rt, b"\x05\0abc", *b"abc");
+    is_said::<Counted<U16Le, OctetArray<3>, 2>>(&rt, b"\x05\0abc", *b"abc");
 }
 
 #[test]

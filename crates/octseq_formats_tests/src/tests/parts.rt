@@ -4,7 +4,7 @@ ghost use Rattle.std.specs.Prelude.{◌+◌, ◌%◌, fold};
 use crate::tests::{is_refused, is_said, is_same, is_unwritten, isnt_said, rewritten};
 use octseq::AsOctets;
 use octseq_format::{
-    After, Case, Checked, Checksum, HighFirst, If, IsSet, LowFirst, Nothing, Octets, Others,
+    After, Case, Checked, Checksum, HighFirst, If, IsSet, LowFirst, Nothing, OctetArray, Others,
     Scaled, Sized, Split, Tagged, U8, U16Be,
 };
 use octseq_formats::png;
@@ -15,11 +15,11 @@ use std::process::Abort;
 /// octets, and a number.
 type Header = Tagged<
     U8,
-    After<U16Be, Split<HighFirst<4>, Case<4, Nothing>, Scaled<4, Sized<Octets<8>, 20>>>>,
+    After<U16Be, Split<HighFirst<4>, Case<4, Nothing>, Scaled<4, Sized<OctetArray<8>, 20>>>>,
 >;
 
 /// The same with six octets, which aren't words.
-type Odd = Tagged<U8, Split<HighFirst<4>, Case<4, Nothing>, Scaled<4, Sized<Octets<6>, 20>>>>;
+type Odd = Tagged<U8, Split<HighFirst<4>, Case<4, Nothing>, Scaled<4, Sized<OctetArray<6>, 20>>>>;
 
 #[test]
 fn a_length_in_words_is_computed(rt: HostRuntime) {
@@ -66,10 +66,10 @@ impl Checksum for Sum {
 }
 
 /// Two octets, and the lowest octet of their sum.
-type Summed = Checked<Octets<2>, Sum>;
+type Summed = Checked<OctetArray<2>, Sum>;
 
 /// A length, as many octets, and the lowest octet of their sum.
-type Counted = Tagged<U8, Checked<Sized<Octets<2>, 0>, Sum>>;
+type Counted = Tagged<U8, Checked<Sized<OctetArray<2>, 0>, Sum>>;
 
 #[test]
 fn the_lowest_octets_of_a_sum_count(rt: HostRuntime) {

@@ -17,12 +17,12 @@ fn is_request<R: AsOctets + Copy>(
     rt: &(impl AllocGlobal + Abort),
     octets: R,
     wanted: (&[u8], &[u8]),
-    places: (usize, usize),
+    offsets: (usize, usize),
 ) {
     match packet(rt, octets) {
         Packet::Read(name, mode) => {
             assert_equal!(rt, (name.as_slice(), mode.as_slice()), wanted);
-            assert_equal!(rt, (name.pos(), mode.pos()), places);
+            assert_equal!(rt, (name.pos(), mode.pos()), offsets);
         }
         _ => assert_equal!(rt, "another packet", "a request"),
     }

@@ -1,7 +1,7 @@
 //! Messages and state changes, written: RFC 6396, 4.4, and RFC 8050, 3.
 ghost use Rattle.std.specs.Prelude.{◌≡◌, ◌<◌, ◌≤◌, ◌+◌, ◌++◌, ◌↔◌, ◌⊎◌, length, true, IsTrue, OnOk, OnErr};
 ghost use Rattle.octseq.specs.Integer.{octets_be};
-ghost use Rattle.octseq.specs.Limit.{IsPast};
+ghost use Rattle.octseq.specs.Limit.{ExceedsLimit};
 ghost use Rattle.octseq.specs.Refusal.{IsShort, IsMemory, IsMalformed, write_error};
 ghost use Rattle.octseq_mrt.specs.Address.{address_of, family_number};
 ghost use Rattle.octseq_mrt.specs.Joined.{AppendsBody};
@@ -101,7 +101,8 @@ impl<R: AsOctets + Copy> Bgp4Mp<R> {
         ensures malformed { IsMalformed write_error result ↔ ¬ IsOfSubtype subtype (bgp4mp_of self.now) }
         ensures short { IsShort write_error result ↔ IsOfSubtype subtype (bgp4mp_of self.now)
             × ((4294967295 < length (bgp4mp_octets subtype (bgp4mp_of self.now)))
-            ⊎ IsPast B.limit (length (B.content builder.old) + length (bgp4mp_octets subtype (bgp4mp_of self.now)))) }
+            ⊎ ExceedsLimit B.limit
+            (length (B.content builder.old) + length (bgp4mp_octets subtype (bgp4mp_of self.now)))) }
         ensures memory { IsMemory write_error result → B.asks ≡ true }
         ensures borrows { B.borrows builder.new ≡ B.borrows builder.old }
     {

@@ -2,8 +2,8 @@
 ghost use Rattle.std.specs.Prelude.{◌≡◌, ◌<◌, ◌≤◌, ◌+◌, ◌++◌, ◌↔◌, ◌⊎◌, ℕ, length, take, drop, true, IsTrue, IsErr};
 ghost use Rattle.std.specs.Prelude.{IfOk, OnOk, OnErr, is_some};
 ghost use Rattle.octseq.specs.Integer.{octets_be};
-ghost use Rattle.octseq.specs.Limit.{IsPast, IsWithin};
-ghost use Rattle.octseq.specs.Parts.{IsFront};
+ghost use Rattle.octseq.specs.Limit.{ExceedsLimit, IsWithin};
+ghost use Rattle.octseq.specs.Parts.{StartsWith};
 ghost use Rattle.octseq.specs.Refusal.{IsShort, IsMemory, append_error};
 ghost use Rattle.octseq_format.specs.Optional.{optional_octets};
 ghost use Rattle.octseq_bgp.specs.Path.{asn_size};
@@ -35,7 +35,7 @@ fn are_within(parts: &[&[u8]], most: usize) -> bool
 fn put_parts<B: OctetsBuilder>(builder: &mut B, parts: &[&[u8]]) -> Result<(), AllocError>
     requires { IsWithin B.limit (length (B.content builder.now) + length (joined parts.now)) }
     ensures ok { OnOk result (B.content builder.new ≡ B.content builder.old ++ joined parts.now) }
-    ensures err { OnErr result (IsFront (B.content builder.old) (B.content builder.new)) }
+    ensures err { OnErr result (StartsWith (B.content builder.old) (B.content builder.new)) }
     ensures memory { IsErr result → B.asks ≡ true }
     ensures borrows { B.borrows builder.new ≡ B.borrows builder.old }
 {
@@ -57,7 +57,7 @@ pub(crate) fn append_parts<B: OctetsBuilder + Truncate>(
     ensures few { OnOk result (length (joined parts.now) ≤ most) }
     ensures err { OnErr result (B.content builder.new ≡ B.content builder.old) }
     ensures short { IsShort append_error result ↔ (most < length (joined parts.now))
-        ⊎ IsPast B.limit (length (B.content builder.old) + length (joined parts.now)) }
+        ⊎ ExceedsLimit B.limit (length (B.content builder.old) + length (joined parts.now)) }
     ensures memory { IsMemory append_error result → B.asks ≡ true }
     ensures borrows { B.borrows builder.new ≡ B.borrows builder.old }
 {
@@ -95,7 +95,7 @@ pub(crate) fn push_item<B: OctetsBuilder + Truncate + AsOctetsMut>(
     count: u16,
     item: &[&[u8]],
 ) -> Result<u16, AppendError>
-    requires place { count_at + 2 ≤ length (B.content octets.old) }
+    requires offset { count_at + 2 ≤ length (B.content octets.old) }
     requires few { length (B.content octets.old) ≤ 4294967295 }
     ensures count { IfOk result (λ n. (n ≡ count + 1) × (n ≤ 65535)) }
     ensures ok { OnOk result (B.content octets.new
@@ -103,7 +103,7 @@ pub(crate) fn push_item<B: OctetsBuilder + Truncate + AsOctetsMut>(
     ensures within { OnOk result (length (B.content octets.old) + length (joined item.now) ≤ 4294967295) }
     ensures err { OnErr result (B.content octets.new ≡ B.content octets.old) }
     ensures short { IsShort append_error result ↔ (65535 ≤ count)
-        ⊎ IsPast (body_limit B.limit) (length (B.content octets.old) + length (joined item.now)) }
+        ⊎ ExceedsLimit (body_limit B.limit) (length (B.content octets.old) + length (joined item.now)) }
     ensures memory { IsMemory append_error result → B.asks ≡ true }
     ensures borrows { B.borrows octets.new ≡ B.borrows octets.old }
 {

@@ -1,6 +1,6 @@
 //! Peer index tables, written: RFC 6396, 4.3.1.
 ghost use Rattle.std.specs.Prelude.{◌≡◌, ◌≤◌, ◌<◌, ◌+◌, ◌↔◌, ◌⊎◌, [], length, true, IsTrue, IfOk, OnOk, OnErr};
-ghost use Rattle.octseq.specs.Limit.{IsPast};
+ghost use Rattle.octseq.specs.Limit.{ExceedsLimit};
 ghost use Rattle.octseq.specs.Refusal.{IsShort, IsMemory, IsMalformed, append_error, write_error};
 ghost use Rattle.octseq_mrt.specs.Building.{TableWritten, table_once, with_peer};
 ghost use Rattle.octseq_mrt.specs.Joined.{body_limit, joined};
@@ -40,7 +40,7 @@ impl<B: OctetsBuilder + Truncate + AsOctetsMut> PeerTableBuilder<B> {
         ensures table { IfOk result (λ it. table_in it
             ≡ record { collector_bgp_id = collector_bgp_id; view_name = view_name.now; peers = [] }) }
         ensures short { IsShort append_error result ↔ (65535 < length view_name.now)
-            ⊎ IsPast B.limit (8 + length view_name.now) }
+            ⊎ ExceedsLimit B.limit (8 + length view_name.now) }
         ensures memory { IsMemory append_error result → B.asks ≡ true }
         ensures borrows { IfOk result (λ it. B.borrows (table_octets it) ≡ B.borrows octets) }
     {
@@ -78,7 +78,7 @@ impl<B: OctetsBuilder + Truncate + AsOctetsMut> PeerTableBuilder<B> {
         ensures err { OnErr result (table_in self.new ≡ table_in self.old) }
         ensures malformed { IsMalformed write_error result ↔ ¬ FitsPeer (peer_of peer.now) }
         ensures short { IsShort write_error result ↔ FitsPeer (peer_of peer.now)
-            × ((65535 ≤ length (table_in self.old).peers) ⊎ IsPast (body_limit B.limit)
+            × ((65535 ≤ length (table_in self.old).peers) ⊎ ExceedsLimit (body_limit B.limit)
             (length (peer_table_octets (with_peer (table_in self.old) (peer_of peer.now))))) }
         ensures memory { IsMemory write_error result → B.asks ≡ true }
         ensures borrows { B.borrows (table_octets self.new) ≡ B.borrows (table_octets self.old) }
@@ -105,7 +105,7 @@ impl<B: OctetsBuilder + Truncate + AsOctetsMut> PeerTableBuilder<B> {
         ensures ok { OnOk result (table_in self.new ≡ with_peer (table_in self.old) (peer_of peer.now)) }
         ensures err { OnErr result (table_in self.new ≡ table_in self.old) }
         ensures short { IsShort append_error result ↔ (65535 ≤ length (table_in self.old).peers)
-            ⊎ IsPast (body_limit B.limit)
+            ⊎ ExceedsLimit (body_limit B.limit)
             (length (peer_table_octets (with_peer (table_in self.old) (peer_of peer.now)))) }
         ensures memory { IsMemory append_error result → B.asks ≡ true }
         ensures borrows { B.borrows (table_octets self.new) ≡ B.borrows (table_octets self.old) }

@@ -1,7 +1,7 @@
 //! RIBs, written: RFC 6396, 4.3.2, and RFC 8050, 4.
 ghost use Rattle.std.specs.Prelude.{◌≡◌, ◌≤◌, ◌<◌, ◌+◌, ◌↔◌, ◌⊎◌, length, take, true, None, is_some, IsTrue, IfOk};
 ghost use Rattle.std.specs.Prelude.{OnOk, OnErr};
-ghost use Rattle.octseq.specs.Limit.{IsPast};
+ghost use Rattle.octseq.specs.Limit.{ExceedsLimit};
 ghost use Rattle.octseq.specs.Refusal.{IsShort, IsMemory, IsMalformed, append_error, write_error};
 ghost use Rattle.octseq_bgp.specs.Family.{afi_of};
 ghost use Rattle.octseq_bgp.specs.Parts.{octets_of_bits};
@@ -100,7 +100,7 @@ impl<B: OctetsBuilder + Truncate + AsOctetsMut> RibBuilder<B> {
         ensures paths { IfOk result (λ it. has_paths it ≡ paths) }
         ensures malformed { IsMalformed write_error result ↔ ¬ FitsPrefix family prefix.now }
         ensures short { IsShort write_error result ↔ FitsPrefix family prefix.now
-            × IsPast B.limit (7 + octets_of_bits prefix.now.len) }
+            × ExceedsLimit B.limit (7 + octets_of_bits prefix.now.len) }
         ensures memory { IsMemory write_error result → B.asks ≡ true }
         ensures borrows { IfOk result (λ it. B.borrows (rib_builder it) ≡ B.borrows octets) }
     {
@@ -152,7 +152,7 @@ impl<B: OctetsBuilder + Truncate + AsOctetsMut> RibBuilder<B> {
         ensures malformed { IsMalformed write_error result ↔ ¬ (is_some path_id ≡ has_paths self.old) }
         ensures short { IsShort write_error result ↔ (is_some path_id ≡ has_paths self.old)
             × ((65535 < length attributes.now) ⊎ (65535 ≤ length (rib_in self.old).entries)
-            ⊎ IsPast (body_limit B.limit) (length (rib_octets (with_route (rib_in self.old)
+            ⊎ ExceedsLimit (body_limit B.limit) (length (rib_octets (with_route (rib_in self.old)
             (pushed_route peer_index originated_time path_id attributes.now))))) }
         ensures memory { IsMemory write_error result → B.asks ≡ true }
         ensures borrows { B.borrows (rib_builder self.new) ≡ B.borrows (rib_builder self.old) }
@@ -194,7 +194,7 @@ impl<B: OctetsBuilder + Truncate + AsOctetsMut> RibBuilder<B> {
         ensures family { rib_family self.new ≡ rib_family self.old }
         ensures paths { has_paths self.new ≡ has_paths self.old }
         ensures short { IsShort append_error result ↔ (65535 ≤ length (rib_in self.old).entries)
-            ⊎ IsPast (body_limit B.limit) (length (rib_octets (with_route (rib_in self.old)
+            ⊎ ExceedsLimit (body_limit B.limit) (length (rib_octets (with_route (rib_in self.old)
             (pushed_route peer_index originated_time path_id attributes.now)))) }
         ensures memory { IsMemory append_error result → B.asks ≡ true }
         ensures borrows { B.borrows (rib_builder self.new) ≡ B.borrows (rib_builder self.old) }

@@ -1,7 +1,7 @@
 //! Appending the text of a record to another text.
 ghost use Rattle.std.specs.Prelude.{◌≡◌, ◌≢◌, ◌+◌, ◌++◌, ℕ, List, None, true, length, IsErr, OnOk, OnErr};
 ghost use Rattle.octseq.specs.Display.{display_error};
-ghost use Rattle.octseq.specs.Limit.{IsPast};
+ghost use Rattle.octseq.specs.Limit.{ExceedsLimit};
 ghost use Rattle.octseq.specs.Refusal.{IsShort, IsMemory};
 ghost use Rattle.octseq_mrt.specs.Parsed.{record_of};
 ghost use Rattle.octseq_mrt.specs.RecordText.{IsRecordText};
@@ -37,9 +37,9 @@ impl<R: AsOctets + Copy> Record<R> {
             × (B.content text.new ≡ B.content text.old ++ lines)) }
         ensures err { OnErr result (B.content text.new ≡ B.content text.old) }
         ensures past { (lines : List ℕ) → IsRecordText (record_of self.now) lines
-            → IsPast B.limit (length (B.content text.old) + length lines) → IsErr result }
+            → ExceedsLimit B.limit (length (B.content text.old) + length lines) → IsErr result }
         ensures short { IsShort display_error result → (lines : List ℕ) → IsRecordText (record_of self.now) lines
-            → IsPast B.limit (length (B.content text.old) + length lines) }
+            → ExceedsLimit B.limit (length (B.content text.old) + length lines) }
         ensures limited { IsShort display_error result → B.limit ≢ None }
         ensures memory { IsMemory display_error result → B.asks ≡ true }
         ensures borrows { B.borrows text.new ≡ B.borrows text.old }

@@ -4,7 +4,7 @@ use octseq::builder::AsOctets;
 use octseq::octets::Octets;
 use octseq::parse::{Kind, ParserCall, ParserCommand, ParserReply, run};
 use octseq_asserts::{Case, assert_equal, over_each};
-use octseq_uses::scarce::Scarce;
+use octseq_callers::scarce::Scarce;
 use std::alloc::{AllocError, AllocGlobal, Global};
 use std::fmt::Write;
 use std::process::Abort;

@@ -6,8 +6,8 @@ use octseq::builder::{AppendError, EmptyBuilder, OctetsBuilder, ShortBuf, Trunca
 use octseq::str::{Command, FromUtf8Error, Reply, StrBuilder, run};
 use octseq::utf8::{Turns, find_fault, first_fault};
 use octseq_asserts::{assert_equal, assert_true};
-use octseq_uses::capped::Capped;
-use octseq_uses::rationed::Rationed;
+use octseq_callers::capped::Capped;
+use octseq_callers::rationed::Rationed;
 use std::alloc::Global;
 use std::process::Abort;
 

@@ -5,9 +5,9 @@ use octseq::compose::ComposeError;
 use octseq::error::ReadError;
 use octseq::{Array, StrBuilder};
 use octseq_asserts::assert_equal;
-use octseq_uses::any_builder::paired;
-use octseq_uses::join::join;
-use octseq_uses::records::{append_record, read_records};
+use octseq_callers::any_builder::paired;
+use octseq_callers::join::join;
+use octseq_callers::records::{append_record, read_records};
 use std::alloc::Global;
 use std::process::Abort;
 

@@ -1,7 +1,7 @@
 //! The types that are made from other sequences.
 ghost use Rattle.std.specs.Prelude.{◌≡◌, ◌≤◌, ◌↔◌, true, false, Some, None, length, IsOk, IfOk};
 ghost use Rattle.octseq_core.specs.ArrayOctets.{padded};
-ghost use Rattle.octseq_core.specs.Limit.{IsPast};
+ghost use Rattle.octseq_core.specs.Limit.{ExceedsLimit};
 ghost use Rattle.octseq_core.specs.Refusal.{IsShort, IsMemory, append_error};
 
 use super::OctetsFrom;
@@ -33,7 +33,7 @@ impl<Source: AsOctets> OctetsFrom<Source> for BytesMut {
 impl<Source: AsOctets, const N: usize> OctetsFrom<Source> for SmallVec<u8, N> {
     fn try_octets_from(alloc: Global, source: Source) -> Result<Self, AppendError>
         ensures ok { IfOk result (λ octets. octets.items ≡ Source.content source) }
-        ensures short { IsShort append_error result ↔ IsPast None (length (Source.content source)) }
+        ensures short { IsShort append_error result ↔ ExceedsLimit None (length (Source.content source)) }
         ensures memory { IsMemory append_error result → true ≡ true }
         ensures never { length (Source.content source) ≤ N → IsOk result }
     {
@@ -52,7 +52,7 @@ impl<Source: AsOctets, const N: usize> OctetsFrom<Source> for ArrayVec<u8, N> {
 impl<Source: AsOctets, const N: usize> OctetsFrom<Source> for Array<N> {
     fn try_octets_from(_alloc: Global, source: Source) -> Result<Self, AppendError>
         ensures ok { IfOk result (λ octets. octets.content ≡ Source.content source) }
-        ensures short { IsShort append_error result ↔ IsPast (Some N) (length (Source.content source)) }
+        ensures short { IsShort append_error result ↔ ExceedsLimit (Some N) (length (Source.content source)) }
         ensures memory { IsMemory append_error result → false ≡ true }
         ensures padded { IfOk result (λ octets. octets ≡ padded N (Source.content source)) }
     {

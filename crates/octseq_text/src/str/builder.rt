@@ -202,7 +202,7 @@ impl<Octets: AsOctets> StrBuilder<Octets> {
     /// # Examples
     ///
     /// ```
-    /// // crates/octseq_uses/src/join.rt
+    /// // crates/octseq_callers/src/join.rt
     /// let Some((first, others)) = words.split_first() else {
     ///     return Ok(());
     /// };

@@ -2,7 +2,7 @@
 ghost use Rattle.std.specs.Prelude.{◌≡◌, ◌≢◌, ◌+◌, ◌++◌, ℕ, List, [], Some, None, true};
 ghost use Rattle.std.specs.Prelude.{false, take, drop, length, IsErr, IfSome, OnOk, OnErr};
 ghost use Rattle.std.specs.Borrow.{GName};
-ghost use Rattle.octseq_core.specs.Limit.{IsPast};
+ghost use Rattle.octseq_core.specs.Limit.{ExceedsLimit};
 ghost use Rattle.octseq_core.specs.Refusal.{Refusal, Is, IsShort, IsMemory};
 ghost use Rattle.octseq_text.specs.Display.{display_error};
 ghost use Rattle.octseq_utf8.specs.Text.{begins_within};
@@ -81,10 +81,10 @@ impl<Octets: OctetsBuilder + Truncate> StrBuilder<Octets> {
         ensures err { OnErr result (Octets.content self.new ≡ Octets.content self.old) }
         ensures front { take (length (Octets.content self.old)) (Octets.content self.new) ≡ Octets.content self.old }
         ensures short { IsShort display_error result → IfSome (D.output value)
-            (λ octets. IsPast Octets.limit (length (Octets.content self.old) + length octets)) }
+            (λ octets. ExceedsLimit Octets.limit (length (Octets.content self.old) + length octets)) }
         ensures limited { IsShort display_error result → Octets.limit ≢ None }
         ensures past { IfSome (D.output value)
-            (λ octets. IsPast Octets.limit (length (Octets.content self.old) + length octets) → IsErr result) }
+            (λ octets. ExceedsLimit Octets.limit (length (Octets.content self.old) + length octets) → IsErr result) }
         ensures memory { IsMemory display_error result → Octets.asks ≡ true }
         ensures borrows { Octets.borrows self.new ≡ Octets.borrows self.old }
     {
@@ -106,10 +106,10 @@ fn append_from<'a, K: Begun, B: OctetsBuilder + Truncate, D: Display + Drop>(
     ensures err { OnErr result.answer (B.content result.text.now ≡ B.content text.old) }
     ensures front { take (length (B.content text.old)) (B.content result.text.now) ≡ B.content text.old }
     ensures short { IsShort display_error result.answer → IfSome (D.output value)
-        (λ octets. IsPast B.limit (length (B.content text.old) + length octets)) }
+        (λ octets. ExceedsLimit B.limit (length (B.content text.old) + length octets)) }
     ensures limited { IsShort display_error result.answer → B.limit ≢ None }
     ensures past { IfSome (D.output value)
-        (λ octets. IsPast B.limit (length (B.content text.old) + length octets) → IsErr result.answer) }
+        (λ octets. ExceedsLimit B.limit (length (B.content text.old) + length octets) → IsErr result.answer) }
     ensures memory { IsMemory display_error result.answer → B.asks ≡ true }
     ensures borrows { B.borrows result.text.now ≡ B.borrows text.old }
 {
@@ -132,7 +132,7 @@ fn append_from<'a, K: Begun, B: OctetsBuilder + Truncate, D: Display + Drop>(
 
 /// Whether a value after `len` octets exceeds the limit. False if the value can't be formatted.
 fn exceeds<D: Display>(limit: Option<usize>, len: usize, value: &D) -> bool
-    ensures { result ≡ true → IfSome (D.output value.now) (λ octets. IsPast limit (len + length octets)) }
+    ensures { result ≡ true → IfSome (D.output value.now) (λ octets. ExceedsLimit limit (len + length octets)) }
 {
     let mut counter = Counter { count: len };
     match (limit, counter.write(value)) {

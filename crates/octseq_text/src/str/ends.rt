@@ -1,7 +1,7 @@
 //! Where characters end: the last one of a text, and the places between two.
 ghost use Rattle.std.specs.Prelude.{◌≡◌, ◌≢◌, ◌+◌, ◌<◌, ◌≤◌, ◌↔◌, [], length, IsTrue, IfSome, IfNone};
 ghost use Rattle.octseq_utf8.specs.Encoding.{encoding_of};
-ghost use Rattle.octseq_utf8.specs.Text.{IsWellFormed, IsBoundary, EndsWith};
+ghost use Rattle.octseq_utf8.specs.Text.{IsWellFormed, IsBoundary, EndsWithCharacter};
 
 use crate::utf8::Turns;
 use octseq_utf8::is_continuation;
@@ -11,7 +11,7 @@ use octseq_utf8::is_continuation;
 /// Reads from the end to where the character begins, one turn for each octet.
 pub(super) fn last_encoding(octets: &[u8], turns: &mut Turns) -> Option<(char, usize)>
     requires { IsWellFormed octets.now }
-    ensures some { IfSome result (λ last. EndsWith octets.now last.0) }
+    ensures some { IfSome result (λ last. EndsWithCharacter octets.now last.0) }
     ensures width { IfSome result (λ last. last.1 ≡ length (encoding_of last.0)) }
     ensures none { IfNone result (octets.now ≡ []) }
     ensures read { octets.now ≢ [] → turns.old < turns.new }
@@ -55,7 +55,7 @@ pub(super) fn last_encoding(octets: &[u8], turns: &mut Turns) -> Option<(char, u
 /// Reads from the end to where the character begins, one turn for each octet. Requests no memory.
 pub fn last_char(octets: &[u8], turns: &mut Turns) -> Option<char>
     requires { IsWellFormed octets.now }
-    ensures some { IfSome result (EndsWith octets.now) }
+    ensures some { IfSome result (EndsWithCharacter octets.now) }
     ensures none { IfNone result (octets.now ≡ []) }
     ensures read { octets.now ≢ [] → turns.old < turns.new }
     ensures kept { turns.old ≤ turns.new }

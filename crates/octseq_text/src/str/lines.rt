@@ -1,7 +1,7 @@
 //! Lines written at the end of a text.
 ghost use Rattle.std.specs.Prelude.{◌≡◌, ◌≢◌, ◌+◌, ◌++◌, ℕ, List, None, true, length, IsErr, OnOk, OnErr};
 ghost use Rattle.std.specs.Fmt.{HasWritten, IsPlainFormatter};
-ghost use Rattle.octseq_core.specs.Limit.{IsPast};
+ghost use Rattle.octseq_core.specs.Limit.{ExceedsLimit};
 ghost use Rattle.octseq_core.specs.Refusal.{IsShort, IsMemory};
 ghost use Rattle.octseq_text.specs.Display.{display_error};
 ghost use Rattle.octseq_text.specs.OneText.{OneAtMost};
@@ -41,9 +41,9 @@ pub fn append_lines<T: WriteLines, B: OctetsBuilder + Truncate>(
         × (B.content text.new ≡ B.content text.old ++ lines)) }
     ensures err { OnErr result (B.content text.new ≡ B.content text.old) }
     ensures past { (lines : List ℕ) → T.is_text value.now lines
-        → IsPast B.limit (length (B.content text.old) + length lines) → IsErr result }
+        → ExceedsLimit B.limit (length (B.content text.old) + length lines) → IsErr result }
     ensures short { IsShort display_error result → (lines : List ℕ) → T.is_text value.now lines
-        → IsPast B.limit (length (B.content text.old) + length lines) }
+        → ExceedsLimit B.limit (length (B.content text.old) + length lines) }
     ensures limited { IsShort display_error result → B.limit ≢ None }
     ensures memory { IsMemory display_error result → B.asks ≡ true }
     ensures borrows { B.borrows text.new ≡ B.borrows text.old }
@@ -65,10 +65,10 @@ fn append_from<'a, K: Begun, B: OctetsBuilder + Truncate, T: WriteLines>(
         × (B.content result.text.now ≡ B.content text.old ++ lines)) }
     ensures err { OnErr result.answer (B.content result.text.now ≡ B.content text.old) }
     ensures short { IsShort display_error result.answer → (lines : List ℕ) → T.is_text value.now lines
-        → IsPast B.limit (length (B.content text.old) + length lines) }
+        → ExceedsLimit B.limit (length (B.content text.old) + length lines) }
     ensures limited { IsShort display_error result.answer → B.limit ≢ None }
     ensures past { (lines : List ℕ) → T.is_text value.now lines
-        → IsPast B.limit (length (B.content text.old) + length lines) → IsErr result.answer }
+        → ExceedsLimit B.limit (length (B.content text.old) + length lines) → IsErr result.answer }
     ensures memory { IsMemory display_error result.answer → B.asks ≡ true }
     ensures borrows { B.borrows result.text.now ≡ B.borrows text.old }
 {
@@ -94,7 +94,7 @@ fn append_from<'a, K: Begun, B: OctetsBuilder + Truncate, T: WriteLines>(
 fn exceeds<T: WriteLines>(limit: Option<usize>, len: usize, value: &T) -> bool
     requires { OneAtMost (T.is_text value.now) }
     ensures { result ≡ true → (lines : List ℕ) → T.is_text value.now lines
-        → IsPast limit (len + length lines) }
+        → ExceedsLimit limit (len + length lines) }
 {
     let mut f = fmt::Formatter::new(Counter { count: len });
     let shown = value.write_lines(&mut f);

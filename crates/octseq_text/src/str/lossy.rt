@@ -4,11 +4,11 @@
 //! `ReadsLossily` of `specs/Lossy.antt`; [`StrBuilder::try_from_utf8_lossy_counted`] also spells it out.
 ghost use Rattle.std.specs.Prelude.{◌≡◌, ◌≢◌, ℕ, ◌+◌, ◌*◌, ◌≤◌, true, None, List};
 ghost use Rattle.std.specs.Prelude.{[], ◌++◌, length, IsErr, IfOk, OnOk, OnErr};
-ghost use Rattle.octseq_core.specs.Limit.{IsWithin, IsPast};
+ghost use Rattle.octseq_core.specs.Limit.{IsWithin, ExceedsLimit};
 ghost use Rattle.octseq_core.specs.Refusal.{IsShort, IsMemory, append_error, alloc_error};
 ghost use Rattle.octseq_utf8.specs.Chunk.{mark_of, chunk_text};
 ghost use Rattle.octseq_utf8.specs.Encoding.{encoding_of};
-ghost use Rattle.octseq_utf8.specs.Parts.{IsFront, Part, Splits, text_with, text};
+ghost use Rattle.octseq_utf8.specs.Parts.{StartsWith, Part, Splits, text_with, text};
 ghost use Rattle.octseq_utf8.specs.Reading.{parts_of};
 ghost use Rattle.octseq_text.specs.Lossy.{ReadsLossily};
 ghost use Rattle.octseq_utf8.specs.Text.{IsWellFormed};
@@ -83,9 +83,9 @@ impl<Octets: AsOctets> StrBuilder<Octets> {
 
         // If that text exceeds the limit, the call is refused; it is refused as short only then.
         ensures short { IsShort append_error result → (parts : List Part)
-            → Splits (Octets.content octets) parts → IsPast Octets.limit (length (text parts)) }
+            → Splits (Octets.content octets) parts → ExceedsLimit Octets.limit (length (text parts)) }
         ensures past { (parts : List Part) → Splits (Octets.content octets) parts
-            → IsPast Octets.limit (length (text parts)) → IsErr result }
+            → ExceedsLimit Octets.limit (length (text parts)) → IsErr result }
 
         // At most as many turns as parts, whatever the result, and a turn for every sixteen octets.
         ensures turns { (parts : List Part) → Splits (Octets.content octets) parts
@@ -265,8 +265,8 @@ fn read_with<B: EmptyBuilder>(
     ensures text { IfOk result (λ made. B.content made ≡ text_with replacement (parts_of (B.content octets))) }
     ensures same { IsWellFormed (B.content octets) → result ≡ Ok octets }
     ensures short { IsShort append_error result
-        → IsPast B.limit (length (text_with replacement (parts_of (B.content octets)))) }
-    ensures past { IsPast B.limit (length (text_with replacement (parts_of (B.content octets)))) → IsErr result }
+        → ExceedsLimit B.limit (length (text_with replacement (parts_of (B.content octets)))) }
+    ensures past { ExceedsLimit B.limit (length (text_with replacement (parts_of (B.content octets)))) → IsErr result }
     ensures memory { IsMemory append_error result → (B.asks ≡ true) × ¬ IsWellFormed (B.content octets) }
     ensures turns { turns.new ≤ turns.old + length (parts_of (B.content octets)) }
     ensures passed { OnOk result (length (B.content octets) + 16 * turns.old ≤ 16 * turns.new) }
@@ -297,9 +297,9 @@ fn append_lossy<B: OctetsBuilder>(
     requires { IsWithin B.limit (length (B.content builder.old)) }
     ensures text { OnOk result (B.content builder.new
         ≡ B.content builder.old ++ text_with replacement (parts_of octets.now)) }
-    ensures front { OnErr result (IsFront (B.content builder.old) (B.content builder.new)) }
+    ensures front { OnErr result (StartsWith (B.content builder.old) (B.content builder.new)) }
     ensures short { IsShort append_error result
-        → IsPast B.limit (length (B.content builder.old ++ text_with replacement (parts_of octets.now))) }
+        → ExceedsLimit B.limit (length (B.content builder.old ++ text_with replacement (parts_of octets.now))) }
     ensures within { OnOk result (IsWithin B.limit (length (B.content builder.new))) }
     ensures memory { IsMemory append_error result → B.asks ≡ true }
     ensures borrows { B.borrows builder.new ≡ B.borrows builder.old }
@@ -322,8 +322,8 @@ fn append_chunks<B: OctetsBuilder>(
 ) -> Result<(), AppendError>
     ensures text { OnOk result (B.content builder.new ≡ B.content builder.old
         ++ (chunk_text replacement first.entry ++ text_with replacement (parts_of rest.entry))) }
-    ensures front { OnErr result (IsFront (B.content builder.old) (B.content builder.new)) }
-    ensures short { IsShort append_error result → IsPast B.limit (length (B.content builder.old
+    ensures front { OnErr result (StartsWith (B.content builder.old) (B.content builder.new)) }
+    ensures short { IsShort append_error result → ExceedsLimit B.limit (length (B.content builder.old
         ++ (chunk_text replacement first.entry ++ text_with replacement (parts_of rest.entry)))) }
     ensures within { OnOk result (IsWithin B.limit (length (B.content builder.new))) }
     ensures memory { IsMemory append_error result → B.asks ≡ true }
@@ -355,11 +355,11 @@ fn append_chunk<B: OctetsBuilder>(
     chunk: &Utf8Chunk<'_>,
     mark: &[u8],
 ) -> Result<(), AppendError>
-    requires { IsFront chunk.now.valid octets.now }
+    requires { StartsWith chunk.now.valid octets.now }
     ensures text { OnOk result (B.content builder.new ++ staged.new.content
         ≡ (B.content builder.old ++ staged.old.content) ++ (chunk.now.valid ++ mark_of mark.now chunk.now.invalid)) }
-    ensures front { IsFront (B.content builder.old) (B.content builder.new) }
-    ensures short { IsShort append_error result → IsPast B.limit (length
+    ensures front { StartsWith (B.content builder.old) (B.content builder.new) }
+    ensures short { IsShort append_error result → ExceedsLimit B.limit (length
         ((B.content builder.old ++ staged.old.content) ++ (chunk.now.valid ++ mark_of mark.now chunk.now.invalid))) }
     ensures memory { IsMemory append_error result → B.asks ≡ true }
     ensures borrows { B.borrows builder.new ≡ B.borrows builder.old }

@@ -1,14 +1,14 @@
 //! The lossy reading of octets that come in pieces.
 ghost use Rattle.std.specs.Prelude.{◌≡◌, ◌≢◌, ℕ, ◌+◌, ◌*◌, ◌<◌, ◌≤◌, ◌↔◌, true, Some, List, [], ◌∷◌};
 ghost use Rattle.std.specs.Prelude.{◌++◌, length, IsErr, IfOk, IfErr, IfSome, IfNone, OnOk, OnErr};
-ghost use Rattle.octseq_core.specs.Limit.{IsWithin, IsPast};
+ghost use Rattle.octseq_core.specs.Limit.{IsWithin, ExceedsLimit};
 ghost use Rattle.octseq_core.specs.Refusal.{IsShort, IsMemory, append_error};
 ghost use Rattle.octseq_core.specs.declared.builder.AppendError.{AppendError};
 ghost use Rattle.octseq_utf8.specs.Encoding.{encoding_of};
 ghost use Rattle.octseq_utf8.specs.Parts.{Part, Splits, text};
 ghost use Rattle.octseq_utf8.specs.Reading.{parts_of};
 ghost use Rattle.octseq_text.specs.Pieces.{Settles, HasRead};
-ghost use Rattle.octseq_text.specs.Progress.{IsOpenEnd, IsRead, IsTooLong};
+ghost use Rattle.octseq_text.specs.Progress.{IsOpenEnd, HasReadParts, IsTextTooLong};
 ghost use Rattle.octseq_utf8.specs.Text.{IsWellFormed};
 
 use super::builder::StrBuilder;
@@ -87,10 +87,10 @@ impl<B: EmptyBuilder> LossyPieces<B> {
         // If the text of their settled parts exceeds the limit, the call is refused; it is refused as short only then.
         ensures short { IsShort append_error result → (octets end : List ℕ) (settled : List Part)
             → HasRead self.old octets → Settles (octets ++ piece.now) settled end
-            → IsPast B.limit (length (text settled)) }
+            → ExceedsLimit B.limit (length (text settled)) }
         ensures past { (octets end : List ℕ) (settled : List Part)
             → HasRead self.old octets → Settles (octets ++ piece.now) settled end
-            → IsPast B.limit (length (text settled)) → IsErr result }
+            → ExceedsLimit B.limit (length (text settled)) → IsErr result }
         ensures memory { IsMemory append_error result → B.asks ≡ true }
 
         // A refusal is kept, and returned from then on.
@@ -116,10 +116,10 @@ impl<B: EmptyBuilder> LossyPieces<B> {
         // If the text of their settled parts exceeds the limit, the call is refused; it is refused as short only then.
         ensures short { IsShort append_error result → (octets end : List ℕ) (settled : List Part)
             → HasRead self.old octets → Settles (octets ++ piece.now) settled end
-            → IsPast B.limit (length (text settled)) }
+            → ExceedsLimit B.limit (length (text settled)) }
         ensures past { (octets end : List ℕ) (settled : List Part)
             → HasRead self.old octets → Settles (octets ++ piece.now) settled end
-            → IsPast B.limit (length (text settled)) → IsErr result }
+            → ExceedsLimit B.limit (length (text settled)) → IsErr result }
         ensures memory { IsMemory append_error result → B.asks ≡ true }
 
         // A refusal is kept, and returned from then on.
@@ -179,10 +179,10 @@ impl<B: EmptyBuilder> LossyPieces<B> {
 
         // If that text exceeds the limit, the call is refused; it is refused as short only then.
         ensures short { IsShort append_error result → (octets : List ℕ) (parts : List Part)
-            → HasRead self octets → Splits octets parts → IsPast B.limit (length (text parts)) }
+            → HasRead self octets → Splits octets parts → ExceedsLimit B.limit (length (text parts)) }
         ensures past { (octets : List ℕ) (parts : List Part)
             → HasRead self octets → Splits octets parts
-            → IsPast B.limit (length (text parts)) → IsErr result }
+            → ExceedsLimit B.limit (length (text parts)) → IsErr result }
         ensures memory { IsMemory append_error result → B.asks ≡ true }
 
         // An earlier refusal is returned again.
@@ -211,11 +211,11 @@ fn read<B: OctetsBuilder>(
     requires open_end { IsOpenEnd end.now.content }
     requires within { IsWithin B.limit (length (B.content text.old)) }
     ensures read { IfOk result (λ left.
-        IsRead (end.now.content ++ piece.now) left.content (B.content text.old) (B.content text.new)) }
+        HasReadParts (end.now.content ++ piece.now) left.content (B.content text.old) (B.content text.new)) }
     ensures open_end { IfOk result (λ left. IsOpenEnd left.content) }
     ensures within { OnOk result (IsWithin B.limit (length (B.content text.new))) }
     ensures short { IsShort append_error result
-        → IsTooLong B.limit (end.now.content ++ piece.now) (B.content text.old) }
+        → IsTextTooLong B.limit (end.now.content ++ piece.now) (B.content text.old) }
     ensures memory { IsMemory append_error result → B.asks ≡ true }
     ensures turns { turns.new ≤ turns.old + length (parts_of (end.now.content ++ piece.now)) }
     ensures passed { OnOk result (length piece.now + 16 * turns.old ≤ 16 * turns.new) }
@@ -245,10 +245,10 @@ fn settle<B: OctetsBuilder>(
 ) -> Result<Array<4>, AppendError>
     requires within { IsWithin B.limit (length (B.content text.old)) }
     ensures read { IfOk result (λ left.
-        IsRead octets.now left.content (B.content text.old) (B.content text.new)) }
+        HasReadParts octets.now left.content (B.content text.old) (B.content text.new)) }
     ensures open_end { IfOk result (λ left. IsOpenEnd left.content) }
     ensures within { OnOk result (IsWithin B.limit (length (B.content text.new))) }
-    ensures short { IsShort append_error result → IsTooLong B.limit octets.now (B.content text.old) }
+    ensures short { IsShort append_error result → IsTextTooLong B.limit octets.now (B.content text.old) }
     ensures memory { IsMemory append_error result → B.asks ≡ true }
     ensures turns { turns.new ≤ turns.old + length (parts_of octets.now) }
     ensures passed { OnOk result (length octets.now + 16 * turns.old ≤ 16 * turns.new) }
@@ -275,7 +275,7 @@ fn append_end<B: OctetsBuilder>(text: &mut B, end: &Array<4>) -> Result<(), Appe
         → B.content text.new ≡ B.content text.old ++ encoding_of 0xFFFD) }
     ensures within { OnOk result (IsWithin B.limit (length (B.content text.new))) }
     ensures short { IsShort append_error result → (end.now.content ≢ [])
-        × IsPast B.limit (length (B.content text.old) + length (encoding_of 0xFFFD)) }
+        × ExceedsLimit B.limit (length (B.content text.old) + length (encoding_of 0xFFFD)) }
     ensures memory { IsMemory append_error result → B.asks ≡ true }
 {
     if end.as_slice().is_empty() {
@@ -289,7 +289,7 @@ fn append_end<B: OctetsBuilder>(text: &mut B, end: &Array<4>) -> Result<(), Appe
 fn append_replacement<B: OctetsBuilder>(text: &mut B) -> Result<(), AppendError>
     ensures ok { OnOk result (B.content text.new ≡ B.content text.old ++ encoding_of 0xFFFD) }
     ensures short { IsShort append_error result
-        ↔ IsPast B.limit (length (B.content text.old) + length (encoding_of 0xFFFD)) }
+        ↔ ExceedsLimit B.limit (length (B.content text.old) + length (encoding_of 0xFFFD)) }
     ensures memory { IsMemory append_error result → B.asks ≡ true }
 {
     text.append_slice(b"\xEF\xBF\xBD")

@@ -5,9 +5,9 @@
 //! together.
 ghost use Rattle.std.specs.Prelude.{◌≡◌, ◌≤◌, true, false, [], ◌++◌, take, length, OnOk, OnErr};
 ghost use Rattle.octseq_core.specs.Appends.{Appends};
-ghost use Rattle.octseq_core.specs.Limit.{IsWithin, IsPast};
+ghost use Rattle.octseq_core.specs.Limit.{IsWithin, ExceedsLimit};
 ghost use Rattle.octseq_core.specs.Refusal.{IsShort, IsMemory, append_error};
-ghost use Rattle.octseq_utf8.specs.Parts.{IsFront};
+ghost use Rattle.octseq_utf8.specs.Parts.{StartsWith};
 
 use octseq_core::array::Array;
 use octseq_core::builder::{AppendError, OctetsBuilder, Truncate};
@@ -66,9 +66,9 @@ pub(super) fn append_front<B: OctetsBuilder>(
     requires { len ≤ length octets.now }
     ensures text { OnOk result (B.content builder.new ++ staged.new.content
         ≡ (B.content builder.old ++ staged.old.content) ++ take len octets.now) }
-    ensures front { IsFront (B.content builder.old) (B.content builder.new) }
+    ensures front { StartsWith (B.content builder.old) (B.content builder.new) }
     ensures short { IsShort append_error result
-        → IsPast B.limit (length ((B.content builder.old ++ staged.old.content) ++ take len octets.now)) }
+        → ExceedsLimit B.limit (length ((B.content builder.old ++ staged.old.content) ++ take len octets.now)) }
     ensures memory { IsMemory append_error result → B.asks ≡ true }
     ensures borrows { B.borrows builder.new ≡ B.borrows builder.old }
 {
@@ -87,9 +87,9 @@ pub(super) fn append_staged<B: OctetsBuilder>(
 ) -> Result<(), AppendError>
     ensures text { OnOk result (B.content builder.new ++ staged.new.content
         ≡ (B.content builder.old ++ staged.old.content) ++ octets.now) }
-    ensures front { IsFront (B.content builder.old) (B.content builder.new) }
+    ensures front { StartsWith (B.content builder.old) (B.content builder.new) }
     ensures short { IsShort append_error result
-        → IsPast B.limit (length ((B.content builder.old ++ staged.old.content) ++ octets.now)) }
+        → ExceedsLimit B.limit (length ((B.content builder.old ++ staged.old.content) ++ octets.now)) }
     ensures memory { IsMemory append_error result → B.asks ≡ true }
     ensures borrows { B.borrows builder.new ≡ B.borrows builder.old }
 {
@@ -110,7 +110,7 @@ pub(super) fn append_stage<B: OctetsBuilder>(
     ensures err { OnErr result (B.content builder.new ≡ B.content builder.old) }
     ensures within { OnOk result (IsWithin B.limit (length (B.content builder.new))) }
     ensures short { IsShort append_error result
-        → IsPast B.limit (length (B.content builder.old ++ staged.old.content)) }
+        → ExceedsLimit B.limit (length (B.content builder.old ++ staged.old.content)) }
     ensures memory { IsMemory append_error result → B.asks ≡ true }
     ensures borrows { B.borrows builder.new ≡ B.borrows builder.old }
 {

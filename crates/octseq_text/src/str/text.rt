@@ -2,7 +2,7 @@
 ghost use Rattle.std.specs.Prelude.{◌≡◌, ◌↔◌, ◌⊎◌, true, None, [], length};
 ghost use Rattle.std.specs.Prelude.{string_bytes, IsTrue, IsOk, IfOk, IfErr, OnErr};
 ghost use Rattle.octseq_core.specs.ArrayOctets.{blank};
-ghost use Rattle.octseq_core.specs.Limit.{IsWithin, IsPast};
+ghost use Rattle.octseq_core.specs.Limit.{IsWithin, ExceedsLimit};
 ghost use Rattle.octseq_core.specs.Refusal.{IsShort, IsMemory, append_error};
 ghost use Rattle.octseq_utf8.specs.Fault.{IsFault};
 ghost use Rattle.octseq_utf8.specs.Text.{IsWellFormed, chars, octets_of};
@@ -46,7 +46,7 @@ impl<Octets: AsOctets> Str<Octets> {
     /// # Examples
     ///
     /// ```
-    /// // crates/octseq_uses/src/note.rt
+    /// // crates/octseq_callers/src/note.rt
     /// let len = parser.parse_u8()?;
     /// let octets = parser.parse_octets(usize::from(len))?;
     /// let words = Str::from_utf8(octets)?;
@@ -81,7 +81,7 @@ impl<Octets: AsOctets> Str<Octets> {
         Octets: FromBuilder,
         Octets::Builder: EmptyBuilder,
         ensures ok { IfOk result (λ text. Octets.content text ≡ s.now) }
-        ensures short { IsShort append_error result ↔ IsPast Octets.Builder.limit (length s.now) }
+        ensures short { IsShort append_error result ↔ ExceedsLimit Octets.Builder.limit (length s.now) }
         ensures memory { IsMemory append_error result → (Octets.Builder.asks ≡ true) ⊎ (Octets.asks ≡ true) }
     {
         match Octets::Builder::limit() {
@@ -111,7 +111,7 @@ impl<Octets: AsOctets> Str<Octets> {
     where
         Octets: FromBuilder,
         Octets::Builder: EmptyBuilder,
-        requires { ¬ IsPast Octets.Builder.limit (length s.now) }
+        requires { ¬ ExceedsLimit Octets.Builder.limit (length s.now) }
         ensures ok { IfOk result (λ text. Octets.content text ≡ s.now) }
         ensures memory { OnErr result ((Octets.Builder.asks ≡ true) ⊎ (Octets.asks ≡ true)) }
     {

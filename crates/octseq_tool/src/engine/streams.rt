@@ -2,7 +2,7 @@
 ghost use Rattle.std.specs.Prelude.{◌≡◌, ◌≢◌, ◌≤◌, [], length, take, List, ℕ, IfOk, IfErr, OnOk, OnErr};
 ghost use Rattle.std.specs.Io.KnownBytes.{Appends, Consumes, IsAtEnd};
 ghost use Rattle.std.specs.IoError.{error_kind};
-ghost use Rattle.octseq.specs.Parts.{IsFront};
+ghost use Rattle.octseq.specs.Parts.{StartsWith};
 
 use super::ToolFault;
 use std::alloc::Global;
@@ -46,7 +46,7 @@ pub fn read_all<R: Read>(alloc: Global, reader: &mut R) -> Result<Vec<u8>, ToolF
 pub fn write_all<W: Write>(writer: &mut W, output: &[u8]) -> Result<(), ToolFault>
     ensures ok { OnOk result (Appends (W.contents writer.old) (W.contents writer.new) output.now) }
     ensures err { IfErr result (λ fault. fault ≡ ToolFault.Write) }
-    ensures front { (front : List ℕ) × IsFront front output.now
+    ensures front { (front : List ℕ) × StartsWith front output.now
         × Appends (W.contents writer.old) (W.contents writer.new) front }
 {
     let mut rest = output;

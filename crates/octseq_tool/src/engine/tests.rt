@@ -3,7 +3,7 @@ use std::alloc::{AllocError, Global};
 use std::fmt::Debug;
 use std::io::ErrorKind;
 use std::process::Abort;
-use streams::{Drip, Failure, NONE};
+use streams::{Failure, NONE, ShortReads};
 
 /// Ends the test if two values differ. A call is proved in a tenth of the time of an `assert_eq!`.
 macro_rules! assert_equal {
@@ -40,7 +40,7 @@ const USAGE: &str = "usage: octseq_tool check|lossy|lossy64|records\n";
 
 /// Returns the result and the output of a command for octets that come one per read.
 fn ran(alloc: Global, command: &str, octets: &[u8]) -> (Result<Status, ToolFault>, Vec<u8>) {
-    let mut reader = Drip {
+    let mut reader = ShortReads {
         rest: octets,
         at_once: 1,
         failure: NONE,
@@ -93,7 +93,7 @@ fn another_word_reads_nothing(rt: HostRuntime) {
     for word in [
         "chek", "", "Check", "check ", "lossy6", "--help", "-h", "help",
     ] {
-        let mut reader = Drip {
+        let mut reader = ShortReads {
             rest: b"a",
             at_once: 1,
             failure: Failure {

@@ -91,8 +91,8 @@ class Message:
         """The message of a session that the octets are, all of them, with the header.
 
         Malformed where they are none: their length isn't that of the header, they are more than the session allows, or
-        what the header says isn't there. Its `place` is 0, or that of the first part after the header that isn't there.
-        TypeError where `data` has no octets.
+        what the header says isn't there. Its `offset` is 0, or that of the first part after the header that isn't
+        there. TypeError where `data` has no octets.
         """
         return cls(data, session)
 
@@ -190,11 +190,11 @@ class Message:
 
 def _malformed(octets: bytes, session: int) -> Malformed:
     """The error about octets that are no message of a session."""
-    place = _calls.bgp_message_place(octets, session)
-    if place == 0:
+    offset = _calls.bgp_message_offset(octets, session)
+    if offset == 0:
         reason = f"it doesn't begin with the header of a message of {len(octets)} octets in this session"
-    elif place == len(octets):
-        reason = f"it ends at octet {place}, where more has to come"
+    elif offset == len(octets):
+        reason = f"it ends at octet {offset}, where more has to come"
     else:
-        reason = f"what has to be at octet {place} isn't there, or isn't whole"
-    return malformed_at(place, f"malformed BGP message: {reason}")
+        reason = f"what has to be at octet {offset} isn't there, or isn't whole"
+    return malformed_at(offset, f"malformed BGP message: {reason}")

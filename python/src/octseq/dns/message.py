@@ -48,7 +48,7 @@ class Message:
         """The message that the octets are (RFC 1035, 4.1).
 
         Malformed where they are none: they end too early, go on after the last record, or are more than 65,535, or a
-        name isn't where one should be. Its `place` is that of the first part that isn't there: the header, a question
+        name isn't where one should be. Its `offset` is that of the first part that isn't there: the header, a question
         or a record, or what follows the last. TypeError where `data` has no octets.
         """
         return cls(data)
@@ -57,8 +57,8 @@ class Message:
     def from_text(cls, text: str) -> Message:
         """The message that a text is, in the form that `to_text` has, with its names compressed.
 
-        Malformed where it is none: the error shows the line and the word that is refused, and has their place in `line`
-        and `offset`. TooLong where the message would have more than 65,535 octets.
+        Malformed where it is none: the error shows the line and the word that is refused, which are at its `line` and
+        `offset`. TooLong where the message would have more than 65,535 octets.
         """
         ascii_of(text)
         return cls(_calls.dns_message_from_text(text))
@@ -192,19 +192,19 @@ def _is_opt(row: Row) -> bool:
 
 def _malformed(octets: bytes) -> Malformed:
     """The error about octets that are no message."""
-    _, place = _calls.dns_message_place(octets)
+    _, offset = _calls.dns_message_offset(octets)
     size = len(octets)
     if size > LONGEST_MESSAGE:
         reason = f"it has {size} octets, and may have {LONGEST_MESSAGE}"
-    elif place == 0:
+    elif offset == 0:
         reason = f"it ends at octet {size}, within the header"
-    elif _calls.dns_message_place(octets[:place])[0]:
-        reason = f"it goes on at octet {place}, where its last record or question ends"
-    elif place == size:
+    elif _calls.dns_message_offset(octets[:offset])[0]:
+        reason = f"it goes on at octet {offset}, where its last record or question ends"
+    elif offset == size:
         reason = f"it ends at octet {size}, and its header counts more questions or records"
     else:
-        reason = f"the question or record at octet {place} isn't whole, or has no name where one has to be"
-    return malformed_at(place, f"malformed DNS message: {reason}")
+        reason = f"the question or record at octet {offset} isn't whole, or has no name where one has to be"
+    return malformed_at(offset, f"malformed DNS message: {reason}")
 
 
 def make_query(

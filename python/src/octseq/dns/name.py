@@ -34,8 +34,8 @@ class Name:
     labels in small letters.
     """
 
-    __slots__ = ("_place", "_source", "_whole")
-    _place: int
+    __slots__ = ("_offset", "_source", "_whole")
+    _offset: int
     _source: bytes
     _whole: bytes | None
 
@@ -48,7 +48,7 @@ class Name:
         labels = tuple(labels)
         if any(len(label) > LONGEST_LABEL for label in labels):
             raise Malformed(f"a label has more than {LONGEST_LABEL} octets")
-        self._source, self._place = b"".join(bytes([len(label)]) + label for label in labels), 0
+        self._source, self._offset = b"".join(bytes([len(label)]) + label for label in labels), 0
         self._whole = _wire_at(self._source, 0)
         if self._whole != self._source:
             raise Malformed("a label of no octets isn't the last one")
@@ -69,33 +69,33 @@ class Name:
         return cls._known(wire, 0, wire)
 
     @classmethod
-    def read(cls, data: Buffer, place: int = 0) -> Name:
-        """The name at a place of the octets, counted from the first of them. Pointers in it are followed.
+    def read(cls, data: Buffer, offset: int = 0) -> Name:
+        """The name at an offset of the octets, counted from the first of them. Pointers in it are followed.
 
         Malformed where no name is there (RFC 1035, 4.1.4), or it has more than 127 pointers.
         """
         octets = _calls.frozen(data)
-        if not 0 <= place <= len(octets):
-            raise Malformed(f"octets from 0 to {len(octets)} have no place {place}")
-        wire = _wire_at(octets, place)
+        if not 0 <= offset <= len(octets):
+            raise Malformed(f"octets from 0 to {len(octets)} have no offset {offset}")
+        wire = _wire_at(octets, offset)
         return cls._known(wire, 0, wire)
 
     @classmethod
-    def _known(cls, octets: bytes, place: int, wire: bytes | None = None) -> Name:
-        """The name that there is at a place of octets. Its wire form is made when it is first asked for."""
+    def _known(cls, octets: bytes, offset: int, wire: bytes | None = None) -> Name:
+        """The name that there is at an offset of octets. Its wire form is made when it is first asked for."""
         name = cls.__new__(cls)
-        name._source, name._place, name._whole = octets, place, wire
+        name._source, name._offset, name._whole = octets, offset, wire
         return name
 
     @property
     def _wire(self) -> bytes:
         if self._whole is None:
-            self._whole = _wire_at(self._source, self._place)
+            self._whole = _wire_at(self._source, self._offset)
         return self._whole
 
     def to_text(self) -> str:
         """The text of the name, with a full stop at its end and the escapes of RFC 1035, 5.1."""
-        return _calls.text(LONGEST_TEXT, lib.octseq_dns_name_text, self._source, self._place)
+        return _calls.text(LONGEST_TEXT, lib.octseq_dns_name_text, self._source, self._offset)
 
     def to_wire(self) -> bytes:
         """The wire form of the name, without pointers: at most 255 octets."""
@@ -105,7 +105,7 @@ class Name:
     def labels(self) -> tuple[bytes, ...]:
         """The labels, from the first to that of the root, which has no octet."""
         wire = self._wire
-        return tuple(wire[place + 1 : place + 1 + wire[place]] for place in self._places())
+        return tuple(wire[offset + 1 : offset + 1 + wire[offset]] for offset in self._offsets())
 
     def parent(self) -> Name:
         """The name without its first label. NoParent where it is the root."""
@@ -115,19 +115,19 @@ class Name:
 
     def is_subdomain(self, other: Name) -> bool:
         """Whether the name is the other one, or below it."""
-        places, others = self._places(), other._places()
-        at = len(places) - len(others)
-        return at >= 0 and _calls.dns_name_compare(self._wire, places[at], other._wire, 0) == 0
+        offsets, others = self._offsets(), other._offsets()
+        at = len(offsets) - len(others)
+        return at >= 0 and _calls.dns_name_compare(self._wire, offsets[at], other._wire, 0) == 0
 
-    def _places(self) -> list[int]:
+    def _offsets(self) -> list[int]:
         """Where each label begins, that of the root too."""
-        places = [0]
-        while self._wire[places[-1]] != 0:
-            places.append(places[-1] + 1 + self._wire[places[-1]])
-        return places
+        offsets = [0]
+        while self._wire[offsets[-1]] != 0:
+            offsets.append(offsets[-1] + 1 + self._wire[offsets[-1]])
+        return offsets
 
     def _compare(self, other: Name) -> int:
-        return _calls.dns_name_compare(self._source, self._place, other._source, other._place)
+        return _calls.dns_name_compare(self._source, self._offset, other._source, other._offset)
 
     def __eq__(self, other: object) -> bool:
         return self._compare(other) == 0 if isinstance(other, Name) else NotImplemented
@@ -155,9 +155,9 @@ class Name:
         return f"<Name {self.to_text()}>"
 
 
-def _wire_at(octets: bytes | memoryview, place: int) -> bytes:
-    """The wire form of the name at a place of frozen octets. Malformed."""
-    return _calls.octets(LONGEST_WIRE, lib.octseq_dns_name_wire, octets, place)
+def _wire_at(octets: bytes | memoryview, offset: int) -> bytes:
+    """The wire form of the name at an offset of frozen octets. Malformed."""
+    return _calls.octets(LONGEST_WIRE, lib.octseq_dns_name_wire, octets, offset)
 
 
 def _wire_of_unended(octets: bytes) -> bytes:

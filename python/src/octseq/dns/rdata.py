@@ -180,7 +180,7 @@ class Rdata:
 
     @property
     def octets(self) -> bytes:
-        """The octets of the data, as they are in the message: names in them may have pointers to places in it."""
+        """The octets of the data, as they are in the message: names in them may have pointers to offsets in it."""
         return self._octets(self._row.data_at, self._row.data_len)
 
     @property

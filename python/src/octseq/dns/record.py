@@ -21,13 +21,13 @@ from .rdata import Rdata
 if TYPE_CHECKING:
     from typing_extensions import Buffer
 
-# Octets that have no name at any place, as many as a pointer can lead to. After them, data has no pointer to a name.
+# Octets that have no name at any offset, as many as a pointer can lead to. After them, data has no pointer to a name.
 _NO_NAMES = b"\x80" * (1 << 14)
 _EMPTY_MESSAGE = bytes(12)
 
 
 class _Entry:
-    """What questions and records have. Each has the octets that its row's places are in."""
+    """What questions and records have. Each has the octets that its row's offsets are in."""
 
     __slots__ = ("_name", "_row", "_source")
     _name: Name | None
@@ -123,7 +123,7 @@ class Record(_Entry):
         """The record that a line is, as `to_text` has it: `example.com. 300 IN A 192.0.2.1` (RFC 1035, 5.1).
 
         The TTL and the class come in either order, and each name ends with a full stop. Malformed where it is none: the
-        error shows the word that is refused, and has its place in `line`, which is 1, and `offset`. Immovable where
+        error shows the word that is refused, which is at its `line`, that is 1, and `offset`. Immovable where
         octets that are given as such may have pointers; TooLong where no message has room for the record.
         """
         ascii_of(text)

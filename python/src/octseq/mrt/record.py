@@ -166,7 +166,7 @@ class PeerIndexTable(Record):
 
     @property
     def peers(self) -> tuple[Peer, ...]:
-        """The peers. An entry tells its peer by its place here."""
+        """The peers. An entry tells its peer by its index here."""
         if self._peers is None:
             rows = [Row(*it) for it in _ROW.iter_unpack(self._rows[_ROW.size :])]
             self._peers = tuple(Peer(IPv4Address(row.id), row.address(), row.asn) for row in rows)
@@ -282,7 +282,7 @@ class Rib(Record):
             first += count
 
     def _attribute_rows(self) -> list[tuple[int, int, int, int]]:
-        """The place, length, flags and type of each attribute of each entry."""
+        """The offset, length, flags and type of each attribute of each entry."""
         if self._attributes is None:
             rows = _calls.mrt_attributes(self._octets, len(self._octets) // 3)
             self._attributes = list(_ATTRIBUTE.iter_unpack(rows))

@@ -114,7 +114,7 @@ pub enum Kind {
     Unreached,
 }
 
-/// A prefix or a path attribute of an UPDATE, as numbers. Places are counted from the first octet of the message.
+/// A prefix or a path attribute of an UPDATE, as numbers. Offsets are counted from the first octet of the message.
 #[repr(C)]
 #[derive(Clone, Copy, Debug, Default, PartialEq, Eq)]
 pub struct Row {
@@ -183,7 +183,7 @@ pub struct Part<'octets> {
 }
 
 impl<'octets> Part<'octets> {
-    /// The part of a row whose places are in octets.
+    /// The part of a row whose offsets are in octets.
     #[cfg(feature = "alloc")]
     pub(crate) fn of(octets: &'octets [u8], row: Row) -> Part<'octets> {
         Part { octets, row }
@@ -347,12 +347,12 @@ impl fmt::Display for Message<'_> {
 
 /// Where octets stop being a message of a session, or `None`: they are one. It is 0 where they don't begin with the
 /// header of a message of this length; else where the first part is that isn't there: 19 for what each message of its
-/// type begins with (and for what follows the header of a KEEPALIVE), or the place of a parameter of an OPEN, a length,
-/// a prefix or an attribute of an UPDATE.
+/// type begins with (and for what follows the header of a KEEPALIVE), or the offset of a parameter of an OPEN, a
+/// length, a prefix or an attribute of an UPDATE.
 pub fn first_fault(octets: &[u8], session: Session) -> Option<usize> {
     match calls::bgp_message_fault(octets, session.flags()) {
         (OK, _) => None,
-        (_, place) => Some(place),
+        (_, offset) => Some(offset),
     }
 }
 

@@ -16,7 +16,7 @@ const FIELDS: usize = 16;
 #[derive(Clone, Copy)]
 pub struct Data<'octets> {
     message: &'octets [u8],
-    place: usize,
+    offset: usize,
     octets: &'octets [u8],
     rtype: Rtype,
     class: Class,
@@ -29,9 +29,9 @@ impl<'octets> Data<'octets> {
     ///
     /// [`Error::Malformed`]: the range isn't within the octets.
     pub fn new(message: &'octets [u8], range: Range<usize>, rtype: Rtype, class: Class) -> Result<Self, Error> {
-        let place = range.start;
+        let offset = range.start;
         let octets = message.get(range).ok_or(Error::Malformed)?;
-        Ok(Data { message, place, octets, rtype, class })
+        Ok(Data { message, offset, octets, rtype, class })
     }
 
     /// Its octets.
@@ -51,7 +51,7 @@ impl<'octets> Data<'octets> {
 
     /// Whether it has the form of its type and class; 30 types are known. Data of other types has none.
     pub fn is_typed(self) -> bool {
-        calls::data_is_typed(self.message, self.place, self.octets.len(), self.rtype, self.class)
+        calls::data_is_typed(self.message, self.offset, self.octets.len(), self.rtype, self.class)
     }
 
     /// Its text: that of its type, or `\# n` and the octets in hexadecimal (RFC 3597, 5) where it isn't typed.
@@ -110,11 +110,11 @@ impl<'octets> Data<'octets> {
     }
 
     fn write_fields(self, room: &mut [FieldRow]) -> calls::Written {
-        calls::data_fields(self.message, self.place, self.octets.len(), self.rtype, self.class, room)
+        calls::data_fields(self.message, self.offset, self.octets.len(), self.rtype, self.class, room)
     }
 
     fn write_text(self, room: &mut [u8]) -> calls::Written {
-        calls::data_text(self.message, self.place, self.octets.len(), self.rtype, self.class, room)
+        calls::data_text(self.message, self.offset, self.octets.len(), self.rtype, self.class, room)
     }
 }
 

@@ -3,13 +3,13 @@ use super::{Name, Rtype};
 use core::fmt;
 use core::net::IpAddr;
 
-/// A field of data, as numbers. Places are counted from the first octet of what the data was read from.
+/// A field of data, as numbers. Offsets are counted from the first octet of what the data was read from.
 #[repr(C)]
 #[derive(Clone, Copy, Debug, Default, PartialEq, Eq)]
 pub struct FieldRow {
     /// Where its octets begin, after a length that it has before them; 0 of a number.
     pub at: usize,
-    /// How many octets there are; of a name those at its place, of a number 0.
+    /// How many octets there are; of a name those at its offset, of a number 0.
     pub len: usize,
     /// The number, or the key of a parameter or the code of an option; else 0.
     pub number: u32,
@@ -43,7 +43,7 @@ pub enum Field<'octets> {
 }
 
 impl<'octets> Field<'octets> {
-    /// The field of a row whose places are in a message's octets.
+    /// The field of a row whose offsets are in a message's octets.
     pub(super) fn of(message: &'octets [u8], row: FieldRow) -> Field<'octets> {
         let FieldRow { at, len, number, kind } = row;
         let octets = message.get(at..at.saturating_add(len)).unwrap_or_default();

@@ -80,7 +80,7 @@ impl fmt::Display for Section {
     }
 }
 
-/// A question or a record, as numbers. Places are counted from the first octet of what it was read from.
+/// A question or a record, as numbers. Offsets are counted from the first octet of what it was read from.
 #[repr(C)]
 #[derive(Clone, Copy, Debug, Default, PartialEq, Eq)]
 pub struct Row {
@@ -109,7 +109,7 @@ pub struct Entry<'octets> {
 
 impl<'octets> Entry<'octets> {
     /// The record that octets are, all of them, as [`record_from_text_into`](super::record_from_text_into) writes them.
-    /// Its name has no pointers, and pointers in its data lead to places of these octets. With them as the source, its
+    /// Its name has no pointers, and pointers in its data lead to offsets of these octets. With them as the source, its
     /// row goes into an answer, in this section.
     ///
     /// # Errors
@@ -123,7 +123,7 @@ impl<'octets> Entry<'octets> {
         Ok(Entry { octets, row })
     }
 
-    /// The octets that its row's places are in: those of its message, or of a record alone.
+    /// The octets that its row's offsets are in: those of its message, or of a record alone.
     pub fn source(self) -> &'octets [u8] {
         self.octets
     }
@@ -280,7 +280,7 @@ impl<'octets> Message<'octets> {
 
     /// The answer to it. It has its number, opcode, flag RD and questions, the flag QR, and of `flags` the response
     /// code and all other flags. Its records are the rows, each in its section, in the order that they have here.
-    /// Their names and data are at their places in `source`, names in data too; all are compressed.
+    /// Their names and data are at their offsets in `source`, names in data too; all are compressed.
     ///
     /// # Errors
     ///
@@ -374,12 +374,12 @@ impl fmt::Display for Message<'_> {
 }
 
 /// Where octets stop being a message, or `None`: they are one. It is where the first part is that isn't there: 0 for
-/// the header, or a question or a record that it counts; or, if all of these are there, the place after the last; or
+/// the header, or a question or a record that it counts; or, if all of these are there, the offset after the last; or
 /// 65,535 if there are more octets.
 pub fn first_fault(octets: &[u8]) -> Option<usize> {
     match calls::message_fault(octets) {
         (OK, _) => None,
-        (_, place) => Some(place),
+        (_, offset) => Some(offset),
     }
 }
 

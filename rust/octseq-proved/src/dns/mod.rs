@@ -52,7 +52,7 @@ pub enum Error {
     Immovable,
     /// A message, or the data of a record, would have more than 65,535 octets, or an answer more than its limit.
     TooLong,
-    /// A row's name isn't at its place, its data isn't in the octets, or its section has no records.
+    /// A row's name isn't at its offset, its data isn't in the octets, or its section has no records.
     BadRow,
     /// A request for memory was refused.
     Memory,

@@ -24,25 +24,25 @@ const TEXT: usize = 1004;
 #[derive(Clone, Copy)]
 pub struct Name<'octets> {
     octets: &'octets [u8],
-    place: usize,
+    offset: usize,
 }
 
 impl<'octets> Name<'octets> {
-    /// The name that begins at a place of octets.
+    /// The name that begins at an offset of octets.
     ///
     /// # Errors
     ///
     /// [`Error::Malformed`]: no name is there.
-    pub fn new(octets: &'octets [u8], place: usize) -> Result<Name<'octets>, Error> {
-        match done(calls::name_wire(octets, place, &mut [])) {
-            Err(Error::NoRoom(_)) => Ok(Name { octets, place }),
+    pub fn new(octets: &'octets [u8], offset: usize) -> Result<Name<'octets>, Error> {
+        match done(calls::name_wire(octets, offset, &mut [])) {
+            Err(Error::NoRoom(_)) => Ok(Name { octets, offset }),
             _ => Err(Error::Malformed),
         }
     }
 
-    /// The name at a place where there is one.
-    pub(super) fn at(octets: &'octets [u8], place: usize) -> Name<'octets> {
-        Name { octets, place }
+    /// The name at an offset where there is one.
+    pub(super) fn at(octets: &'octets [u8], offset: usize) -> Name<'octets> {
+        Name { octets, offset }
     }
 
     /// The name that a text spells, whose wire form is written to the front of a room. The text ends with a full stop:
@@ -53,7 +53,7 @@ impl<'octets> Name<'octets> {
     /// [`Error::Malformed`]: the text spells no name. [`Error::NoRoom`].
     pub fn from_text(text: &str, room: &'octets mut [u8]) -> Result<Name<'octets>, Error> {
         let octets = octets_of(calls::name_from_text(text, room), room)?;
-        Ok(Name { octets, place: 0 })
+        Ok(Name { octets, offset: 0 })
     }
 
     /// The octets that the name is within.
@@ -62,8 +62,8 @@ impl<'octets> Name<'octets> {
     }
 
     /// Where in them it begins.
-    pub fn place(self) -> usize {
-        self.place
+    pub fn offset(self) -> usize {
+        self.offset
     }
 
     /// Its text, `example.com.`, with the escapes of RFC 1035, 5.1. A room of 1,004 octets is always enough.
@@ -72,7 +72,7 @@ impl<'octets> Name<'octets> {
     ///
     /// [`Error::NoRoom`], [`Error::Unshown`].
     pub fn text_into(self, room: &mut [u8]) -> Result<&mut str, Error> {
-        text_of(calls::name_text(self.octets, self.place, room), room)
+        text_of(calls::name_text(self.octets, self.offset, room), room)
     }
 
     /// Its wire form (RFC 1035, 3.1), without pointers. A room of 255 octets is always enough.
@@ -81,7 +81,7 @@ impl<'octets> Name<'octets> {
     ///
     /// [`Error::NoRoom`].
     pub fn wire_into(self, room: &mut [u8]) -> Result<&mut [u8], Error> {
-        octets_of(calls::name_wire(self.octets, self.place, room), room)
+        octets_of(calls::name_wire(self.octets, self.offset, room), room)
     }
 
     /// As [`text_into`](Self::text_into), and it makes a text of its own.
@@ -91,17 +91,17 @@ impl<'octets> Name<'octets> {
     /// [`Error::Unshown`].
     #[cfg(feature = "alloc")]
     pub fn text(self) -> Result<String, Error> {
-        string_of(64, |room| calls::name_text(self.octets, self.place, room))
+        string_of(64, |room| calls::name_text(self.octets, self.offset, room))
     }
 
     /// As [`wire_into`](Self::wire_into), and it makes a vector.
     ///
     /// # Errors
     ///
-    /// None is known: there is a name at its place.
+    /// None is known: there is a name at its offset.
     #[cfg(feature = "alloc")]
     pub fn wire(self) -> Result<Vec<u8>, Error> {
-        vec_of(64, |room| calls::name_wire(self.octets, self.place, room))
+        vec_of(64, |room| calls::name_wire(self.octets, self.offset, room))
     }
 }
 
@@ -121,7 +121,7 @@ impl fmt::Debug for Name<'_> {
 
 impl Ord for Name<'_> {
     fn cmp(&self, other: &Self) -> Ordering {
-        let (_, order) = calls::name_compare(self.octets, self.place, other.octets, other.place);
+        let (_, order) = calls::name_compare(self.octets, self.offset, other.octets, other.offset);
         order.cmp(&0)
     }
 }

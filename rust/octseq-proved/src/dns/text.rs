@@ -1,6 +1,6 @@
 //! Records and messages from their text.
 use super::{Error, octets_of};
-use crate::calls::{self, TextPlace, Written};
+use crate::calls::{self, TextOffset, Written};
 
 #[cfg(feature = "alloc")]
 use super::vec_of;
@@ -16,7 +16,7 @@ const MESSAGE: usize = 65_535;
 const FRONT: usize = 32;
 
 /// A call that reads text.
-type Call = fn(&str, &mut [u8]) -> (Written, TextPlace);
+type Call = fn(&str, &mut [u8]) -> (Written, TextOffset);
 
 /// The record that a text is, one line without its end, as RFC 1035, 5.1 has it: `example.com. 300 IN MX 10
 /// mail.example.com.`. The TTL and the class come in either order, and each name ends with a full stop.
@@ -67,8 +67,8 @@ pub fn message_from_text(text: &str) -> Result<Vec<u8>, Error> {
 
 /// The octets that a call writes to the front of a room.
 fn octets_into<'room>(call: Call, text: &str, room: &'room mut [u8]) -> Result<&'room mut [u8], Error> {
-    let (answer, place) = call(text, room);
-    octets_of(answer, room).map_err(|error| with_place(error, place))
+    let (answer, offset) = call(text, room);
+    octets_of(answer, room).map_err(|error| with_offset(error, offset))
 }
 
 /// The octets that a call writes, with room for `first` of them.
@@ -76,15 +76,15 @@ fn octets_into<'room>(call: Call, text: &str, room: &'room mut [u8]) -> Result<&
 fn octets(call: Call, text: &str, first: usize) -> Result<Vec<u8>, Error> {
     let mut refused = (0, 0);
     let made = vec_of(first, |room| {
-        let (answer, place) = call(text, room);
-        refused = place;
+        let (answer, offset) = call(text, room);
+        refused = offset;
         answer
     });
-    made.map_err(|error| with_place(error, refused))
+    made.map_err(|error| with_offset(error, refused))
 }
 
 /// The error about a text, of which a word may be refused.
-fn with_place(error: Error, (line, offset): TextPlace) -> Error {
+fn with_offset(error: Error, (line, offset): TextOffset) -> Error {
     match error {
         Error::Malformed => Error::MalformedText { line, offset },
         other => other,

@@ -22,7 +22,7 @@ impl<'record> PeerIndexTable<'record> {
         self.record.front().octets(self.record.octets())
     }
 
-    /// Its peers. An entry tells its peer by its place here.
+    /// Its peers. An entry tells its peer by its index here.
     pub fn peers(self) -> impl ExactSizeIterator<Item = Peer> + use<'record> {
         self.record.rows().iter().skip(1).map(|row| Peer::of(*row))
     }

@@ -21,7 +21,7 @@ pub enum Kind {
     StateChange,
 }
 
-/// A part of a record, as numbers. Places are counted from the first octet of the record. What a kind doesn't have is
+/// A part of a record, as numbers. Offsets are counted from the first octet of the record. What a kind doesn't have is
 /// 0.
 #[repr(C)]
 #[derive(Clone, Copy, Debug, Default, PartialEq, Eq)]

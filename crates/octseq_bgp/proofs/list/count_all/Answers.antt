@@ -11,5 +11,5 @@ pub returns-in-Ok-clause-counts : goal.returns-in-Ok-clause-counts
 returns-in-Ok-clause-counts g c =
     let f = g.F.Format in
     let all = c.in-Ok.ensures.all in
-    counted f.found_code f.is_at f.one (window c.args.parser) (window c.pass_all.new.parser) c.in-Ok.count all.0 all.1
+    counted f.found_code f.is_at f.one (window c.args.parser) (window c.skip_all.new.parser) c.in-Ok.count all.0 all.1
     c.in-Ok.ensures.ends

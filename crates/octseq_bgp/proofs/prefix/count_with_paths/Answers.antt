@@ -12,5 +12,6 @@ returns-in-Ipv4-clause-counts g c =
 
 pub returns-in-Ipv6-clause-counts : goal.returns-in-Ipv6-clause-counts
 returns-in-Ipv6-clause-counts g c =
-    subst (λ a. Counts (IsPathPrefix (most_bits a)) (window c.args.parser) c.count_all-in-Ipv6.result) (sym c.in-Ipv6.is)
+    subst (λ a. Counts (IsPathPrefix (most_bits a)) (window c.args.parser) c.count_all-in-Ipv6.result)
+    (sym c.in-Ipv6.is)
     c.count_all-in-Ipv6.ensures.counts

@@ -16,10 +16,12 @@ take_first-requires-in-Ipv6 g c =
 
 pub returns-in-Ipv4 : goal.returns-in-Ipv4
 returns-in-Ipv4 g c =
-    subst (λ a. TakesFirst (IsPrefix (most_bits a)) (λ it. (it.0, window it.1)) (λ after. window after) (window c.args.parser) c.args.left
+    subst (λ a. TakesFirst (IsPrefix (most_bits a)) (λ it. (it.0, window it.1)) (λ after. window after)
+    (window c.args.parser) c.args.left
     c.take_first.result) (sym c.in-Ipv4.is) c.take_first.ensures
 
 pub returns-in-Ipv6 : goal.returns-in-Ipv6
 returns-in-Ipv6 g c =
-    subst (λ a. TakesFirst (IsPrefix (most_bits a)) (λ it. (it.0, window it.1)) (λ after. window after) (window c.args.parser) c.args.left
+    subst (λ a. TakesFirst (IsPrefix (most_bits a)) (λ it. (it.0, window it.1)) (λ after. window after)
+    (window c.args.parser) c.args.left
     c.take_first-in-Ipv6.result) (sym c.in-Ipv6.is) c.take_first-in-Ipv6.ensures

@@ -182,7 +182,8 @@ impl Part for LargeCommunity {
 
 /// LARGE_COMMUNITIES, of items as values.
 impl<'a> ComposeAttribute for &'a [LargeCommunity] {
-    ghost says = { λ items. Written.large_communities (map (λ community. (community.global, (community.data1, community.data2))) items.now) };
+    ghost says = { λ items. Written.large_communities
+        (map (λ community. (community.global, (community.data1, community.data2))) items.now) };
 
     fn attribute_type(&self) -> AttributeType {
         AttributeType::LargeCommunities

@@ -8,7 +8,7 @@ ghost use Rattle.octseq_bgp.specs.Lists.{attribute_of, attributes_left, attribut
 ghost use Rattle.octseq_bgp.specs.Puts.{PutsSome};
 ghost use Rattle.octseq_bgp.specs.Rewritten.{AreAttributesAnew, AreFew, AreSound, IsAttributeAnew, IsWritable};
 ghost use Rattle.octseq_bgp.specs.Rewritten.{attribute_size, attributes_size, flags_anew, prefixes_anew, value_anew};
-ghost use Rattle.octseq_bgp.specs.RewrittenOpen.{Appended};
+ghost use Rattle.octseq_bgp.specs.RewrittenOpen.{AppendedRow};
 ghost use Rattle.octseq_bgp.specs.ValueOf.{value_of};
 ghost use Rattle.octseq_bgp.specs.Written.{IsHopOf, WrittenAttribute, attribute_octets, head_octets, prefixes_octets};
 ghost use Rattle.octseq_bgp.specs.Written.{reach_front, unreach_front};
@@ -49,6 +49,7 @@ pub(super) fn read_values<R: AsOctets + Copy>(attributes: PathAttributes<R>)
 {
     let mut ahead = attributes;
     'attributes: while let Some(attribute) = ahead.next() {
+        // Whether it has its form is known once it is read: the clause `short` speaks of it.
         let _value = attribute.value();
     }
 }
@@ -173,7 +174,7 @@ pub(super) fn put_attributes<R: AsOctets + Copy, B: OctetsBuilder>(
     requires sound { AreSound (attributes_left attributes) }
     requires within { IsWithin B.limit (length (B.content builder.old)
         + attributes_size (attributes_left attributes)) }
-    ensures ok { OnOk result (Appended (IsAttributeAnew (attributes_session attributes)) attribute_octets
+    ensures ok { OnOk result (AppendedRow (IsAttributeAnew (attributes_session attributes)) attribute_octets
         (attributes_left attributes) (B.content builder.old) (B.content builder.new)) }
     ensures memory { IsErr result → B.asks ≡ true }
     ensures borrows { B.borrows builder.new ≡ B.borrows builder.old }

@@ -2,7 +2,7 @@
 ghost use Rattle.std.specs.Prelude.{◌≡◌, ◌≤◌, ◌<◌, ◌+◌, ◌^◌, ◌++◌, ◌↔◌, ℕ, List, length, map, true, false};
 ghost use Rattle.std.specs.Prelude.{IsErr, IfOk, OnOk};
 ghost use Rattle.octseq.specs.Integer.{octets_be};
-ghost use Rattle.octseq.specs.Limit.{IsPast, IsWithin};
+ghost use Rattle.octseq.specs.Limit.{ExceedsLimit, IsWithin};
 ghost use Rattle.octseq.specs.Parser.{window};
 ghost use Rattle.octseq.specs.Refusal.{IsShort, IsMemory, append_error};
 ghost use Rattle.octseq.specs.Window.{Window, left, rest};
@@ -16,7 +16,7 @@ ghost use Rattle.octseq_bgp.specs.OneOpen.{says_parameter};
 ghost use Rattle.octseq_bgp.specs.Open.{IsOpen, length_octets};
 ghost use Rattle.octseq_bgp.specs.Parsed.{open_of};
 ghost use Rattle.octseq_bgp.specs.Puts.{PutsSome};
-ghost use Rattle.octseq_bgp.specs.RewrittenOpen.{Appended, AreItemsSound, Each, IsCapabilityAnew, IsOpenRewritten};
+ghost use Rattle.octseq_bgp.specs.RewrittenOpen.{AppendedRow, AreItemsSound, Each, IsCapabilityAnew, IsOpenRewritten};
 ghost use Rattle.octseq_bgp.specs.RewrittenOpen.{IsParameterAnew, capability_anew, family_anew, needs_long, open_front};
 ghost use Rattle.octseq_bgp.specs.RewrittenOpen.{open_numbers, restart_anew, said_octets};
 ghost use Rattle.octseq_bgp.specs.WrittenOpen.{WrittenParameter, front_len, is_apart, lengths, most_parameters};
@@ -102,6 +102,7 @@ fn read_capabilities<R: AsOctets + Copy>(capabilities: Capabilities<R>)
 {
     let mut ahead = capabilities;
     'capabilities: while let Some(capability) = ahead.next() {
+        // Whether it has its form is known once it is read: the clause `short` speaks of it.
         let _value = capability.value();
     }
 }
@@ -235,7 +236,7 @@ fn put_capabilities<R: AsOctets + Copy, B: OctetsBuilder>(
     requires sound { AreItemsSound (capabilities_left capabilities) }
     requires within { IsWithin B.limit (length (B.content octets.old)
         + length (said_octets false (capabilities_left capabilities))) }
-    ensures ok { OnOk result (Appended IsCapabilityAnew (parameter_octets false) (capabilities_left capabilities)
+    ensures ok { OnOk result (AppendedRow IsCapabilityAnew (parameter_octets false) (capabilities_left capabilities)
         (B.content octets.old) (B.content octets.new)) }
     ensures memory { IsErr result → B.asks ≡ true }
     ensures borrows { B.borrows octets.new ≡ B.borrows octets.old }
@@ -296,7 +297,7 @@ fn put_parameters<R: AsOctets + Copy, B: OctetsBuilder>(
     requires fit { length (said_octets long (parameters_left parameters)) ≤ most_parameters long }
     requires within { IsWithin B.limit (length (B.content octets.old)
         + length (said_octets long (parameters_left parameters))) }
-    ensures ok { OnOk result (Appended IsParameterAnew (parameter_octets long) (parameters_left parameters)
+    ensures ok { OnOk result (AppendedRow IsParameterAnew (parameter_octets long) (parameters_left parameters)
         (B.content octets.old) (B.content octets.new)) }
     ensures memory { IsErr result → B.asks ≡ true }
     ensures borrows { B.borrows octets.new ≡ B.borrows octets.old }
@@ -383,7 +384,7 @@ pub(super) fn rewrite_open<R: AsOctets + Copy, B: OctetsBuilder + Truncate>(
     requires { (w : Window) × IsOpen w (open_of message.now) × IsSound w × (left w ≤ 4077) }
     ensures rewritten { IfOk result (λ b. IsOpenRewritten (open_of message.now) (B.content b)) }
     ensures short { IsShort append_error result ↔ (out : List ℕ) × IsOpenRewritten (open_of message.now) out
-        × IsPast B.limit (length out) }
+        × ExceedsLimit B.limit (length out) }
     ensures memory { IsMemory append_error result → B.asks ≡ true }
     ensures borrows { IfOk result (λ b. B.borrows b ≡ B.borrows octets) }
 {

@@ -1,6 +1,6 @@
 //! UPDATEs that are written anew: RFC 4271, 4.3.
 ghost use Rattle.std.specs.Prelude.{◌≡◌, ◌≤◌, ◌+◌, ◌++◌, ◌↔◌, ℕ, List, length, true, IsErr, IfOk, OnOk};
-ghost use Rattle.octseq.specs.Limit.{IsPast, IsWithin};
+ghost use Rattle.octseq.specs.Limit.{ExceedsLimit, IsWithin};
 ghost use Rattle.octseq.specs.Part.{part_of};
 ghost use Rattle.octseq.specs.Refusal.{IsShort, IsMemory, append_error};
 ghost use Rattle.octseq.specs.Window.{Window, left};
@@ -137,7 +137,7 @@ pub(super) fn rewrite_update<R: AsOctets + Copy, B: OctetsBuilder + Truncate>(
     requires { (s : Session) × (w : Window) × IsUpdate s w (update_of update.now) × IsSound w × (left w ≤ 65516) }
     ensures rewritten { IfOk result (λ b. IsUpdateRewritten (update_of update.now) (B.content b)) }
     ensures short { IsShort append_error result
-        ↔ ((out : List ℕ) × IsUpdateRewritten (update_of update.now) out × IsPast B.limit (length out)) }
+        ↔ ((out : List ℕ) × IsUpdateRewritten (update_of update.now) out × ExceedsLimit B.limit (length out)) }
     ensures memory { IsMemory append_error result → B.asks ≡ true }
     ensures borrows { IfOk result (λ b. B.borrows b ≡ B.borrows builder) }
 {

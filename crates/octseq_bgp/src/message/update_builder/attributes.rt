@@ -1,6 +1,7 @@
 //! Path attributes: RFC 4271, 4.3.
 ghost use Rattle.std.specs.Prelude.{◌≡◌, ◌<◌, ◌^◌, ◌++◌, None, Some, List, ℕ, length, take, OnOk};
-ghost use Rattle.octseq_bgp.specs.Written.{AttributeFits, WrittenAttribute, length_width, typed_attribute, attribute_octets};
+ghost use Rattle.octseq_bgp.specs.Written.{AttributeFits, WrittenAttribute, length_width, typed_attribute};
+ghost use Rattle.octseq_bgp.specs.Written.{attribute_octets};
 ghost use Rattle.octseq_bgp.specs.Writing.{Pushes, more_attributes};
 
 use crate::attribute::{AttributeType, Flags};

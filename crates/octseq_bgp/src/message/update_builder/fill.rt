@@ -1,7 +1,7 @@
 //! Filling a message with prefixes.
 //!
-//! A call pushes as many prefixes of a slice as the message takes, from the front, and says how many. The others go into
-//! the next message:
+//! A call pushes as many prefixes of a slice as the message takes, from the front, and says how many. The others go
+//! into the next message:
 //!
 //! ```
 //! let mut left = prefixes;

@@ -1,9 +1,9 @@
 //! The octets of an UPDATE, part by part: RFC 4271, 4.3.
 ghost use Rattle.std.specs.Prelude.{◌≡◌, ◌≤◌, ◌+◌, ◌++◌, ◌↔◌, [], List, ℕ, length, take, drop, true, IfOk};
-ghost use Rattle.octseq.specs.Limit.{IsPast};
+ghost use Rattle.octseq.specs.Limit.{ExceedsLimit};
 ghost use Rattle.octseq.specs.Refusal.{IsShort, IsMemory, append_error};
 ghost use Rattle.octseq_bgp.specs.Composed.{least};
-ghost use Rattle.octseq_bgp.specs.PartOctets.{Arranges, Puts, after_length, parts_octets};
+ghost use Rattle.octseq_bgp.specs.PartOctets.{Arranges, PutsParts, after_length, parts_octets};
 ghost use Rattle.octseq_bgp.specs.Written.{body_octets};
 
 use crate::compose::{Headed, Slice, Slices, Tail, replace_over, write, write_over};
@@ -57,7 +57,7 @@ impl<B: OctetsBuilder + Truncate + AsOctetsMut> UpdateOctets<B> {
         ensures withdrawn { IfOk result (λ o. o.withdrawn ≡ []) }
         ensures attributes { IfOk result (λ o. o.attributes ≡ []) }
         ensures announced { IfOk result (λ o. o.announced ≡ []) }
-        ensures short { IsShort append_error result ↔ IsPast B.limit 23 }
+        ensures short { IsShort append_error result ↔ ExceedsLimit B.limit 23 }
         ensures memory { IsMemory append_error result → B.asks ≡ true }
         ensures borrows { IfOk result (λ o. B.borrows o.octets ≡ B.borrows octets) }
     {
@@ -105,7 +105,7 @@ impl<B: OctetsBuilder + Truncate + AsOctetsMut> UpdateOctets<B> {
         requires fit { T.fits tail.now }
         requires now { 23 + length self.old.withdrawn + length self.old.attributes + length self.old.announced ≤ most }
         requires most { most ≤ 65535 }
-        ensures puts { Puts (least most B.limit) B.asks result self.old.withdrawn self.old.attributes
+        ensures puts { PutsParts (least most B.limit) B.asks result self.old.withdrawn self.old.attributes
             (self.old.announced ++ T.octets tail.now) self.old self.new }
         ensures borrows { B.borrows self.new.octets ≡ B.borrows self.old.octets }
     {
@@ -150,7 +150,7 @@ impl<B: OctetsBuilder + Truncate + AsOctetsMut> UpdateOctets<B> {
         ensures puts { (w a n : List ℕ) → Arranges (after_length self.old.withdrawn self.old.attributes
             (self.old.announced ++ T.octets tail.now)) at old slice.now (length self.old.withdrawn + withdrawn)
             (length self.old.attributes + attributes) w a n
-            → Puts (least most B.limit) B.asks result w a n self.old self.new }
+            → PutsParts (least most B.limit) B.asks result w a n self.old self.new }
         ensures borrows { B.borrows self.new.octets ≡ B.borrows self.old.octets }
     {
         match self.append(most, tail) {
@@ -168,7 +168,8 @@ impl<B: OctetsBuilder + Truncate + AsOctetsMut> UpdateOctets<B> {
     pub(super) fn append_withdrawn(&mut self, most: usize, slice: &[u8]) -> Result<(), WriteError>
         requires now { 23 + length self.old.withdrawn + length self.old.attributes + length self.old.announced ≤ most }
         requires most { most ≤ 65535 }
-        ensures puts { Puts (least most B.limit) B.asks result (self.old.withdrawn ++ slice.now) self.old.attributes
+        ensures puts { PutsParts (least most B.limit) B.asks result
+            (self.old.withdrawn ++ slice.now) self.old.attributes
             self.old.announced self.old self.new }
         ensures borrows { B.borrows self.new.octets ≡ B.borrows self.old.octets }
     {
@@ -188,7 +189,7 @@ impl<B: OctetsBuilder + Truncate + AsOctetsMut> UpdateOctets<B> {
         requires announced { self.old.announced ≡ [] }
         requires now { 23 + length self.old.withdrawn + length self.old.attributes ≤ most }
         requires most { most ≤ 65535 }
-        ensures puts { Puts (least most B.limit) B.asks result self.old.withdrawn
+        ensures puts { PutsParts (least most B.limit) B.asks result self.old.withdrawn
             (self.old.attributes ++ (head.now ++ T.octets tail.now)) [] self.old self.new }
         ensures borrows { B.borrows self.new.octets ≡ B.borrows self.old.octets }
     {
@@ -210,7 +211,7 @@ impl<B: OctetsBuilder + Truncate + AsOctetsMut> UpdateOctets<B> {
         requires inside { at + old ≤ length self.old.attributes }
         requires now { 23 + length self.old.withdrawn + length self.old.attributes ≤ most }
         requires most { most ≤ 65535 }
-        ensures puts { Puts (least most B.limit) B.asks result self.old.withdrawn
+        ensures puts { PutsParts (least most B.limit) B.asks result self.old.withdrawn
             (take at self.old.attributes ++ (head.now ++ (drop old (drop at self.old.attributes) ++ more.now))) []
             self.old self.new }
         ensures borrows { B.borrows self.new.octets ≡ B.borrows self.old.octets }
@@ -232,7 +233,7 @@ impl<B: OctetsBuilder + Truncate + AsOctetsMut> UpdateOctets<B> {
         requires fit { T.fits tail.now }
         requires now { 23 + length self.old.withdrawn + length self.old.attributes + length self.old.announced ≤ most }
         requires most { most ≤ 65535 }
-        ensures puts { Puts (least most B.limit) B.asks result self.old.withdrawn self.old.attributes
+        ensures puts { PutsParts (least most B.limit) B.asks result self.old.withdrawn self.old.attributes
             (self.old.announced ++ T.octets tail.now) self.old self.new }
         ensures borrows { B.borrows self.new.octets ≡ B.borrows self.old.octets }
     {

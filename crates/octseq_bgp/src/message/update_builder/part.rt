@@ -1,5 +1,5 @@
-//! The parts of an UPDATE. The builder's type says which one is being written, and so what may be pushed next: RFC 4271,
-//! 4.3.
+//! The parts of an UPDATE. The builder's type says which one is being written, and so what may be pushed next: RFC
+//! 4271, 4.3.
 use crate::attribute::AttributeType;
 use crate::family::AfiSafiType;
 

@@ -24,9 +24,9 @@ impl<B: OctetsBuilder + Truncate + AsOctetsMut> UpdateBuilder<B, Attributes> {
     ///
     /// # Errors
     ///
-    /// `Malformed` exactly if the next hop is an IPv4 address and the family isn't one of IPv4. Otherwise `Short` exactly
-    /// if the message would exceed the limit of the builder's type or the greatest length of the session. `Memory` if a
-    /// request for memory was refused. The message is then unchanged.
+    /// `Malformed` exactly if the next hop is an IPv4 address and the family isn't one of IPv4. Otherwise `Short`
+    /// exactly if the message would exceed the limit of the builder's type or the greatest length of the session.
+    /// `Memory` if a request for memory was refused. The message is then unchanged.
     pub fn push_mp_reach(
         &mut self,
         family: AfiSafiType,
@@ -43,14 +43,14 @@ impl<B: OctetsBuilder + Truncate + AsOctetsMut> UpdateBuilder<B, Attributes> {
         self.push_list(MpList::Reach(family), front.as_slice())
     }
 
-    /// Pushes an MP_UNREACH_NLRI without prefixes, whole or not at all. Alone in a message, it is the End-of-RIB marker of
-    /// the family (RFC 4724, 2). [`push_unreached`](Self::push_unreached) appends prefixes to it, until another attribute
-    /// is pushed.
+    /// Pushes an MP_UNREACH_NLRI without prefixes, whole or not at all. Alone in a message, it is the End-of-RIB
+    /// marker of the family (RFC 4724, 2). [`push_unreached`](Self::push_unreached) appends prefixes to it, until
+    /// another attribute is pushed.
     ///
     /// # Errors
     ///
-    /// `Short` exactly if the message would exceed the limit of the builder's type or the greatest length of the session,
-    /// and `Memory` if a request for memory was refused. The message is then unchanged.
+    /// `Short` exactly if the message would exceed the limit of the builder's type or the greatest length of the
+    /// session, and `Memory` if a request for memory was refused. The message is then unchanged.
     pub fn push_mp_unreach(&mut self, family: AfiSafiType) -> Result<(), WriteError>
         ensures pushed { Pushes B.limit B.asks (Unit {0}) result
             (more_attributes self.old.update (typed_attribute kind.MpUnreachNlri (unreach_front family)))
@@ -66,7 +66,8 @@ impl<B: OctetsBuilder + Truncate + AsOctetsMut> UpdateBuilder<B, Attributes> {
     fn push_list(&mut self, list: MpList, octets: &[u8]) -> Result<(), WriteError>
         requires { length octets.now ≤ 37 }
         ensures pushed { Pushes B.limit B.asks (Unit {0}) result
-            (more_attributes self.old.update (typed_attribute (list_type list) octets.now)) (Some list) self.old self.new }
+            (more_attributes self.old.update (typed_attribute (list_type list) octets.now))
+            (Some list) self.old self.new }
         ensures borrows { B.borrows self.new.octets ≡ B.borrows self.old.octets }
     {
         let at = self.octets.attributes_len();
@@ -89,8 +90,8 @@ impl<B: OctetsBuilder + Truncate + AsOctetsMut> UpdateBuilder<B, Attributes> {
     /// `Malformed` exactly if the last attribute isn't an MP_REACH_NLRI that [`push_mp_reach`](Self::push_mp_reach)
     /// pushed, if the prefix isn't one of its family, or if it has a path id where the session has none for the family,
     /// or none where the session has them. Otherwise `Short` exactly if the message would exceed the limit of the
-    /// builder's type or the greatest length of the session. `Memory` if a request for memory was refused. The message is
-    /// then unchanged.
+    /// builder's type or the greatest length of the session. `Memory` if a request for memory was refused. The
+    /// message is then unchanged.
     pub fn push_reached(
         &mut self,
         prefix: &Prefix,
@@ -121,7 +122,8 @@ impl<B: OctetsBuilder + Truncate + AsOctetsMut> UpdateBuilder<B, Attributes> {
         prefix: &Prefix,
         path_id: Option<PathId>,
     ) -> Result<(), WriteError>
-        ensures pushed { Pushes B.limit B.asks (IsUnreached self.old.session self.old.open_list prefix.now path_id) result
+        ensures pushed { Pushes B.limit B.asks
+            (IsUnreached self.old.session self.old.open_list prefix.now path_id) result
             (more_in_last kind.MpUnreachNlri self.old.update (prefix_octets (written_prefix prefix.now path_id)))
             self.old.open_list self.old self.new }
         ensures borrows { B.borrows self.new.octets ≡ B.borrows self.old.octets }
@@ -142,7 +144,8 @@ impl<B: OctetsBuilder + Truncate + AsOctetsMut> UpdateBuilder<B, Attributes> {
         path_id: Option<PathId>,
     ) -> Result<(), WriteError>
         requires { self.old.open_list ≡ Some list }
-        ensures pushed { Pushes B.limit B.asks (IsPrefixOf self.old.session (list_family list) prefix.now path_id) result
+        ensures pushed { Pushes B.limit B.asks
+            (IsPrefixOf self.old.session (list_family list) prefix.now path_id) result
             (more_in_last (list_type list) self.old.update (prefix_octets (written_prefix prefix.now path_id)))
             (Some list) self.old self.new }
         ensures borrows { B.borrows self.new.octets ≡ B.borrows self.old.octets }

@@ -5,8 +5,8 @@ use octseq_cli::Status;
 use std::alloc::Global;
 use std::process::Abort;
 
-/// An UPDATE, after the marker: a withdrawn prefix of 20 bits with spare bits set, an ORIGIN with a length of two octets,
-/// and a prefix.
+/// An UPDATE, after the marker: a withdrawn prefix of 20 bits with spare bits set, an ORIGIN with a length of two
+/// octets, and a prefix.
 const LONG: [u8; 20] = [
     0, 0x24, 2, 0, 4, 20, 9, 9, 0x9F, 0, 5, 0x50, 1, 0, 1, 0, 0x18, 9, 9, 9,
 ];

@@ -1,13 +1,13 @@
 use Rattle.std.proofs.Common.{◌∷◌, [], inl, inr, refl, arith}
 use Rattle.std.proofs.lemmas.List.{drop_all}
 use Rattle.octseq_c.proofs.Anew.{ahead_first}
-use Rattle.octseq_c.specs.Made.{places_kept}
+use Rattle.octseq_c.specs.Made.{offsets_kept}
 use Rattle.octseq_c.proofs.RowsPushed.{left_next, left_none, left_past, row_passed, row_taken, rows_step}
 use Rattle.octseq_c.proofs.answer.push_rows.Goals as goal
 
 pub loop-row-init : goal.loop-row-init
 loop-row-init g c = record {
-  left = λ m written is are. ahead_first places_kept m written _ _ _ _ 0 is are;
+  left = λ m written is are. ahead_first offsets_kept m written _ _ _ _ 0 is are;
   records = λ rest are. (rest, are);
   rows = c.requires.rows;
   unlimited = c.requires.unlimited;

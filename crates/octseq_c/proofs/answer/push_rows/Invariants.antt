@@ -2,15 +2,15 @@
 use Rattle.std.proofs.Common.{◌≡◌, ◌+◌, ◌≤◌, List, None, drop, length}
 use Rattle.std.specs.List.{AllByRecursion, AllZip}
 use Rattle.octseq_dns.specs.Contents.{Message, Record}
-use Rattle.octseq_dns.specs.Writes.{Writes}
-use Rattle.octseq_c.specs.Made.{IsRecordAt, IsRow, in_section, places_kept}
+use Rattle.octseq_dns.specs.Writes.{ComposesMessage}
+use Rattle.octseq_c.specs.Made.{IsRecordAt, IsRow, in_section, offsets_kept}
 use Rattle.octseq_c.proofs.RowsPushed.{Left}
 use Rattle.octseq_c.proofs.answer.push_rows.Given as goal
 
 abbrev pub invariant-loop-row : goal.invariant-loop-row
 invariant-loop-row g l = record {
   left : (m : Message) (written : List Record)
-      → Writes places_kept m l.fn.builder.state l.fn.builder.header l.fn.builder.counts
+      → ComposesMessage offsets_kept m l.fn.builder.state l.fn.builder.header l.fn.builder.counts
       → AllZip (IsRecordAt l.source) (in_section l.section l.rows) written
       → Left l.source g.S.RecordSection.more m written (in_section l.section (drop l.row-index l.rows))
       l.message.state l.message.header l.message.counts (length l.fn.builder.state.octets);

@@ -28,7 +28,8 @@ returns-clause-some g c =
 pub returns-clause-none : goal.returns-clause-none
 returns-clause-none g c = λ none rows are.
     let (taken, they_are, long, written) = c.in-Ok.ensures.ok in
-    let same = (one_fields c.args.layout.now.fields.now).same (window c.args.inside) are.front taken are.end _ are.fields
+    let same = (one_fields c.args.layout.now.fields.now).same
+    (window c.args.inside) are.front taken are.end _ are.fields
     they_are in
     c.put_tail.ensures.none none are.back
     (subst (λ end. AreTailRows c.args.layout.now.tail end are.back) same.1 are.after)

@@ -2,7 +2,7 @@
 use Rattle.std.proofs.Common.{◌≡◌, ◌++◌, ◌≤◌, List, drop, length}
 use Rattle.octseq.specs.Parser.{window}
 use Rattle.octseq.specs.Window.{Window, left}
-use Rattle.octseq_c.specs.Fields.{AreFields}
+use Rattle.octseq_c.specs.Fields.{AreFieldRows}
 use Rattle.octseq_c.specs.declared.fields.FieldRow.{FieldRow}
 use Rattle.octseq_c.proofs.fields.take_fields.Given as goal
 
@@ -13,9 +13,9 @@ invariant-loop-field g l = record {
   same : l.at ≡ l.field-index;
   onward : left (window l.parser) ≤ left (window l.fn.parser);
   whole : (more : List FieldRow) (end : Window)
-      → AreFields (drop l.field-index l.fields) (window l.parser) more end
-      → AreFields l.fields (window l.fn.parser) (done ++ more) end;
-  ahead : (rows : List FieldRow) (end : Window) → AreFields l.fields (window l.fn.parser) rows end
-      → (more : List FieldRow) × AreFields (drop l.field-index l.fields) (window l.parser) more end;
+      → AreFieldRows (drop l.field-index l.fields) (window l.parser) more end
+      → AreFieldRows l.fields (window l.fn.parser) (done ++ more) end;
+  ahead : (rows : List FieldRow) (end : Window) → AreFieldRows l.fields (window l.fn.parser) rows end
+      → (more : List FieldRow) × AreFieldRows (drop l.field-index l.fields) (window l.parser) more end;
   written : l.front ≡ done ++ drop l.field-index l.fn.front;
 }

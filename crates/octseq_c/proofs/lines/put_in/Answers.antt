@@ -1,15 +1,17 @@
 use Rattle.std.proofs.Common.{◌++◌, take, length, ap, sym, ◌∙◌, subst, arith}
 use Rattle.std.proofs.lemmas.Fmt.{contents_after_writes}
-use Rattle.octseq_c.specs.OwnText.{IsText}
+use Rattle.octseq_c.specs.OwnText.{IsOwnText}
 use Rattle.octseq_c.proofs.OwnText.{well_formed_from, when_shown, whole_front}
 use Rattle.octseq_c.proofs.lines.put_in.Goals as goal
 
 pub returns-clause-shown : goal.returns-clause-shown
 returns-clause-shown g c = λ t.
-    let shown = when_shown c.write_lines-shown.result (c.finish.ensures.is_shown.0 t) c.write_lines-shown.ensures.shown in
+    let shown = when_shown c.write_lines-shown.result
+    (c.finish.ensures.is_shown.0 t) c.write_lines-shown.ensures.shown in
     let writer = c.into_inner.result in
     let written = shown.2 c.new-f.ensures.plain in
-    let reported = contents_after_writes _ (λ w. take w.len w.octets.now) (λ _ _ _ reported. reported) _ _ _ written.wrote in
+    let reported = contents_after_writes _ (λ w. take w.len w.octets.now)
+    (λ _ _ _ reported. reported) _ _ _ written.wrote in
     let first = ap (λ w. take w.len w.octets.now) c.new-f.ensures.writer in
     let last = ap (λ w. take w.len w.octets.now) c.into_inner.ensures in
     let none = ap (λ n. take n c.new.result.octets.now ++ shown.0) c.new.ensures.len in
@@ -19,5 +21,5 @@ returns-clause-shown g c = λ t.
     (omega (arith, long, c.requires.fits.2, writer.room, c.requires.room)) in (
       subst (g.T.WriteLines.is_text c.args.value.now) (sym (c.finish.ensures.octets ∙ whole)) shown.1,
       well_formed_from c.finish.result.octets.now
-          (subst IsText (front ∙ sym whole ∙ sym c.finish.ensures.octets) writer.text),
+          (subst IsOwnText (front ∙ sym whole ∙ sym c.finish.ensures.octets) writer.text),
     )

@@ -10,7 +10,8 @@ pub returns-in-Ok-Ok-clause-ok : goal.returns-in-Ok-Ok-clause-ok
 returns-in-Ok-Ok-clause-ok c = λ ok labels others one other.
     let first = one_at c.in-Ok-Ok.ensures.name one in
     let second = one_at c.in-Ok-Ok.ensures'.name other in
-    let same = c.name_cmp.ensures ∙ ap (λ l. name_cmp l (labels_of c.in-Ok-Ok.other)) first ∙ ap (name_cmp labels) second in
+    let same = c.name_cmp.ensures ∙ ap (λ l. name_cmp l (labels_of c.in-Ok-Ok.other)) first
+    ∙ ap (name_cmp labels) second in
     rw (← same) (stored c.name_cmp.result c.number_of.result c.number_of.ensures)
 
 pub returns-in_default-2-clause-malformed : goal.returns-in_default-2-clause-malformed

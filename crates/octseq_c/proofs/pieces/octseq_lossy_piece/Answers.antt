@@ -49,7 +49,8 @@ returns-clause-puts c =
 pub returns-clause-state : goal.returns-clause-state
 returns-clause-state c =
     let read = rw c.in-Some.ensures.some at (c.split.ensures _ c.completed-completed.ensures) in
-    λ ok. state_left c.holding.result (both_settle read c.in-Some-measure.ensures.measured.settles) c.holding.ensures.len
+    λ ok. state_left c.holding.result
+    (both_settle read c.in-Some-measure.ensures.measured.settles) c.holding.ensures.len
     c.holding.ensures.held
 
 pub returns-clause-too_long : goal.returns-clause-too_long

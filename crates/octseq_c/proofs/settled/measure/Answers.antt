@@ -28,7 +28,8 @@ returns-in_err-text_len-2-clause-past c =
     let valid = to_more c.loop-chunk.invariant.read (read_valid _ _ _ gives []) long in
     let all = to_more valid (read_mark _ _ _ gives _ c.is_incomplete.ensures c.if-is_incomplete.false) refl in
     let mark = c.replacement.ensures ∙ ap end_text c.invalid.ensures in
-    rw c.from_residual-in_err-text_len-2.ensures (past_size all (omega (arith, ap length mark, c.in_err-text_len-2.ensures)))
+    rw c.from_residual-in_err-text_len-2.ensures
+    (past_size all (omega (arith, ap length mark, c.in_err-text_len-2.ensures)))
 
 pub loop-chunk-preserved : goal.loop-chunk-preserved
 loop-chunk-preserved c =

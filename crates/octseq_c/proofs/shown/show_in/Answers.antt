@@ -1,6 +1,6 @@
 use Rattle.std.proofs.Common.{◌++◌, take, ap, ◌∙◌, subst, arith}
 use Rattle.std.proofs.lemmas.Fmt.{contents_after_writes}
-use Rattle.octseq_c.specs.OwnText.{IsText}
+use Rattle.octseq_c.specs.OwnText.{IsOwnText}
 use Rattle.octseq_c.proofs.OwnText.{both_some, when_shown, well_formed_from, whole_front}
 use Rattle.octseq_c.proofs.shown.show_in.Goals as goal
 
@@ -21,4 +21,4 @@ returns-clause-utf8 g c = λ t.
     both_some (g.D.Display.output c.args.value.now) writes c.requires.fits (λ text writes long.
     let reported = contents_after_writes _ (λ w. take w.len w.octets.now) (λ _ _ _ reported. reported) _ _ _ writes in
     let first = ap (λ n. take n c.new-writer.result.octets.now ++ text) c.new-writer.ensures.len in
-    well_formed_from text (subst IsText (reported ∙ first) c.write-shown.new.self.text))
+    well_formed_from text (subst IsOwnText (reported ∙ first) c.write-shown.new.self.text))

@@ -36,5 +36,6 @@ returns g c =
     run_ended piece.is_fine noted c.ended.ensures
     (taken_more (taken_none (read_on (IsWholeOut (g.C.FrameCommand.is_piece c.args.command 1)) [])) true noted
     c.in_ok-input.ensures.lost (whole_step (g.C.FrameCommand.is_piece c.args.command) c.one_piece.ensures
-    (rw c.as_slice.ensures.value at c.in_ok-piece.ensures)) (piece.output.items, refl, wrote.ok) wrote.noted) c.in_ok-input.ensures.end in
+    (rw c.as_slice.ensures.value at c.in_ok-piece.ensures))
+    (piece.output.items, refl, wrote.ok) wrote.noted) c.in_ok-input.ensures.end in
     record { ok = run.0; end = run.1; broke = run.2; unnoted = run.3 }

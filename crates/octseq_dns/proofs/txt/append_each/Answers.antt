@@ -1,7 +1,7 @@
 use Rattle.std.proofs.Common.{◌+◌, Bor, ℕ, List, [], ◌++◌, length, drop, get_or, sym, ap, ◌∙◌}
 use Rattle.std.proofs.Common.{subst, length-append, take}
 use Rattle.std.proofs.Math.Seq.{take-append_seam}
-use Rattle.octseq.specs.Limit.{IsPast}
+use Rattle.octseq.specs.Limit.{ExceedsLimit}
 use Rattle.octseq.specs.Part.{part_of}
 use Rattle.octseq_dns_data.specs.Strings.{spelling}
 use Rattle.octseq_dns.proofs.Spelled.{ahead_more, contents, grown_more, left_first, one_short, past_string}
@@ -31,7 +31,7 @@ loop-string-preserved g c =
           (ap (λ more. now ++ more) (sym first) ∙ so_far.ahead) appended.ok;
       grown = grown_more now part old new so_far.grown appended.ok;
       fits = λ some past. appended.short.1
-          (subst (IsPast g.B.AsOctets.limit) (ap length appended.ok ∙ length-append now part) past);
+          (subst (ExceedsLimit g.B.AsOctets.limit) (ap length appended.ok ∙ length-append now part) past);
       borrows = c.in_default.ensures.borrows ∙ so_far.borrows;
     }
 

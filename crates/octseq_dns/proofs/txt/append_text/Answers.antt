@@ -1,7 +1,7 @@
 use Rattle.std.proofs.Common.{◌≡◌, ◌+◌, [], ◌++◌, length, take, drop, sym, ap, ◌∙◌}
 use Rattle.std.proofs.Common.{subst, append-nil, length-append}
 use Rattle.std.proofs.Math.Seq.{take-append_seam}
-use Rattle.octseq.specs.Limit.{IsPast}
+use Rattle.octseq.specs.Limit.{ExceedsLimit}
 use Rattle.octseq.specs.Part.{part_of}
 use Rattle.octseq_dns_data.specs.Strings.{spelling}
 use Rattle.octseq_dns.specs.TxtWritten.{strings_of_text}
@@ -46,7 +46,7 @@ returns-in-Err-clause-short g c short =
     let first = spelled_first left c.loop-left-test.true in
     past_string g.B.AsOctets.limit now (part_of 1 (take 255 left)) (spelling (strings_of_text (drop 255 left))) old
     (spelling (strings_of_text c.args.text.now)) (ap (λ more. now ++ more) (sym first) ∙ c.loop-left.invariant.ahead)
-    (subst (λ s. IsPast g.B.AsOctets.limit (length now + length (part_of 1 s))) c.split_at.ensures.front
+    (subst (λ s. ExceedsLimit g.B.AsOctets.limit (length now + length (part_of 1 s))) c.split_at.ensures.front
     (c.in-Err.ensures.appended.short.0 short))
 
 pub returns-in-Err-clause-err : goal.returns-in-Err-clause-err
@@ -90,5 +90,5 @@ returns-clause-fits g c past =
     let all = spelling (strings_of_text c.args.text.now) in
     let last = spelled_last left c.loop-left-test.false in
     let same = ap (λ more. now ++ more) (sym (append-nil (part_of 1 left)) ∙ sym last) ∙ c.loop-left.invariant.ahead in
-    c.in_default-append_string.ensures.appended.short.1 (subst (IsPast g.B.AsOctets.limit)
+    c.in_default-append_string.ensures.appended.short.1 (subst (ExceedsLimit g.B.AsOctets.limit)
     (sym (length-append old all) ∙ ap length (sym same) ∙ length-append now (part_of 1 left)) past)

@@ -1,7 +1,7 @@
 use Rattle.std.proofs.Common.{◌↔◌, IsTrue, Result, Ok, Err, IfOk, IsErr, refl, sym, subst, rules}
 use Rattle.std.specs.Result.{is_ok}
 use Rattle.octseq.specs.Parser.{window}
-use Rattle.octseq_dns_data.specs.PlainName.{IsPlainName}
+use Rattle.octseq_dns_data.specs.UncompressedName.{IsUncompressedName}
 use Rattle.octseq_dns_name.specs.Read.{labels_of, name_of, place_of}
 use Rattle.octseq_dns_compose.specs.Alone.{IsPlain}
 use Rattle.octseq_dns_compose.proofs.PlainNames.{plain_there}
@@ -24,4 +24,4 @@ returns c =
       plain_there (place_of name) (window c.parser-parser.result) _ (labels_of name) _ here name.named.1 is.1,
     )) c.parse_counted.ensures.value
     (λ err plain. c.parse_counted.ensures.malformed err (name_of name) plain.0
-    (sym here, subst (λ w. IsPlainName w (labels_of name) plain.0) (sym here) plain.1)))
+    (sym here, subst (λ w. IsUncompressedName w (labels_of name) plain.0) (sym here) plain.1)))

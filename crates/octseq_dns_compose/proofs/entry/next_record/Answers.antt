@@ -1,6 +1,6 @@
 use Rattle.std.proofs.Common.{◌≡◌, ◌+◌, ◌++◌, ◌∙◌, None, [], length, refl, sym, ap, subst, arith, rules}
-use Rattle.octseq.specs.Limit.{IsPast, IsWithin}
-use Rattle.octseq_dns_compose.specs.MessageText.{Said}
+use Rattle.octseq.specs.Limit.{ExceedsLimit, IsWithin}
+use Rattle.octseq_dns_compose.specs.MessageText.{RecordLine}
 use Rattle.octseq_dns_compose.specs.Read.{head_of}
 use Rattle.octseq_dns_compose.specs.RecordText.{IsAnyRecord}
 use Rattle.octseq_dns_compose.specs.TextLines.{IsFaultyLine}
@@ -40,7 +40,7 @@ returns-in_default-after_feed-clause-first g c = λ place is.
     let all = c.in-Ok.ensures.ok in
     no_long_read c.args.first.now (IsAnyRecord None) g.D.AsOctets.limit c.args.lines.now.ahead.now _ _ _ all.0
     c.split_line-line.ensures taken.0 all.2 (λ octets other.
-    let one : Said = record { head = head_of c.in-Ok.head; octets = all.1 } in
+    let one : RecordLine = record { head = head_of c.in-Ok.head; octets = all.1 } in
     let same = record_once one (record { head = other.0; octets = octets }) all.0 all.3 other.1 in
     let content = all.4 ∙ ap (λ l. l ++ all.1) c.truncate.ensures.content in
     subst (λ l. IsWithin g.D.AsOctets.limit (length l)) (content ∙ ap (λ s. s.octets) same)
@@ -63,7 +63,7 @@ returns-in-Err-Short-clause-short g c = λ _.
       octets = long.1;
       are = long.2;
       is = long.3;
-      past = subst (IsPast g.D.AsOctets.limit) size long.4;
+      past = subst (ExceedsLimit g.D.AsOctets.limit) size long.4;
     }
 
 pub returns-in_default-after_feed-clause-malformed : goal.returns-in_default-after_feed-clause-malformed

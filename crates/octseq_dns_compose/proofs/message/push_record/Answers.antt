@@ -7,7 +7,7 @@ use Rattle.octseq_dns.specs.Writes.{least_limit}
 use Rattle.octseq_dns_compress.specs.Composed.{message_limit}
 use Rattle.octseq_dns_data.specs.Typed.{rdata_of}
 use Rattle.octseq_dns_name.specs.Read.{labels_of}
-use Rattle.octseq_dns_compose.specs.MessageText.{Said}
+use Rattle.octseq_dns_compose.specs.MessageText.{RecordLine}
 use Rattle.octseq_dns_compose.specs.Read.{head_of}
 use Rattle.octseq_dns_compose.proofs.MessageTexts.{on_ok, record_said}
 use Rattle.octseq_dns_compose.proofs.Overrun.{push_exceeds}
@@ -16,7 +16,7 @@ use Rattle.octseq_dns_compose.proofs.message.push_record.Goals as goal
 pub returns : goal.returns
 returns g c =
     let head = c.args.head.now in
-    let said : Said = record { head = head_of head; octets = c.args.octets.now } in
+    let said : RecordLine = record { head = head_of head; octets = c.args.octets.now } in
     let parsed = rdata_of c.data_of-said.result in
     let bare = bare_rdata parsed in
     let r = pushed_record c.parsed-owner.result (rtype_of bare) head.class head.ttl (rdata_fields bare) in

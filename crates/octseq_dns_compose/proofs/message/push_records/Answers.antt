@@ -1,5 +1,5 @@
 use Rattle.std.proofs.Common.{None, ◌∷◌, ◌∙◌, length, refl, sym, subst, inl, inr, rules}
-use Rattle.octseq_dns_compose.specs.MessageText.{Said}
+use Rattle.octseq_dns_compose.specs.MessageText.{RecordLine}
 use Rattle.octseq_dns_compose.specs.Read.{head_of}
 use Rattle.octseq_dns_compose.specs.RecordText.{IsRecordText}
 use Rattle.octseq_dns_compose.specs.TextLines.{IsNoneOf}
@@ -19,7 +19,7 @@ pub lines-preserved : goal.lines-preserved
 lines-preserved g c =
     let some = if_some c.in-Ok.next _ _ c.in-Some.is c.in-Ok.ensures.some in
     let pushed = c.in-Ok-push_record.ensures in
-    let one : Said = record { head = head_of c.in-Some.head; octets = c.as_ref.result.now } in (
+    let one : RecordLine = record { head = head_of c.in-Some.head; octets = c.as_ref.result.now } in (
       pushed_more one pushed.written.0 (c.args.section.now ∷ some.0) c.lines.invariant.0 some.1 some.3
           (refl, subst (IsRecordText None (head_of c.in-Some.head) some.0) (sym c.as_ref.ensures.value) some.2) (
             pushed.written.1,

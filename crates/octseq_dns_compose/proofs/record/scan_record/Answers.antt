@@ -1,6 +1,6 @@
 use Rattle.std.proofs.Common.{◌≡◌, Err, sym, ap, ◌∙◌, subst, rules}
 use Rattle.octseq_dns_scan.specs.Words.{ahead_of, offset_of}
-use Rattle.octseq_dns_text.specs.Scans.{IsFault}
+use Rattle.octseq_dns_text.specs.Scans.{IsWordFault}
 use Rattle.octseq_dns_text.specs.declared.error.ScanError.{ScanError}
 use Rattle.octseq_dns_compose.specs.RecordText.{IsAnyRecord}
 use Rattle.octseq_dns_compose.proofs.Faults.{kept_fault, reached_fault}
@@ -12,7 +12,7 @@ use Rattle.octseq_dns_compose.proofs.record.scan_record.Goals as goal
 pub returns-in_default-clause-fault : goal.returns-in_default-clause-fault
 returns-in_default-clause-fault g c = λ offset is.
     let found : c.offset.result ≡ offset = cc in
-    subst (IsFault (IsAnyRecord _) (ahead_of c.args.words) (offset_of c.args.words)) (sym c.offset.ensures ∙ found)
+    subst (IsWordFault (IsAnyRecord _) (ahead_of c.args.words) (offset_of c.args.words)) (sym c.offset.ensures ∙ found)
     (kept_fault (IsAnyRecord _) _ _ _ _ (search rules) c.in_default.ensures.end
     (fault_at_owner _ _ _ (c.in_default.ensures.none (search rules))))
 
@@ -20,7 +20,7 @@ pub returns-in_default-take_ttl_and_class-clause-fault : goal.returns-in_default
 returns-in_default-take_ttl_and_class-clause-fault g c = λ offset is.
     let owned = past_owner _ _ c.in-Some.ensures.some c.in-Some.ensures.end in
     let found : c.offset-in_default-take_ttl_and_class.result ≡ offset = cc in
-    subst (IsFault (IsAnyRecord _) (ahead_of c.args.words) (offset_of c.args.words))
+    subst (IsWordFault (IsAnyRecord _) (ahead_of c.args.words) (offset_of c.args.words))
     (sym c.offset-in_default-take_ttl_and_class.ensures ∙ found)
     (reached_fault owned
     (fault_at_order _ _ _ _ _ c.in_default-take_ttl_and_class.ensures.end
@@ -32,7 +32,7 @@ returns-in_default-take_rtype-clause-fault g c = λ offset is.
     let ordered = past_order _ _ _ owned c.in-Some-take_ttl_and_class.ensures.taken.some
     c.in-Some-take_ttl_and_class.ensures.end in
     let found : c.offset-in_default-take_rtype.result ≡ offset = cc in
-    subst (IsFault (IsAnyRecord _) (ahead_of c.args.words) (offset_of c.args.words))
+    subst (IsWordFault (IsAnyRecord _) (ahead_of c.args.words) (offset_of c.args.words))
     (sym c.offset-in_default-take_rtype.ensures ∙ found)
     (reached_fault ordered
     (kept_fault (AfterClass _ _) _ _ _ _ (search rules) c.in_default-take_rtype.ensures.end

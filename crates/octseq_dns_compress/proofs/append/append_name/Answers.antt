@@ -1,5 +1,5 @@
 use Rattle.std.proofs.Common.{◌++◌, ap, ◌∙◌, length, length-append, take, arith, length-take}
-use Rattle.octseq_dns_compress.proofs.Words.{ended, unrooted, plain_labels}
+use Rattle.octseq_dns_compress.proofs.Words.{ended, labels_wire, plain_labels}
 use Rattle.octseq_dns_compress.proofs.Composes.{name_refused, name_appended, name_taken_back}
 use Rattle.octseq_dns_compress.proofs.Grown.{known_targets}
 use Rattle.octseq_dns_compress.proofs.PlainLabels.{source_is, unrooted_longer}
@@ -21,13 +21,13 @@ returns-in-Err-clause-named g c old =
     (rw (c.as_ref-2.ensures.value, c.as_slice.ensures) at c.search-ending.ensures.ending)
     c.in-Err.error c.in-Err.ensures.appended)
 
-pub returns-in-Err-keep-clause-named : goal.returns-in-Err-keep-clause-named
-returns-in-Err-keep-clause-named g c old =
+pub returns-in-Err-remember-clause-named : goal.returns-in-Err-remember-clause-named
+returns-in-Err-remember-clause-named g c old =
     rw (← c.new-plain.ensures)
     (name_taken_back old (plain_labels c.new-plain.result) c.search-ending.result
     (rw (c.as_ref-2.ensures.value, c.as_slice.ensures) at c.search-ending.ensures.ending)
     c.in_default.field-0 c.in_default.ensures.appended c.len-start.result c.len-start.ensures.content _
-    c.keep.ensures.before _ _ c.truncate.ensures.content c.keep_before.ensures)
+    c.remember.ensures.before _ _ c.truncate.ensures.content c.keep_before.ensures)
 
 pub returns-clause-named : goal.returns-clause-named
 returns-clause-named g c old =
@@ -35,14 +35,14 @@ returns-clause-named g c old =
     (name_appended old (plain_labels c.new-plain.result) c.search-ending.result
     (rw (c.as_ref-2.ensures.value, c.as_slice.ensures) at c.search-ending.ensures.ending)
     c.in_default.field-0 c.in_default.ensures.appended c.len-start.result c.len-start.ensures.content _
-    c.keep.ensures.before c.in_default-keep.ensures.kept c.keep.ensures.few c.append_encoded.ensures.most
+    c.remember.ensures.before c.in_default-remember.ensures.kept c.remember.ensures.few c.append_encoded.ensures.most
     c.in_default.ensures.within)
 
 pub returns-clause-least : goal.returns-clause-least
 returns-clause-least g c =
     let end = c.search-ending.result in
     let labels = plain_labels c.new-plain.result in
-    let first = unrooted (take end.written labels) in
+    let first = labels_wire (take end.written labels) in
     let long = ap length c.in_default.ensures.appended.ok
     ∙ length-append (g.B.AsOctets.content c.args.octets.now) (first ++ ended end.next) in
     let both = length-append first (ended end.next) in
@@ -50,4 +50,4 @@ returns-clause-least g c =
     let taken = length-take end.written labels in
     let within = c.search-ending.ensures.written in
     let found = c.search-ending.ensures.least in
-    omega (arith, long, both, each, taken, within, found, c.keep.ensures.on, ap length c.new-plain.ensures)
+    omega (arith, long, both, each, taken, within, found, c.remember.ensures.on, ap length c.new-plain.ensures)

@@ -2,7 +2,7 @@ use Rattle.std.proofs.Common.{◌≡◌, ◌<◌, ◌-◌, ◌++◌, ap, ◌∙�
 use Rattle.octseq_dns_name.specs.Name.{wire_length}
 use Rattle.octseq_dns_name.specs.NextLabel.{ahead_of}
 use Rattle.octseq_dns_name.specs.Read.{label_place, labels_left, labels_of, place_of}
-use Rattle.octseq_dns_compress.proofs.Words.{IsWhole, label_of, labels_at}
+use Rattle.octseq_dns_compress.proofs.Words.{IsWholeLabel, label_of, labels_at}
 use Rattle.octseq_dns_compress.proofs.PlainLabels.{next_place, more_whole, more_labels}
 use Rattle.octseq_dns_compress.proofs.plain.place_labels.Goals as goal
 
@@ -48,7 +48,7 @@ places-preserved g c =
       same = it.octets ∙ same;
       end = it.end ∙ end;
       whole = more_whole octets c.places.starts c.places.count (c.pos.result - 1) inside so_far.whole
-          (subst (λ o. IsWhole o (c.pos.result - 1)) same (subst (IsWhole here.octets) (sym at) it.whole));
+          (subst (λ o. IsWholeLabel o (c.pos.result - 1)) same (subst (IsWholeLabel here.octets) (sym at) it.whole));
       are = more_labels octets c.places.starts c.places.count (c.pos.result - 1) inside _ (labels_left c.next.new.self)
           (labels_of c.args.name.now)
           (ap (λ o. label_of o (c.pos.result - 1)) (sym same) ∙ ap (label_of here.octets) at ∙ it.label_is)

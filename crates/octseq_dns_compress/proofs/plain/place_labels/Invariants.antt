@@ -3,7 +3,7 @@ use Rattle.std.proofs.Common.{◌≡◌, ◌≤◌, ◌*◌, ◌+◌, ◌++◌, 
 use Rattle.octseq_dns_name.specs.Name.{wire_length}
 use Rattle.octseq_dns_name.specs.NextLabel.{ahead_of}
 use Rattle.octseq_dns_name.specs.Read.{labels_left, labels_of, place_of}
-use Rattle.octseq_dns_compress.specs.PlainName.{AreWhole, labels_at}
+use Rattle.octseq_dns_compress.specs.LabelOffsets.{AreWhole, labels_at}
 use Rattle.octseq_dns_compress.proofs.plain.place_labels.Given as goal
 
 abbrev pub invariant-places : goal.invariant-places

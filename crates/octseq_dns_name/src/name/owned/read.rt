@@ -1,12 +1,12 @@
 //! Names made from text, and from labels.
 ghost use Rattle.std.specs.Prelude.{◌≡◌, ◌≢◌, ◌≤◌, ◌↔◌, true, ℕ, List, map, length};
 ghost use Rattle.std.specs.Prelude.{IsErr, IsErrOf, IfOk, OnErr};
-ghost use Rattle.octseq.specs.Limit.{IsPast};
+ghost use Rattle.octseq.specs.Limit.{ExceedsLimit};
 ghost use Rattle.octseq_dns_name.specs.Name.{wire_length};
 ghost use Rattle.octseq_dns_name.specs.Origin.{SpellsWithOrigin, IsRefusedWithOrigin};
 ghost use Rattle.octseq_dns_name.specs.Owned.{owned_labels};
 ghost use Rattle.octseq_dns_name.specs.Read.{labels_of};
-ghost use Rattle.octseq_dns_name.specs.Refused.{IsRefused};
+ghost use Rattle.octseq_dns_name.specs.Refused.{IsNameRefused};
 ghost use Rattle.octseq_dns_name.specs.Spelling.{SpellsName};
 ghost use Rattle.octseq_dns_name.specs.Unfit.{AreUnfit};
 ghost use Rattle.octseq_dns_name.specs.Wire.{AreLabels, IsWireOf};
@@ -43,7 +43,7 @@ impl Name<Array<255>> {
         ensures ok { IfOk result (λ name. SpellsName (owned_labels name) text.now) }
         ensures malformed { IsErr result → (labels : List (List ℕ)) → AreLabels labels → wire_length labels ≤ 255
             → ¬ SpellsName labels text.now }
-        ensures refused { (fault : FromTextError) → IsErrOf result fault ↔ IsRefused fault text.now }
+        ensures refused { (fault : FromTextError) → IsErrOf result fault ↔ IsNameRefused fault text.now }
     {
         Self::from_text_octets(text.as_bytes())
     }
@@ -58,7 +58,7 @@ impl Name<Array<255>> {
         ensures ok { IfOk result (λ name. SpellsName (owned_labels name) text.now) }
         ensures malformed { IsErr result → (labels : List (List ℕ)) → AreLabels labels → wire_length labels ≤ 255
             → ¬ SpellsName labels text.now }
-        ensures refused { (fault : FromTextError) → IsErrOf result fault ↔ IsRefused fault text.now }
+        ensures refused { (fault : FromTextError) → IsErrOf result fault ↔ IsNameRefused fault text.now }
     {
         let octets = wire_of(text)?;
         Ok(Name::from_wire(octets))
@@ -129,7 +129,7 @@ impl<B: EmptyBuilder> Name<B> {
 
     /// Makes the name with this plain wire form, which is within the limit.
     fn held(alloc: Global, octets: &[u8]) -> Result<Self, AllocError>
-        requires room { ¬ IsPast B.limit (length octets.now) }
+        requires room { ¬ ExceedsLimit B.limit (length octets.now) }
         requires plain { (labels : List (List ℕ)) × IsWireOf labels octets.now }
         ensures ok { (labels : List (List ℕ)) → IsWireOf labels octets.now
             → IfOk result (λ name. owned_labels name ≡ labels) }

@@ -2,7 +2,7 @@
 ghost use Rattle.std.specs.Prelude.{◌≡◌, ◌≤◌, ◌↔◌, [], length, drop, IsTrue, IsNone, IfSome};
 ghost use Rattle.octseq_dns_name.specs.Owned.{owned_labels};
 ghost use Rattle.octseq_dns_name.specs.Read.{labels_of};
-ghost use Rattle.octseq_dns_name.specs.Relatives.{EndsWith, StartsWith, suffixes};
+ghost use Rattle.octseq_dns_name.specs.Relatives.{NameEndsWith, NameStartsWith, suffixes};
 ghost use Rattle.octseq_dns_name.specs.Suffixes.{suffixes_left};
 
 use crate::name::owned::Name;
@@ -28,7 +28,7 @@ impl<B: AsOctets> Name<B> {
 
     /// Whether its last labels are those of `base`, ignoring ASCII case. Every name ends with the root.
     pub fn ends_with<R: AsOctets + Copy>(&self, base: &ParsedName<R>) -> bool
-        ensures { IsTrue result ↔ EndsWith (owned_labels self.now) (labels_of base.now) }
+        ensures { IsTrue result ↔ NameEndsWith (owned_labels self.now) (labels_of base.now) }
     {
         self.parsed().ends_with(base)
     }
@@ -36,7 +36,7 @@ impl<B: AsOctets> Name<B> {
     /// Whether its first labels are those of `base`, ignoring ASCII case. The root of `base`, which isn't a label,
     /// doesn't count.
     pub fn starts_with<R: AsOctets + Copy>(&self, base: &ParsedName<R>) -> bool
-        ensures { IsTrue result ↔ StartsWith (owned_labels self.now) (labels_of base.now) }
+        ensures { IsTrue result ↔ NameStartsWith (owned_labels self.now) (labels_of base.now) }
     {
         self.parsed().starts_with(base)
     }

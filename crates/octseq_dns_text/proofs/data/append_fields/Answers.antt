@@ -12,7 +12,7 @@ use Rattle.octseq_dns_text.proofs.ReadTexts.{reached_none, reached_word}
 use Rattle.octseq_dns_text.specs.Fields.{IsFieldText}
 use Rattle.octseq_dns_text.specs.Layouts.{IsLayoutText}
 use Rattle.octseq_dns_text.specs.Reached.{Reached}
-use Rattle.octseq_dns_text.specs.Scans.{IsFault}
+use Rattle.octseq_dns_text.specs.Scans.{IsWordFault}
 use Rattle.octseq_dns_text.proofs.data.append_fields.Goals as goal
 
 pub fields-init : goal.fields-init
@@ -71,9 +71,9 @@ returns-in-Err-Malformed-clause-fault g c = λ offset same it.
     (λ other left takes. subst (λ w. (octets : List ℕ) → ¬ (IsFieldText origin field w octets))
     (sym (word_once other word rest left (ahead_of c.next_word.new.self) takes c.in-Some-next_word.ensures.some).0)
     none) in
-    subst (λ place. IsFault (IsLayoutText origin c.args.fields.now it) ahead start place)
+    subst (λ place. IsWordFault (IsLayoutText origin c.args.fields.now it) ahead start place)
     (sym c.in-Some-next_word.ensures.offset ∙ offsets)
-    (subst (λ all. IsFault (IsLayoutText origin all it) ahead start (offset_of c.fields.words)) (sym parts) fault)
+    (subst (λ all. IsWordFault (IsLayoutText origin all it) ahead start (offset_of c.fields.words)) (sym parts) fault)
 
 pub returns-in-None-clause-fault : goal.returns-in-None-clause-fault
 returns-in-None-clause-fault g c = λ offset same it.
@@ -94,9 +94,9 @@ returns-in-None-clause-fault g c = λ offset same it.
     (g.B.AsOctets.content c.args.target.now) rest (offset_of c.fields.words) c.fields.full
     (g.B.AsOctets.content c.fields.target) so_far.reached
     (λ other left takes. absurd (c.in-None.ensures.none refl other left takes)) in
-    subst (λ place. IsFault (IsLayoutText origin c.args.fields.now it) ahead start place)
+    subst (λ place. IsWordFault (IsLayoutText origin c.args.fields.now it) ahead start place)
     (sym kept ∙ sym c.offset.ensures ∙ found)
-    (subst (λ all. IsFault (IsLayoutText origin all it) ahead start (offset_of c.fields.words)) (sym parts) fault)
+    (subst (λ all. IsWordFault (IsLayoutText origin all it) ahead start (offset_of c.fields.words)) (sym parts) fault)
 
 pub returns-clause-ok : goal.returns-clause-ok
 returns-clause-ok g c =

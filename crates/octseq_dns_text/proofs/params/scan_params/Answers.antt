@@ -1,6 +1,6 @@
 use Rattle.std.proofs.Common.{◌+◌, ◌++◌, length, refl, sym, ap, ◌∙◌, subst}
 use Rattle.std.specs.List.{flat_map}
-use Rattle.octseq.specs.Limit.{IsPast}
+use Rattle.octseq.specs.Limit.{ExceedsLimit}
 use Rattle.octseq.specs.Refusal.{Is, Refusal, append_error}
 use Rattle.octseq_dns_data.specs.SvcParams.{param_octets}
 use Rattle.octseq_dns_text.specs.Reading.{params_in}
@@ -49,7 +49,8 @@ returns-in-Err-Short-clause-scanned g c =
         flat_map param_octets params,
         found.1,
         is,
-        subst (λ l. IsPast g.B.AsOctets.limit (length (g.B.AsOctets.content c.args.target.now) + length l)) made past,
+        subst (λ l. ExceedsLimit g.B.AsOctets.limit
+            (length (g.B.AsOctets.content c.args.target.now) + length l)) made past,
       );
       memory = λ e. refl;
       kept = c.in-Err-Short.ensures.appended.err;

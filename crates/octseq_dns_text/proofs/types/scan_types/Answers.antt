@@ -1,5 +1,5 @@
 use Rattle.std.proofs.Common.{◌+◌, ◌++◌, length, refl, sym, ap, ◌∙◌, subst}
-use Rattle.octseq.specs.Limit.{IsPast}
+use Rattle.octseq.specs.Limit.{ExceedsLimit}
 use Rattle.octseq.specs.Refusal.{Is, Refusal, append_error}
 use Rattle.octseq_dns_data.specs.RtypeBitmapMade.{bitmap_of}
 use Rattle.octseq_dns_text.specs.TypesText.{IsTypesText}
@@ -39,7 +39,8 @@ returns-in-Err-Short-clause-scanned g c =
         bitmap_of rtypes,
         found.1,
         is,
-        subst (λ l. IsPast g.B.AsOctets.limit (length (g.B.AsOctets.content c.args.target.now) + length l)) made past,
+        subst (λ l. ExceedsLimit g.B.AsOctets.limit
+            (length (g.B.AsOctets.content c.args.target.now) + length l)) made past,
       );
       memory = λ e. refl;
       kept = c.in-Err-Short.ensures.appended.err;

@@ -1,10 +1,10 @@
--- The octets from a place on were read.
+-- The octets from an offset on were read.
 use Rattle.std.proofs.Common.{◌≡◌, ◌≤◌, length, drop}
 use Rattle.octseq_format.specs.Leb128.{leb128}
 use Rattle.octseq_format.proofs.leb128.groups_value.Given as goal
 
-abbrev pub invariant-loop-place : goal.invariant-loop-place
-invariant-loop-place l = (l.number ≡ leb128 (drop l.place l.octets)) × (l.place ≤ length l.octets)
+abbrev pub invariant-loop-offset : goal.invariant-loop-offset
+invariant-loop-offset l = (l.number ≡ leb128 (drop l.offset l.octets)) × (l.offset ≤ length l.octets)
 
-abbrev pub decreases-loop-place : goal.decreases-loop-place
-decreases-loop-place l = l.place
+abbrev pub decreases-loop-offset : goal.decreases-loop-offset
+decreases-loop-offset l = l.offset

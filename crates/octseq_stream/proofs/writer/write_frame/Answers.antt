@@ -3,7 +3,7 @@ use Rattle.std.proofs.KnownBytes.{Appends-trans}
 use Rattle.std.specs.Io.KnownBytes.{Appends}
 use Rattle.octseq.proofs.Written.{written_2}
 use Rattle.octseq.specs.Integer.{octets_be}
-use Rattle.octseq.specs.Parts.{IsFront}
+use Rattle.octseq.specs.Parts.{StartsWith}
 use Rattle.octseq_stream.proofs.Writing.{front_of_length, front_of_message}
 use Rattle.octseq_stream.proofs.writer.write_frame.Goals as goal
 
@@ -20,7 +20,7 @@ pub returns-in_err-write_octets-clause-front : goal.returns-in_err-write_octets-
 returns-in_err-write_octets-clause-front g c =
     let sent = c.write_octets.ensures.front in
     let head : c.to_be_bytes.result ≡ octets_be 2 (length c.args.octets.now) = search (rules, written_2) in
-    (sent.0, front_of_length c.args.octets.now sent.0 (subst (IsFront sent.0) head sent.1), sent.2)
+    (sent.0, front_of_length c.args.octets.now sent.0 (subst (StartsWith sent.0) head sent.1), sent.2)
 
 pub returns-in_err-write_octets-2-clause-front : goal.returns-in_err-write_octets-2-clause-front
 returns-in_err-write_octets-2-clause-front g c =

@@ -5,7 +5,7 @@ use octseq::array::Array;
 use octseq::builder::{AppendError, EmptyBuilder, ShortBuf};
 use octseq::str::LossyPieces;
 use octseq_asserts::assert_equal;
-use octseq_uses::rationed::Rationed;
+use octseq_callers::rationed::Rationed;
 use std::alloc::Global;
 use std::process::Abort;
 

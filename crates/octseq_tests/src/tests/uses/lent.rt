@@ -1,6 +1,6 @@
 //! Octets built in a slice that is lent.
 use octseq_asserts::assert_equal;
-use octseq_uses::lent::put_line;
+use octseq_callers::lent::put_line;
 
 #[test]
 fn a_line_is_put_where_it_fits(rt: HostRuntime) {

@@ -3,7 +3,7 @@ use crate::tests::unwrap;
 use octseq::builder::{AppendError, EmptyBuilder, ShortBuf};
 use octseq::{Array, AsOctets, Parser, StrBuilder};
 use octseq_asserts::{assert_equal, assert_true};
-use octseq_uses::lines::next_line;
+use octseq_callers::lines::next_line;
 use std::alloc::Global;
 use std::process::Abort;
 

@@ -4,11 +4,11 @@ use octseq::builder::OctetsBuilder;
 use octseq::str::{DisplayError, Str, StrBuilder};
 use octseq::{Array, Parser, WriteError};
 use octseq_asserts::{assert_equal, assert_true};
-use octseq_uses::frame::append_frame;
-use octseq_uses::note::{append_note, kept, read_note};
-use octseq_uses::ranges::{after_two, key, onward};
-use octseq_uses::shown::{push_number, write_number};
-use octseq_uses::views::{fourth, is_comment};
+use octseq_callers::frame::append_frame;
+use octseq_callers::note::{append_note, kept, read_note};
+use octseq_callers::ranges::{after_two, key, onward};
+use octseq_callers::shown::{push_number, write_number};
+use octseq_callers::views::{fourth, is_comment};
 use std::process::Abort;
 
 #[test]

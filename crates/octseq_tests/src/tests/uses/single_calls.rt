@@ -3,8 +3,8 @@ use crate::tests::unwrap;
 use octseq::CowOctets;
 use octseq::error::ReadError;
 use octseq_asserts::assert_equal;
-use octseq_uses::levels::read_levels;
-use octseq_uses::single_calls::{extended, field, kept, text_front};
+use octseq_callers::levels::read_levels;
+use octseq_callers::single_calls::{extended, field, kept, text_front};
 
 #[test]
 fn octets_that_fit_are_kept(rt: HostRuntime) {

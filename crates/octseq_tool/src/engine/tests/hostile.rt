@@ -1,5 +1,5 @@
 //! Hostile input, and streams that fail.
-use super::streams::{Drip, Failure, NONE, Narrow};
+use super::streams::{Failure, NONE, ShortReads, ShortWrites};
 use super::{USAGE, ran, repeated};
 use crate::engine::tests::unwrap;
 use crate::engine::{Status, ToolFault, engine};
@@ -74,7 +74,7 @@ fn lossy_writes_the_same_however_octets_are_read(rt: HostRuntime) {
         b"a\xF0\x9F\x98\x80\xE2\x82\xE2\x82\xAC\xF1\x80b\xC3\xA9\xFF\xF0\x90\x80".as_slice();
     let text = "a\u{1F600}\u{FFFD}€\u{FFFD}bé\u{FFFD}\u{FFFD}";
     for at_once in [1, 2, 3, 4, 5, usize::MAX] {
-        let mut reader = Drip {
+        let mut reader = ShortReads {
             rest: octets,
             at_once,
             failure: NONE,
@@ -156,7 +156,7 @@ fn ran_failing(
     at_once: usize,
     failure: Failure,
 ) -> (Result<Status, ToolFault>, Vec<u8>) {
-    let mut reader = Drip {
+    let mut reader = ShortReads {
         rest: b"\x03a\xFFb",
         at_once,
         failure,
@@ -210,7 +210,7 @@ fn written_failing(
     at_once: usize,
     failure: Failure,
 ) -> (Result<Status, ToolFault>, Vec<u8>) {
-    let mut writer = Narrow {
+    let mut writer = ShortWrites {
         taken: Vec::new(alloc),
         at_once,
         failure,
@@ -268,7 +268,7 @@ fn a_failed_write_of_the_usage_line_reads_nothing(rt: HostRuntime) {
     let kind = ErrorKind::BrokenPipe;
     for at in 1..=2 {
         let mut octets = b"a".as_slice();
-        let mut writer = Narrow {
+        let mut writer = ShortWrites {
             taken: Vec::new(rt.alloc()),
             at_once: usize::MAX,
             failure: Failure { at, kind },

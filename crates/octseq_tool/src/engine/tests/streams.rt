@@ -30,13 +30,13 @@ impl Failure {
 
 /// A reader of octets that come a few at a time.
 #[derive(Drop)]
-pub struct Drip<'a> {
+pub struct ShortReads<'a> {
     pub rest: &'a [u8],
     pub at_once: usize,
     pub failure: Failure,
 }
 
-impl Read for Drip<'_> {
+impl Read for ShortReads<'_> {
     fn read(&mut self, buf: &mut [u8]) -> io::Result<usize> {
         self.failure.call()?;
         let count = self.at_once.min(buf.len());
@@ -46,13 +46,13 @@ impl Read for Drip<'_> {
 
 /// A writer that takes a few octets at a time.
 #[derive(Drop)]
-pub struct Narrow {
+pub struct ShortWrites {
     pub taken: Vec<u8>,
     pub at_once: usize,
     pub failure: Failure,
 }
 
-impl Write for Narrow {
+impl Write for ShortWrites {
     fn write(&mut self, buf: &[u8]) -> io::Result<usize> {
         self.failure.call()?;
         let count = self.at_once.min(buf.len());

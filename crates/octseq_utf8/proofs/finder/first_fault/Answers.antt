@@ -24,12 +24,12 @@ returns-then-is_ascii_of_two_lanes-clause-turns c =
 pub loop-at-init : goal.loop-at-init
 loop-at-init c = search_start c.args.octets.now c.args.turns.now
 
-pub pass_ascii-at-requires : goal.pass_ascii-at-requires
-pass_ascii-at-requires c = (c.in-Ok.ensures.passed c.args.turns.now c.loop-at.invariant).at.within
+pub skip_ascii-at-requires : goal.skip_ascii-at-requires
+skip_ascii-at-requires c = (c.in-Ok.ensures.passed c.args.turns.now c.loop-at.invariant).at.within
 
 pub loop-at-preserved : goal.loop-at-preserved
 loop-at-preserved c =
-    c.pass_ascii-at.ensures.passed c.args.turns.now (c.in-Ok.ensures.passed c.args.turns.now c.loop-at.invariant)
+    c.skip_ascii-at.ensures.passed c.args.turns.now (c.in-Ok.ensures.passed c.args.turns.now c.loop-at.invariant)
 
 -- a fault before the last octets
 pub returns-in-Err : goal.returns-in-Err

@@ -12,5 +12,6 @@ returns-then-wide-clause-counts g c =
 
 pub returns-else-wide-clause-counts : goal.returns-else-wide-clause-counts
 returns-else-wide-clause-counts g c =
-    subst (λ b. Counts (IsSegment (asn_size b)) (window c.args.parser) c.count_all-else-wide.result) (sym c.if-wide.false)
+    subst (λ b. Counts (IsSegment (asn_size b)) (window c.args.parser) c.count_all-else-wide.result)
+    (sym c.if-wide.false)
     c.count_all-else-wide.ensures.counts

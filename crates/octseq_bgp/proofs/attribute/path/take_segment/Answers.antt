@@ -16,10 +16,12 @@ take_first-requires-else-wide g c =
 
 pub returns-then-wide : goal.returns-then-wide
 returns-then-wide g c =
-    subst (λ b. TakesFirst (IsSegment (asn_size b)) (λ it. (it.0, (it.1.0, window it.1.1))) (λ after. window after) (window c.args.parser) c.args.left
+    subst (λ b. TakesFirst (IsSegment (asn_size b)) (λ it. (it.0, (it.1.0, window it.1.1))) (λ after. window after)
+    (window c.args.parser) c.args.left
     c.take_first.result) (sym c.if-wide.true) c.take_first.ensures
 
 pub returns-else-wide : goal.returns-else-wide
 returns-else-wide g c =
-    subst (λ b. TakesFirst (IsSegment (asn_size b)) (λ it. (it.0, (it.1.0, window it.1.1))) (λ after. window after) (window c.args.parser) c.args.left
+    subst (λ b. TakesFirst (IsSegment (asn_size b)) (λ it. (it.0, (it.1.0, window it.1.1))) (λ after. window after)
+    (window c.args.parser) c.args.left
     c.take_first-else-wide.result) (sym c.if-wide.false) c.take_first-else-wide.ensures

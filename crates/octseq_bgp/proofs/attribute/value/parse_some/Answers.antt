@@ -11,7 +11,8 @@ pub returns-then-len-eq0-clause-malformed : goal.returns-then-len-eq0-clause-mal
 returns-then-len-eq0-clause-malformed g c = λ _ row is.
     let t = g.T.Item in
     let items = c.in_ok-items in
-    let same = ap length (one_filling t.width t.reads g.met.T.Item.wide (window c.args.parser) row (items_left items.items)
+    let same = ap length (one_filling t.width t.reads g.met.T.Item.wide (window c.args.parser) row
+    (items_left items.items)
     is.0 items.ensures.items) in
     let none = c.if-len-eq0.true in
     let some = is.1 in

@@ -19,7 +19,8 @@ invariant_of-result g c =
     let w = window c.args.parser in
     let n = c.remaining-octets.result / c.width-width.result in
     let all = c.remaining-octets.ensures.left in
-    let whole = divided t.width c.width-width.result c.remaining-octets.result c.width-width.ensures g.met.T.Item.wide in
+    let whole = divided t.width c.width-width.result c.remaining-octets.result c.width-width.ensures g.met.T.Item.wide
+    in
     let fits : t.width * n ≤ left w = omega (arith, whole, all) in
     let row = chunks t.width t.reads n w fits in
     record { ahead = (row.0, ∣ (row.1, row.2) ∣₁) }
@@ -30,11 +31,17 @@ returns-clause-items g c =
     let w = window c.args.parser in
     let n = c.remaining-octets.result / c.width-width.result in
     let all = c.remaining-octets.ensures.left in
-    let whole = divided t.width c.width-width.result c.remaining-octets.result c.width-width.ensures g.met.T.Item.wide in
+    let whole = divided t.width c.width-width.result c.remaining-octets.result c.width-width.ensures g.met.T.Item.wide
+    in
     let none = c.if-octets-width-ne0.false in
     let fits : t.width * n ≤ left w = omega (arith, whole, all) in
     let row = chunks t.width t.reads n w fits in
     let filled = row.3 in
     let held = held_as t.found_code (IsFixed t.width t.reads) (one_fixed t.width t.reads) w row.1 n row.0
-    c.result-1.given.0 row.2 in
-    (row.1, (subst (λ items. Row (IsFixed t.width t.reads) w items row.1) held row.2.1, omega (arith, filled, whole, none, all)))
+    c.result-1.given.0 row.2 in (
+      row.1,
+      (
+        subst (λ items. Row (IsFixed t.width t.reads) w items row.1) held row.2.1,
+        omega (arith, filled, whole, none, all),
+      ),
+    )

@@ -8,7 +8,8 @@ pub returns-then-self-eq0-clause-steps : goal.returns-then-self-eq0-clause-steps
 returns-then-self-eq0-clause-steps g c =
     let self = c.args.self.now in
     let t = g.T.Item in
-    let none = held_none t.found_code (IsFixed t.width t.reads) (window self.parser) self.left self.ahead (search rules) in
+    let none = held_none t.found_code (IsFixed t.width t.reads) (window self.parser) self.left self.ahead
+    (search rules) in
     (none, none)
 
 pub unreachable-requires : goal.unreachable-requires

@@ -6,7 +6,10 @@ use Rattle.octseq_bgp.proofs.Values.{one_reach}
 use Rattle.octseq_bgp.proofs.message.handling.reaches.Goals as goal
 
 pub returns : goal.returns
-returns g c = (λ is. let no : false ≡ true = is in absurd (cc), λ it. absurd (c.in-Err.ensures.malformed refl it.1 it.2))
+returns g c = (
+  λ is. let no : false ≡ true = is in absurd (cc),
+  λ it. absurd (c.in-Err.ensures.malformed refl it.1 it.2),
+)
 
 pub returns-then-len-eq0 : goal.returns-then-len-eq0
 returns-then-len-eq0 g c = (

@@ -6,7 +6,8 @@ use Rattle.octseq_bgp.specs.Lists.{attributes_left}
 use Rattle.octseq_bgp.proofs.message.handling.reaches_some.Given as goal
 
 abbrev pub invariant-attributes : goal.invariant-attributes
-invariant-attributes g l = ReachesSome l.fn.session (attributes_left l.fn.attributes) ↔ ReachesSome l.fn.session (attributes_left l.ahead)
+invariant-attributes g l = ReachesSome l.fn.session (attributes_left l.fn.attributes) ↔ ReachesSome l.fn.session
+    (attributes_left l.ahead)
 
 abbrev pub decreases-attributes : goal.decreases-attributes
 decreases-attributes g l = length (attributes_left l.ahead)

@@ -34,14 +34,18 @@ attributes-preserved g c =
       λ n is.
           let all = so_far.2 (max x n) (subst (λ row. IsWorst s external so_far.0 row (max x n)) (sym steps) (
             get_or c.attributes.seen c.from-code.result false,
-            (λ is. subst (HasType so_far.0) code (marks.0 is), λ has. marks.1 (subst (HasType so_far.0) (sym code) has)),
+            (
+              λ is. subst (HasType so_far.0) code (marks.0 is),
+              λ has. marks.1 (subst (HasType so_far.0) (sym code) has),
+            ),
             x,
             again,
             n,
             is,
             refl,
           )) in
-          let same : max (rank c.attributes.worst) (max x n) ≡ max (rank c.worse-worst.result) n = omega (arith, worse) in
+          let same : max (rank c.attributes.worst) (max x n) ≡ max (rank c.worse-worst.result) n = omega
+          (arith, worse) in
           subst (IsWorst s external [] (attributes_left c.args.attributes)) same all,
       length-set c.attributes.seen c.from-code.result true ∙ so_far.3,
     )

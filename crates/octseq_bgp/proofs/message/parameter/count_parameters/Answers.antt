@@ -12,5 +12,6 @@ returns-then-long-clause-counts g c =
 
 pub returns-else-long-clause-counts : goal.returns-else-long-clause-counts
 returns-else-long-clause-counts g c =
-    subst (λ b. Counts (IsTlv (length_octets b)) (window c.args.parser) c.count_all-else-long.result) (sym c.if-long.false)
+    subst (λ b. Counts (IsTlv (length_octets b)) (window c.args.parser) c.count_all-else-long.result)
+    (sym c.if-long.false)
     c.count_all-else-long.ensures.counts

@@ -16,10 +16,12 @@ take_first-requires-else-long g c =
 
 pub returns-then-long : goal.returns-then-long
 returns-then-long g c =
-    subst (λ b. TakesFirst (IsTlv (length_octets b)) (λ it. (it.0, window it.1)) (λ after. window after) (window c.args.parser) c.args.left
+    subst (λ b. TakesFirst (IsTlv (length_octets b)) (λ it. (it.0, window it.1)) (λ after. window after)
+    (window c.args.parser) c.args.left
     c.take_first.result) (sym c.if-long.true) c.take_first.ensures
 
 pub returns-else-long : goal.returns-else-long
 returns-else-long g c =
-    subst (λ b. TakesFirst (IsTlv (length_octets b)) (λ it. (it.0, window it.1)) (λ after. window after) (window c.args.parser) c.args.left
+    subst (λ b. TakesFirst (IsTlv (length_octets b)) (λ it. (it.0, window it.1)) (λ after. window after)
+    (window c.args.parser) c.args.left
     c.take_first-else-long.result) (sym c.if-long.false) c.take_first-else-long.ensures

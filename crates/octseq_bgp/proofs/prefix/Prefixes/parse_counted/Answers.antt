@@ -11,7 +11,8 @@ returns-in_err-left-clause-malformed g c = λ _ row are.
 
 pub returns-then-paths-clause-prefixes : goal.returns-then-paths-clause-prefixes
 returns-then-paths-clause-prefixes g c =
-    to_session c.args.session.now c.args.family c.has-paths.result c.afi-afi.result (window c.args.parser) _ c.has-paths.ensures
+    to_session c.args.session.now c.args.family c.has-paths.result c.afi-afi.result
+    (window c.args.parser) _ c.has-paths.ensures
     c.afi-afi.ensures
     (fill_with_paths c.has-paths.result c.afi-afi.result (window c.args.parser) c.in_ok-left.left c.if-paths.true
     c.in_ok-left.ensures.counts.filled c.result-1.given.0)
@@ -24,7 +25,8 @@ returns-in_err-left-2-clause-malformed g c = λ _ row are.
 
 pub returns-clause-prefixes : goal.returns-clause-prefixes
 returns-clause-prefixes g c =
-    to_session c.args.session.now c.args.family c.has-paths.result c.afi-afi.result (window c.args.parser) _ c.has-paths.ensures
+    to_session c.args.session.now c.args.family c.has-paths.result c.afi-afi.result
+    (window c.args.parser) _ c.has-paths.ensures
     c.afi-afi.ensures
     (fill_plain c.has-paths.result c.afi-afi.result (window c.args.parser) c.in_ok-left-2.left c.if-paths.false
     c.in_ok-left-2.ensures.counts.filled c.result-2-1.given.0)

@@ -10,4 +10,5 @@ use Rattle.octseq_bgp.proofs.text.capability.write_all_kept.Given as goal
 abbrev pub invariant-loop-tuple : goal.invariant-loop-tuple
 invariant-loop-tuple g l =
     IsPlainFormatter l.initial.f → (done : List ℕ) × HasWritten g.W.Write.write_str_gives l.initial.f done l.f
-    × (done ++ flat_map (λ t. spaced (kept_text t)) (items_left l.tuple-iterator) ≡ flat_map (λ t. spaced (kept_text t)) (items_left l.fn.families))
+    × (done ++ flat_map (λ t. spaced (kept_text t)) (items_left l.tuple-iterator) ≡ flat_map
+    (λ t. spaced (kept_text t)) (items_left l.fn.families))

@@ -9,5 +9,6 @@ abbrev pub invariant-loop-capability : goal.invariant-loop-capability
 invariant-loop-capability g l = record {
   done : List ℕ;
   written : IsPlainFormatter l.initial.f → HasWritten g.W.Write.write_str_gives l.initial.f done l.f;
-  whole : (more : List ℕ) → AreCapabilityLines (capabilities_left l.capability-iterator) more → AreCapabilityLines (capabilities_left l.fn.capabilities) (done ++ more);
+  whole : (more : List ℕ) → AreCapabilityLines (capabilities_left l.capability-iterator) more
+      → AreCapabilityLines (capabilities_left l.fn.capabilities) (done ++ more);
 }

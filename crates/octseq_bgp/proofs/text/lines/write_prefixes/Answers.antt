@@ -14,12 +14,14 @@ loop-nlri-preserved g c = λ plain.
       so_far.0 ++ text,
       has_written_append _ _ _ _ _ _ so_far.1 (search rules),
       append_assoc so_far.0 text (flat_map (λ n. line c.args.word.now (nlri_text n)) more)
-          ∙ ap (λ row. so_far.0 ++ flat_map (λ n. line c.args.word.now (nlri_text n)) row) (sym c.in-Some.ensures.steps) ∙ so_far.2,
+          ∙ ap (λ row. so_far.0 ++ flat_map (λ n. line c.args.word.now (nlri_text n)) row)
+          (sym c.in-Some.ensures.steps) ∙ so_far.2,
     )
 
 pub loop-nlri-init : goal.loop-nlri-init
 loop-nlri-init g c = λ plain. (
   [],
   search rules,
-  ap (λ row. flat_map (λ n. line c.args.word.now (nlri_text n)) (prefixes_left row)) c.into_iter-nlri-iterator.ensures.into_iter_gives,
+  ap (λ row. flat_map (λ n. line c.args.word.now (nlri_text n))
+      (prefixes_left row)) c.into_iter-nlri-iterator.ensures.into_iter_gives,
 )

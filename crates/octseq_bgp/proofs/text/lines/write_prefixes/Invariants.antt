@@ -10,4 +10,5 @@ use Rattle.octseq_bgp.proofs.text.lines.write_prefixes.Given as goal
 abbrev pub invariant-loop-nlri : goal.invariant-loop-nlri
 invariant-loop-nlri g l =
     IsPlainFormatter l.initial.f → (done : List ℕ) × HasWritten g.W.Write.write_str_gives l.initial.f done l.f
-    × (done ++ flat_map (λ n. line l.word (nlri_text n)) (prefixes_left l.nlri-iterator) ≡ flat_map (λ n. line l.word (nlri_text n)) (prefixes_left l.fn.prefixes))
+    × (done ++ flat_map (λ n. line l.word (nlri_text n)) (prefixes_left l.nlri-iterator) ≡ flat_map
+    (λ n. line l.word (nlri_text n)) (prefixes_left l.fn.prefixes))

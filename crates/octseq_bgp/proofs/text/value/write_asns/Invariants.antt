@@ -10,4 +10,5 @@ use Rattle.octseq_bgp.proofs.text.value.write_asns.Given as goal
 abbrev pub invariant-loop-asn : goal.invariant-loop-asn
 invariant-loop-asn g l =
     IsPlainFormatter l.initial.f → (done : List ℕ) × HasWritten g.W.Write.write_str_gives l.initial.f done l.f
-    × (done ++ flat_map (λ n. spaced (decimal n)) (asns_left l.asn-iterator) ≡ flat_map (λ n. spaced (decimal n)) (asns_left l.fn.asns))
+    × (done ++ flat_map (λ n. spaced (decimal n)) (asns_left l.asn-iterator) ≡ flat_map (λ n. spaced (decimal n))
+    (asns_left l.fn.asns))

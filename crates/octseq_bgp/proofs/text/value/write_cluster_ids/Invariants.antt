@@ -9,4 +9,5 @@ use Rattle.octseq_bgp.proofs.text.value.write_cluster_ids.Given as goal
 abbrev pub invariant-loop-item : goal.invariant-loop-item
 invariant-loop-item g l =
     IsPlainFormatter l.initial.f → (done : List ℕ) × HasWritten g.W.Write.write_str_gives l.initial.f done l.f
-    × (done ++ flat_map (λ n. spaced (number_dotted n)) (items_left l.item-iterator) ≡ flat_map (λ n. spaced (number_dotted n)) (items_left l.fn.items))
+    × (done ++ flat_map (λ n. spaced (number_dotted n)) (items_left l.item-iterator) ≡ flat_map
+    (λ n. spaced (number_dotted n)) (items_left l.fn.items))

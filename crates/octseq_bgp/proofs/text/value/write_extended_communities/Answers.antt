@@ -14,5 +14,6 @@ loop-item-preserved g c = λ plain.
       so_far.0 ++ text,
       has_written_append _ _ _ _ _ _ so_far.1 (search rules),
       append_assoc so_far.0 text (flat_map (λ n. spaced (extended_text n)) more)
-          ∙ ap (λ row. so_far.0 ++ flat_map (λ n. spaced (extended_text n)) row) (sym c.in-Some.ensures.steps) ∙ so_far.2,
+          ∙ ap (λ row. so_far.0 ++ flat_map (λ n. spaced (extended_text n)) row) (sym c.in-Some.ensures.steps)
+          ∙ so_far.2,
     )

@@ -10,4 +10,5 @@ use Rattle.octseq_bgp.proofs.text.value.write_large_communities.Given as goal
 abbrev pub invariant-loop-item : goal.invariant-loop-item
 invariant-loop-item g l =
     IsPlainFormatter l.initial.f → (done : List ℕ) × HasWritten g.W.Write.write_str_gives l.initial.f done l.f
-    × (done ++ flat_map (λ it. spaced (large_text it.0 it.1.0 it.1.1)) (items_left l.item-iterator) ≡ flat_map (λ it. spaced (large_text it.0 it.1.0 it.1.1)) (items_left l.fn.items))
+    × (done ++ flat_map (λ it. spaced (large_text it.0 it.1.0 it.1.1)) (items_left l.item-iterator) ≡ flat_map
+    (λ it. spaced (large_text it.0 it.1.0 it.1.1)) (items_left l.fn.items))

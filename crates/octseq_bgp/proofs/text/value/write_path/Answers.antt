@@ -16,12 +16,14 @@ segments-preserved g c =
       wide = c.in-Some.ensures.steps.1 ∙ so_far.wide;
       written = λ plain.
           let before = so_far.written plain in
-          let here : HasWritten took c.segments.f (spaced (segment_words segment.wide (segment_of segment))) c.write.new.self =
+          let here : HasWritten took c.segments.f
+          (spaced (segment_words segment.wide (segment_of segment))) c.write.new.self =
           search rules in
           let text = spaced (segment_words wide (segment_of segment)) in (
             before.0 ++ text,
             has_written_append _ _ _ _ _ _ before.1
-                (subst (λ w. HasWritten took c.segments.f (spaced (segment_words w (segment_of segment))) c.write.new.self)
+                (subst (λ w. HasWritten took c.segments.f
+                (spaced (segment_words w (segment_of segment))) c.write.new.self)
                 (c.in-Some.ensures.steps.2 ∙ so_far.wide) here),
             append_assoc before.0 text (path_text (wide, segments_left c.next.new.self))
                 ∙ ap (λ row. before.0 ++ path_text (wide, row)) (sym c.in-Some.ensures.steps.0) ∙ before.2,

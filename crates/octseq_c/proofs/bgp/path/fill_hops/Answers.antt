@@ -20,7 +20,7 @@ fill_segment-at-requires g c =
     let all = ap length whole in
     let front = length-append so_far.done (rows ++ more) in
     let back = length-append rows more in
-    omega (arith, same, all, front, back, so_far.place, so_far.long, c.requires)
+    omega (arith, same, all, front, back, so_far.offset, so_far.long, c.requires)
 
 pub segments-preserved : goal.segments-preserved
 segments-preserved g c =
@@ -40,14 +40,14 @@ segments-preserved g c =
     let front = length-append so_far.done (rows ++ more) in
     let back = length-append rows more in
     let within : c.fill_segment-at.result ≤ length c.segments.out =
-    omega (arith, end, all, front, back, so_far.place, so_far.long, c.requires) in
+    omega (arith, end, all, front, back, so_far.offset, so_far.long, c.requires) in
     record {
       wide = c.in-Some.ensures.steps.1 ∙ so_far.wide;
       done = so_far.done ++ rows;
       whole = append_assoc so_far.done rows more ∙ whole;
-      place = omega (arith, end, length-append so_far.done rows, so_far.place);
+      offset = omega (arith, end, length-append so_far.done rows, so_far.offset);
       written = placed_after c.args.out.now c.segments.out c.fill_segment-at.new.out so_far.done rows c.segments.at
-          c.fill_segment-at.result (sym so_far.place) end so_far.written out;
+          c.fill_segment-at.result (sym so_far.offset) end so_far.written out;
       long = copy_long c.segments.out c.fill_segment-at.new.out rows c.segments.at c.fill_segment-at.result end
           within out ∙ so_far.long;
     }

@@ -10,7 +10,7 @@ invariant-segments g l = record {
   wide : path_wide l.ahead ≡ path_wide l.fn.path;
   done : List BgpHop;
   whole : done ++ hops_of (path_wide l.fn.path, segments_left l.ahead) ≡ hops_of (path_of l.fn.path);
-  place : l.at ≡ length done;
+  offset : l.at ≡ length done;
   written : l.out ≡ done ++ drop l.at l.fn.out;
   long : length l.out ≡ length l.fn.out;
 }

@@ -20,7 +20,7 @@ attributes-init g c =
       ahead = c.requires.1;
       room = c.requires.2;
       whole = λ more are. are;
-      place = omega arith;
+      offset = omega arith;
       written = sym (ap (λ x. x ++ drop c.args.from out) (append-nil (take c.args.from out))
           ∙ take-append-drop c.args.from out);
     }
@@ -40,9 +40,9 @@ fill_attribute-at-requires g c =
     let many = ap length more in
     let both = length-append rows rest in
     let room = so_far.room in
-    let place = so_far.place in
+    let offset = so_far.offset in
     let long = placed_long c.args.out.now c.attributes.out so_far.done c.args.from c.attributes.at
-    (omega (arith, room, place)) place (omega (arith, room)) so_far.written in
+    (omega (arith, room, offset)) offset (omega (arith, room)) so_far.written in
     omega (arith, room, many, both, long)
 
 pub attributes-preserved : goal.attributes-preserved
@@ -61,7 +61,7 @@ attributes-preserved g c =
     let both = length-append rows rest in
     let end = c.fill_attribute-at.ensures.end in
     let room = so_far.room in
-    let place = so_far.place in
+    let offset = so_far.offset in
     record {
       done = so_far.done ++ rows;
       more = rest;
@@ -69,8 +69,8 @@ attributes-preserved g c =
       ahead = are;
       room = omega (arith, room, end, many, both);
       whole = more_rows s e v steps.0 said (attributes_left c.args.attributes) so_far.done so_far.whole;
-      place = omega (arith, place, end, length-append so_far.done rows);
-      written = more_placed c.args.out.now _ _ so_far.done rows c.args.from _ _ (omega (arith, room, place)) place end
+      offset = omega (arith, offset, end, length-append so_far.done rows);
+      written = more_placed c.args.out.now _ _ so_far.done rows c.args.from _ _ (omega (arith, room, offset)) offset end
           so_far.written c.fill_attribute-at.ensures.out;
     }
 
@@ -80,6 +80,6 @@ returns g c =
       so_far.done,
       last_rows (attributes_session c.args.attributes) (attributes_left c.args.attributes) so_far.done
           c.in_default.ensures.steps.0.0 so_far.whole,
-      so_far.place,
+      so_far.offset,
       so_far.written ∙ append_assoc (take c.args.from c.args.out.now) so_far.done (drop _ c.args.out.now),
     )

@@ -14,7 +14,7 @@ invariant-attributes g l = record {
   room : l.at + length more ≤ length l.fn.out;
   whole : (more : List BgpRow) → AreAttributeRows (attributes_session l.fn.attributes) (attributes_left l.ahead) more
       → AreAttributeRows (attributes_session l.fn.attributes) (attributes_left l.fn.attributes) (done ++ more);
-  place : l.at ≡ l.fn.from + length done;
+  offset : l.at ≡ l.fn.from + length done;
   written : l.out ≡ (take l.fn.from l.fn.out ++ done) ++ drop l.at l.fn.out;
 }
 

@@ -16,7 +16,8 @@ returns-in-Ok-clause-utf8 g c = λ ok text is.
     c.put_lines.ensures.utf8 ok text (text_of_it (message_of c.in-Ok.message) c.in-Ok.ensures.message is)
 
 pub returns-in-Err-clause-puts : goal.returns-in-Err-clause-puts
-returns-in-Err-clause-puts g c = puts_none 2 (omega arith) (one_bgp_text (session_of c.args.session) (g.R.AsOctets.content c.args.octets))
+returns-in-Err-clause-puts g c = puts_none 2 (omega arith)
+    (one_bgp_text (session_of c.args.session) (g.R.AsOctets.content c.args.octets))
 
 pub put_lines-requires : goal.put_lines-requires
 put_lines-requires g c = record { one = one_message_text (message_of c.in-Ok.message) }

@@ -20,7 +20,7 @@ fill_attributes-at-requires g c =
     let all = ap length whole in
     let front = length-append so_far.done (rows ++ more) in
     let back = length-append rows more in
-    omega (arith, same, all, front, back, so_far.place, so_far.long, c.requires)
+    omega (arith, same, all, front, back, so_far.offset, so_far.long, c.requires)
 
 pub loop-entry-preserved : goal.loop-entry-preserved
 loop-entry-preserved g c =
@@ -36,13 +36,13 @@ loop-entry-preserved g c =
     let front = length-append so_far.done (rows ++ more) in
     let back = length-append rows more in
     let within : c.fill_attributes-at.result ≤ length c.loop-entry.out =
-    omega (arith, end, all, front, back, so_far.place, so_far.long, c.requires) in
+    omega (arith, end, all, front, back, so_far.offset, so_far.long, c.requires) in
     record {
       done = so_far.done ++ rows;
       whole = append_assoc so_far.done rows more ∙ whole;
-      place = omega (arith, end, there, so_far.place);
+      offset = omega (arith, end, there, so_far.offset);
       written = placed_after c.args.out.now c.loop-entry.out c.fill_attributes-at.new.out so_far.done rows
-          c.loop-entry.at c.fill_attributes-at.result (sym so_far.place) end so_far.written
+          c.loop-entry.at c.fill_attributes-at.result (sym so_far.offset) end so_far.written
           c.fill_attributes-at.ensures.out;
       long = copy_long c.loop-entry.out c.fill_attributes-at.new.out rows c.loop-entry.at
           c.fill_attributes-at.result end within c.fill_attributes-at.ensures.out ∙ so_far.long;

@@ -10,7 +10,7 @@ invariant-loop-entry g l = record {
   done : List BgpRow;
   whole : done ++ flat_map rows_of_attributes (entries_left l.entry-iterator)
       ≡ flat_map rows_of_attributes (entries_left l.fn.entries);
-  place : l.at ≡ length done;
+  offset : l.at ≡ length done;
   written : l.out ≡ done ++ drop l.at l.fn.out;
   long : length l.out ≡ length l.fn.out;
 }

@@ -12,7 +12,8 @@ returns g c =
     let more = map row_of_entry entries in
     let one = row_of_rib (rib_of c.args.rib.now) in
     let end = c.fill_entries-end.result in
-    let full : end ≡ length (one ∷ more) = omega (arith, c.fill_entries-end.ensures.end, length-map entries row_of_entry) in
+    let full : end ≡ length (one ∷ more) = omega
+    (arith, c.fill_entries-end.ensures.end, length-map entries row_of_entry) in
     ap (λ out. set out 0 c.rib_row.result) c.fill_entries-end.ensures.out
     ∙ first_last old (more ++ drop end old) c.rib_row.result (omega (arith, c.requires.room))
     ∙ ap (λ row. row ∷ (more ++ drop end old)) c.rib_row.ensures

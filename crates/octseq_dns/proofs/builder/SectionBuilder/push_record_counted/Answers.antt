@@ -4,7 +4,7 @@ use Rattle.octseq.specs.Limit.{IsWithin}
 use Rattle.octseq_dns_compress.specs.Composed.{message_limit}
 use Rattle.octseq_dns.specs.Contents.{record_entry}
 use Rattle.octseq_dns.specs.Pushed.{pushed_record}
-use Rattle.octseq_dns.specs.Writes.{IsBuilt, Writes, least_limit}
+use Rattle.octseq_dns.specs.Writes.{IsBuilt, ComposesMessage, least_limit}
 use Rattle.octseq_dns.proofs.Pushed.{pushed, pushed_within}
 use Rattle.octseq_dns.proofs.builder.SectionBuilder.push_record_counted.Goals as goal
 
@@ -41,7 +41,8 @@ returns-clause-written g c m is =
     pushed g.met.S.RecordSection.takes_records g.T.Compressor.most m one in'.message.state
     c.append_record.new.message.state
     c.put_header.new.self.state in'.header in'.counts _ c.octets_of.result
-    (subst (λ v. Writes g.T.Compressor.most m v.state v.header v.counts) (sym c.self.view_is) is) c.self.invariant.1
+    (subst (λ v. ComposesMessage g.T.Compressor.most m v.state v.header v.counts)
+    (sym c.self.view_is) is) c.self.invariant.1
     c.in_ok-append_record.ensures.fits c.in-Some.ensures.some.1 c.in-Some.ensures.some.0
     c.in_ok-append_record.ensures.appended.ok
     c.octets_of.ensures.octets c.put_header.ensures.state

@@ -1,6 +1,6 @@
 use Rattle.std.proofs.Common.{◌∙◌, ap, length, sym, subst}
 use Rattle.std.proofs.Math.Logic.{∥∥₁_map}
-use Rattle.octseq_dns.specs.Writes.{Writes}
+use Rattle.octseq_dns.specs.Writes.{ComposesMessage}
 use Rattle.octseq_dns.proofs.Pushed.{header_written, headed_long}
 use Rattle.octseq_dns.proofs.builder.SectionBuilder.set_header.Goals as goal
 
@@ -21,7 +21,7 @@ returns-clause-written g c m is =
     let in' = c.self.inside in
     header_written g.T.Compressor.most m in'.message.state c.put_header.new.self.state in'.header c.args.header
     in'.counts c.octets_of.result
-    (subst (λ v. Writes g.T.Compressor.most m v.state v.header v.counts) (sym c.self.view_is) is)
+    (subst (λ v. ComposesMessage g.T.Compressor.most m v.state v.header v.counts) (sym c.self.view_is) is)
     c.octets_of.ensures.fits c.octets_of.ensures.octets c.put_header.ensures.state
 
 pub returns-clause-len : goal.returns-clause-len

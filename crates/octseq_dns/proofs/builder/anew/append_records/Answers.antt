@@ -37,14 +37,16 @@ loop-listed-preserved g c =
     let all = subst (λ q. CanMove q ↔ CanMove (records_of c.args.source.now)) steps so_far.movable in
     record {
       on = onward_next so_far.on single_record steps
-          (record_is c.owner.ensures c.class-class.ensures c.ttl-ttl.ensures c.data-data.ensures.rdata) went.ok went.fits
+          (record_is c.owner.ensures c.class-class.ensures c.ttl-ttl.ensures c.data-data.ensures.rdata) went.ok
+          went.fits
           went.turns went.least;
       movable = (λ more. all.0 (moves, more), λ every. (all.1 every).1);
       opt = so_far.opt ∙ ap (λ q. c.loop-listed.has_opt || any_opt q) steps
           ∙ sym (or_assoc c.loop-listed.has_opt (nat_eq i.rtype types.opt) (any_opt (records_ahead c.next.new.self)))
           ∙ ap (λ is. c.loop-listed.has_opt || is || any_opt (records_ahead c.next.new.self))
           (sym (c.eq-has_opt.ensures ∙ ap (λ n. nat_eq n types.opt) c.rtype.ensures));
-      within = λ _. subst (λ s. IsWithin (message_limit g.B.AsOctets.limit) (length s.octets)) (sym went.ok) went.within;
+      within = λ _. subst (λ s. IsWithin (message_limit g.B.AsOctets.limit) (length s.octets))
+          (sym went.ok) went.within;
       counted = let before = so_far.counted in let more = went.on in omega (arith, before, more);
       borrows = went.borrows ∙ so_far.borrows;
     }

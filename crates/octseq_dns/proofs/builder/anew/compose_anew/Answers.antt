@@ -6,11 +6,11 @@ use Rattle.octseq_dns_message.specs.Parsed.{header_of, questions_of, answers_of,
 use Rattle.octseq_dns_message.specs.declared.header.Header.{Header}
 use Rattle.octseq_dns_message.specs.declared.header.HeaderCounts.{HeaderCounts}
 use Rattle.octseq_dns.specs.Appended.{Appended}
-use Rattle.octseq_dns.specs.Contents.{FitsHeader, FitsQuestion, FitsRecord, Message, headed, question_entry}
+use Rattle.octseq_dns.specs.Contents.{FitsHeader, FitsQuestion, FitsRecord, Message, with_only_header, question_entry}
 use Rattle.octseq_dns.specs.Contents.{record_entry, records_in}
 use Rattle.octseq_dns.specs.Labels.{question_labels, record_labels}
 use Rattle.octseq_dns.specs.Rewritten.{IsMessageOf, IsQuestionOf, IsRecordOf}
-use Rattle.octseq_dns.specs.Writes.{Writes}
+use Rattle.octseq_dns.specs.Writes.{ComposesMessage}
 use Rattle.octseq_dns.proofs.Stages.{contents_of, counts_are, past_twelve, questions_zip, records_zip}
 use Rattle.octseq_dns.proofs.WrittenWhole.{asked_past, whole_past, whole_written}
 use Rattle.octseq_dns.proofs.builder.anew.compose_anew.Goals as goal
@@ -19,11 +19,11 @@ use Rattle.octseq_dns.proofs.builder.anew.compose_anew.Goals as goal
 written : {most : ℕ} {first second third : State} {h header : Header} {counts : HeaderCounts} {q : List entry.Question}
     {a n d : List entry.Record} {m : Message} {from then to : ℕ} → IsMessageOf h q a n d m → header ≡ h
     → counts.qdcount ≡ length q → counts.ancount ≡ length a → counts.nscount ≡ length n → counts.arcount ≡ length d
-    → first ≡ headed header counts → FitsHeader header
+    → first ≡ with_only_header header counts → FitsHeader header
     → Appended IsQuestionOf question_entry question_labels FitsQuestion most q first second from then
     → Appended IsRecordOf record_entry record_labels FitsRecord most (a ++ (n ++ d)) second third then to
     → counts.qdcount ≤ 65535 → counts.ancount ≤ 65535 → counts.nscount ≤ 65535 → counts.arcount ≤ 65535
-    → Writes most m third header counts
+    → ComposesMessage most m third header counts
 written {m = m} is header_is qdcount ancount nscount arcount begun fits asked listed =
     let questions = questions_zip is in
     let records = records_zip is in
@@ -33,7 +33,8 @@ written {m = m} is header_is qdcount ancount nscount arcount begun fits asked li
 
 pub returns-in_err-message-clause-short : goal.returns-in_err-message-clause-short
 returns-in_err-message-clause-short g c short m is =
-    past_twelve (message_limit g.B.AsOctets.limit) g.T.Compressor.most m (c.in_err-message.ensures.short (search (rules, short)))
+    past_twelve (message_limit g.B.AsOctets.limit) g.T.Compressor.most m
+    (c.in_err-message.ensures.short (search (rules, short)))
 
 pub returns-in_err-append_questions-clause-short : goal.returns-in_err-append_questions-clause-short
 returns-in_err-append_questions-clause-short g c short m is =

@@ -1,6 +1,6 @@
 use Rattle.std.proofs.Common.{◌+◌, ◌∷◌, [], ap, ◌∙◌, sym, subst, length}
 use Rattle.std.proofs.Common.{length-append}
-use Rattle.octseq.specs.Limit.{IsPast, IsWithin}
+use Rattle.octseq.specs.Limit.{ExceedsLimit, IsWithin}
 use Rattle.octseq_dns_compress.specs.Composed.{message_limit}
 use Rattle.octseq_dns_compress.specs.State.{with_counted, with_fields}
 use Rattle.octseq_dns_compress.proofs.Fields.{count_is_put, counted_length, counted_longer}
@@ -20,7 +20,7 @@ returns-in-Err-compose-clause-short g c =
     let s = c.args.message.now.state in
     let fields = g.D.ComposeRecordData.fields c.args.rdata.now in
     let most = g.T.Compressor.most in
-    λ short. subst (IsPast (message_limit g.B.AsOctets.limit))
+    λ short. subst (ExceedsLimit (message_limit g.B.AsOctets.limit))
     (ap (λ from. length (with_fields most from fields).octets) c.in_default.ensures.ok
     ∙ sym (counted_length most s fields)) (c.in-Err-compose.ensures.composed.short short)
 

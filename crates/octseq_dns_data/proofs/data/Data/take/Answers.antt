@@ -1,6 +1,6 @@
 use Rattle.std.proofs.Common.{refl, rules}
 use Rattle.octseq.specs.Parser.{window}
-use Rattle.octseq_dns_data.specs.Data.{ParsedRdata, HasOctets, HasMx, HasNaptr, HasSoa, HasSrv}
+use Rattle.octseq_dns_data.specs.Data.{ParsedRdata, HasOctetCount, HasMx, HasNaptr, HasSoa, HasSrv}
 use Rattle.octseq_dns_name.specs.Name.{HasName}
 use Rattle.octseq_dns_data.proofs.Rdata.{Kind, none_by, none_made, no_mx, no_naptr, no_soa, no_srv}
 use Rattle.octseq_dns_data.proofs.data.Data.take.Goals as goal
@@ -39,13 +39,13 @@ pub returns-in_err-parse-clause-malformed : goal.returns-in_err-parse-clause-mal
 returns-in_err-parse-clause-malformed g c = λ _ _.
     let w = window c.args.parser.now in
     none_by Kind.of_a c.args.rtype c.args.class w (search rules)
-    (none_made ParsedRdata.a (HasOctets 4) w (c.in_err-parse.ensures.malformed refl))
+    (none_made ParsedRdata.a (HasOctetCount 4) w (c.in_err-parse.ensures.malformed refl))
 
 pub returns-in_err-parse-2-clause-malformed : goal.returns-in_err-parse-2-clause-malformed
 returns-in_err-parse-2-clause-malformed g c = λ _ _.
     let w = window c.args.parser.now in
     none_by Kind.of_aaaa c.args.rtype c.args.class w (search rules)
-    (none_made ParsedRdata.aaaa (HasOctets 16) w (c.in_err-parse-2.ensures.malformed refl))
+    (none_made ParsedRdata.aaaa (HasOctetCount 16) w (c.in_err-parse-2.ensures.malformed refl))
 
 pub returns-in_err-parse_counted-6-clause-malformed : goal.returns-in_err-parse_counted-6-clause-malformed
 returns-in_err-parse_counted-6-clause-malformed g c = λ _ _.

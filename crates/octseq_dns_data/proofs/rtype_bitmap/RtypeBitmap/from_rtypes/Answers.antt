@@ -1,14 +1,14 @@
 use Rattle.std.proofs.Common.{◌∙◌, ℕ, ◌<◌, ◌↔◌, List, length, sym, ap, subst}
 use Rattle.std.specs.List.{Contains}
-use Rattle.octseq.specs.Limit.{IsPast}
+use Rattle.octseq.specs.Limit.{ExceedsLimit}
 use Rattle.octseq_dns_data.specs.RtypeBitmap.{IsRtypeBitmap, types_of}
 use Rattle.octseq_dns_data.proofs.rtype_bitmap.RtypeBitmap.from_rtypes.Goals as goal
 
 pub returns-then-is_past-clause-short : goal.returns-then-is_past-clause-short
 returns-then-is_past-clause-short g c =
     let long = c.len.ensures.content ∙ ap length c.octets_of-octets.ensures.octets in
-    let past : IsPast g.B.AsOctets.limit c.len.result = c.is_past.ensures.past c.if-is_past.true in
-    (λ _. subst (IsPast g.B.AsOctets.limit) long past, λ _. tt)
+    let past : ExceedsLimit g.B.AsOctets.limit c.len.result = c.is_past.ensures.past c.if-is_past.true in
+    (λ _. subst (ExceedsLimit g.B.AsOctets.limit) long past, λ _. tt)
 
 pub copied-requires-clause-bitmap : goal.copied-requires-clause-bitmap
 copied-requires-clause-bitmap g c =

@@ -43,7 +43,8 @@ hints-preserved g c = λ plain.
       so_far.0 ++ text,
       has_written_append _ _ _ _ _ _ so_far.1 (has_written_append _ _ _ _ _ _ comma one),
       append_assoc so_far.0 text (flat_map (λ item. 44 ∷ ipv6_address_text item) (pieces (split_octets 16) more))
-          ∙ ap (λ ahead. so_far.0 ++ ahead) (more_text (split_octets 16) moving (λ item. 44 ∷ ipv6_address_text item) ahead
+          ∙ ap (λ ahead. so_far.0 ++ ahead)
+          (more_text (split_octets 16) moving (λ item. 44 ∷ ipv6_address_text item) ahead
           item more
           c.in-Ok-take_octets.ensures.octets) ∙ so_far.2,
     )

@@ -12,5 +12,6 @@ at-requires g c =
 pub returns : goal.returns
 returns g c =
     let self = c.args.self.now in
-    subst (λ w. (held : Holds IsRecord w self.header.counts.arcount) → records_left c.at.result ≡ held.0) c.parser_at.ensures
+    subst (λ w. (held : Holds IsRecord w self.header.counts.arcount)
+    → records_left c.at.result ≡ held.0) c.parser_at.ensures
     c.at.ensures self.added

@@ -1,6 +1,6 @@
 use Rattle.std.proofs.Common.{ℕ, suc, ◌≡◌, ◌+◌, ◌*◌, ◌≤◌, length, sym, ap, subst, refl, arith, rules}
 use Rattle.octseq_dns_message.specs.AliasTurns.{alias_turns, chain_turns}
-use Rattle.octseq_dns_message.specs.Canonical.{Chain, LeadsTo}
+use Rattle.octseq_dns_message.specs.Canonical.{Chain, IsAliasOf}
 use Rattle.octseq_dns_message.specs.Parsed.{questions_of, answers_of}
 use Rattle.octseq_dns_message.specs.Said.{question_of}
 use Rattle.octseq_dns_message.proofs.Aliases.{alias_takes, canonical_of, canonical_takes, chain_more, more_turns}
@@ -14,9 +14,9 @@ returns-in-None-clause-canonical g c =
     let answers = answers_of c.args.self.now in
     let question = question_of c.in_ok-question.question in
     let last = name_of c.loop-followed.name in
-    let end : (target : _) → LeadsTo c.qclass-class.result answers last target → ⊥ =
+    let end : (target : _) → IsAliasOf c.qclass-class.result answers last target → ⊥ =
     λ target leads. c.in-None.ensures.none refl target
-    (subst (λ records. LeadsTo c.qclass-class.result records last target) (sym c.answers.ensures) leads) in
+    (subst (λ records. IsAliasOf c.qclass-class.result records last target) (sym c.answers.ensures) leads) in
     let chain = so_far.on 0 last (refl, end) in
     let named = subst (λ name. Chain c.qclass-class.result answers (c.loop-followed.followed + 0) name last)
     c.qname-name.ensures chain in
@@ -34,9 +34,9 @@ returns-in-None-clause-least g c =
     let last = name_of c.loop-followed.name in
     let old = c.args.turns.now in
     let now = c.alias_target.new.turns in
-    let end : (target : _) → LeadsTo class answers last target → ⊥ =
+    let end : (target : _) → IsAliasOf class answers last target → ⊥ =
     λ target leads. c.in-None.ensures.none refl target
-    (subst (λ records. LeadsTo class records last target) (sym c.answers.ensures) leads) in
+    (subst (λ records. IsAliasOf class records last target) (sym c.answers.ensures) leads) in
     let passed = c.in-None.ensures.all refl in
     let same = ap length c.answers.ensures in
     let took : (m : ℕ) (is : Chain class answers m (name_of c.qname-name.result) last)
@@ -72,9 +72,9 @@ loop-followed-preserved g c =
     let class = c.qclass-class.result in
     let name = name_of c.loop-followed.name in
     let target = name_of c.in-Some.target in
-    let leads : LeadsTo class answers name target =
-    subst (λ records. LeadsTo class records name target) c.answers.ensures c.in-Some.ensures.target in
-    let took = subst (λ records. (is : LeadsTo class records name target)
+    let leads : IsAliasOf class answers name target =
+    subst (λ records. IsAliasOf class records name target) c.answers.ensures c.in-Some.ensures.target in
+    let took = subst (λ records. (is : IsAliasOf class records name target)
     → c.loop-followed.turns + alias_turns class records name target is ≤ c.alias_target.new.turns)
     c.answers.ensures c.in-Some.ensures.least leads in
     record {

@@ -20,48 +20,48 @@ returns-in_err-header-clause-malformed g c = λ _.
     no_header (g.R.AsOctets.content c.args.octets) (subst NoHeader c.from_ref-parser.ensures.window
     (c.in_err-header.ensures.malformed refl))
 
-pub returns-in_err-pass_questions-clause-malformed : goal.returns-in_err-pass_questions-clause-malformed
-returns-in_err-pass_questions-clause-malformed g c = λ _.
+pub returns-in_err-read_questions-clause-malformed : goal.returns-in_err-read_questions-clause-malformed
+returns-in_err-read_questions-clause-malformed g c = λ _.
     let v = window c.parse.new.parser in
     let h = fields_of c.in_ok-header.header in
     let counts = c.in_ok-header.header.counts in
     let is = subst (λ w. IsHeader w h counts v) c.from_ref-parser.ensures.window c.in_ok-header.ensures.header in
-    no_questions (g.R.AsOctets.content c.args.octets) h counts v is (c.in_err-pass_questions.ensures.malformed refl)
+    no_questions (g.R.AsOctets.content c.args.octets) h counts v is (c.in_err-read_questions.ensures.malformed refl)
 
-pub returns-in_err-pass_records-clause-malformed : goal.returns-in_err-pass_records-clause-malformed
-returns-in_err-pass_records-clause-malformed g c = λ _.
+pub returns-in_err-read_records-clause-malformed : goal.returns-in_err-read_records-clause-malformed
+returns-in_err-read_records-clause-malformed g c = λ _.
     let v = window c.parse.new.parser in
     let h = fields_of c.in_ok-header.header in
     let counts = c.in_ok-header.header.counts in
     let is = subst (λ w. IsHeader w h counts v) c.from_ref-parser.ensures.window c.in_ok-header.ensures.header in
-    let asked = c.in_ok-pass_questions.ensures.all in
-    no_answers (g.R.AsOctets.content c.args.octets) h counts v is asked.0 (window c.pass_questions.new.parser) asked.1
-    (c.in_err-pass_records.ensures.malformed refl)
+    let asked = c.in_ok-read_questions.ensures.all in
+    no_answers (g.R.AsOctets.content c.args.octets) h counts v is asked.0 (window c.read_questions.new.parser) asked.1
+    (c.in_err-read_records.ensures.malformed refl)
 
-pub returns-in_err-pass_records-2-clause-malformed : goal.returns-in_err-pass_records-2-clause-malformed
-returns-in_err-pass_records-2-clause-malformed g c = λ _.
+pub returns-in_err-read_records-2-clause-malformed : goal.returns-in_err-read_records-2-clause-malformed
+returns-in_err-read_records-2-clause-malformed g c = λ _.
     let v = window c.parse.new.parser in
     let h = fields_of c.in_ok-header.header in
     let counts = c.in_ok-header.header.counts in
     let is = subst (λ w. IsHeader w h counts v) c.from_ref-parser.ensures.window c.in_ok-header.ensures.header in
-    let asked = c.in_ok-pass_questions.ensures.all in
-    let answered = c.in_ok-pass_records.ensures.all in
+    let asked = c.in_ok-read_questions.ensures.all in
+    let answered = c.in_ok-read_records.ensures.all in
     no_authorities (g.R.AsOctets.content c.args.octets) h counts v is asked.0
-    (window c.pass_questions.new.parser) asked.1 answered.0 (window c.pass_records.new.parser) answered.1
-    (c.in_err-pass_records-2.ensures.malformed refl)
+    (window c.read_questions.new.parser) asked.1 answered.0 (window c.read_records.new.parser) answered.1
+    (c.in_err-read_records-2.ensures.malformed refl)
 
-pub returns-in_err-pass_records-3-clause-malformed : goal.returns-in_err-pass_records-3-clause-malformed
-returns-in_err-pass_records-3-clause-malformed g c = λ _.
+pub returns-in_err-read_records-3-clause-malformed : goal.returns-in_err-read_records-3-clause-malformed
+returns-in_err-read_records-3-clause-malformed g c = λ _.
     let v = window c.parse.new.parser in
     let h = fields_of c.in_ok-header.header in
     let counts = c.in_ok-header.header.counts in
     let is = subst (λ w. IsHeader w h counts v) c.from_ref-parser.ensures.window c.in_ok-header.ensures.header in
-    let asked = c.in_ok-pass_questions.ensures.all in
-    let answered = c.in_ok-pass_records.ensures.all in
-    let authorized = c.in_ok-pass_records-2.ensures.all in
+    let asked = c.in_ok-read_questions.ensures.all in
+    let answered = c.in_ok-read_records.ensures.all in
+    let authorized = c.in_ok-read_records-2.ensures.all in
     no_additionals (g.R.AsOctets.content c.args.octets) h counts v is asked.0
-    (window c.pass_questions.new.parser) asked.1 answered.0 (window c.pass_records.new.parser) answered.1
-    authorized.0 (window c.pass_records-2.new.parser) authorized.1 (c.in_err-pass_records-3.ensures.malformed refl)
+    (window c.read_questions.new.parser) asked.1 answered.0 (window c.read_records.new.parser) answered.1
+    authorized.0 (window c.read_records-2.new.parser) authorized.1 (c.in_err-read_records-3.ensures.malformed refl)
 
 pub returns-then-remaining-gt0-clause-malformed : goal.returns-then-remaining-gt0-clause-malformed
 returns-then-remaining-gt0-clause-malformed g c = λ _.
@@ -69,22 +69,22 @@ returns-then-remaining-gt0-clause-malformed g c = λ _.
     let h = fields_of c.in_ok-header.header in
     let counts = c.in_ok-header.header.counts in
     let is = subst (λ w. IsHeader w h counts v) c.from_ref-parser.ensures.window c.in_ok-header.ensures.header in
-    let asked = c.in_ok-pass_questions.ensures.all in
-    let answered = c.in_ok-pass_records.ensures.all in
-    let authorized = c.in_ok-pass_records-2.ensures.all in
-    let added = c.in_ok-pass_records-3.ensures.all in
+    let asked = c.in_ok-read_questions.ensures.all in
+    let answered = c.in_ok-read_records.ensures.all in
+    let authorized = c.in_ok-read_records-2.ensures.all in
+    let added = c.in_ok-read_records-3.ensures.all in
     let rest = c.remaining-2.ensures.left in
     let more = c.if-remaining-gt0.true in
-    some_after (g.R.AsOctets.content c.args.octets) h counts v (window c.pass_records-3.new.parser) (
+    some_after (g.R.AsOctets.content c.args.octets) h counts v (window c.read_records-3.new.parser) (
       asked.0,
       (answered.0, (authorized.0, added.0)),
     ) is (
-      window c.pass_questions.new.parser,
+      window c.read_questions.new.parser,
       asked.1,
       (
-        window c.pass_records.new.parser,
+        window c.read_records.new.parser,
         answered.1,
-        (window c.pass_records-2.new.parser, authorized.1, added.1),
+        (window c.read_records-2.new.parser, authorized.1, added.1),
       ),
     )
     (omega (arith, rest, more))
@@ -102,14 +102,14 @@ pub invariant_of-result : goal.invariant_of-result
 invariant_of-result g c =
     let octets = g.R.AsOctets.content c.args.octets in
     let counts = c.in_ok-header.header.counts in
-    let asked = c.in_ok-pass_questions.ensures.all in
-    let answered = c.in_ok-pass_records.ensures.all in
-    let authorized = c.in_ok-pass_records-2.ensures.all in
-    let added = c.in_ok-pass_records-3.ensures.all in
-    let x = window c.pass_questions.new.parser in
-    let y = window c.pass_records.new.parser in
-    let z = window c.pass_records-2.new.parser in
-    let end = window c.pass_records-3.new.parser in
+    let asked = c.in_ok-read_questions.ensures.all in
+    let answered = c.in_ok-read_records.ensures.all in
+    let authorized = c.in_ok-read_records-2.ensures.all in
+    let added = c.in_ok-read_records-3.ensures.all in
+    let x = window c.read_questions.new.parser in
+    let y = window c.read_records.new.parser in
+    let z = window c.read_records-2.new.parser in
+    let end = window c.read_records-3.new.parser in
     let p1 = after_header octets _ (window c.parse.new.parser) _ counts c.from_ref-parser.ensures.window
     c.in_ok-header.ensures.header in
     let p2 = next_at onward_question octets _ asked.0 x p1 asked.1.1 in
@@ -142,25 +142,26 @@ returns-clause-message g c =
     let h = fields_of c.in_ok-header.header in
     let counts = c.in_ok-header.header.counts in
     let kept = c.result-1.given in
-    let asked = c.in_ok-pass_questions.ensures.all in
-    let answered = c.in_ok-pass_records.ensures.all in
-    let authorized = c.in_ok-pass_records-2.ensures.all in
-    let added = c.in_ok-pass_records-3.ensures.all in
+    let asked = c.in_ok-read_questions.ensures.all in
+    let answered = c.in_ok-read_records.ensures.all in
+    let authorized = c.in_ok-read_records-2.ensures.all in
+    let added = c.in_ok-read_records-3.ensures.all in
     let p1 = after_header octets _ (window c.parse.new.parser) _ counts c.from_ref-parser.ensures.window
     c.in_ok-header.ensures.header in
-    let p2 = next_at onward_question octets _ asked.0 (window c.pass_questions.new.parser) p1 asked.1.1 in
-    let p3 = next_at onward_record octets _ answered.0 (window c.pass_records.new.parser) p2 answered.1.1 in
-    let p4 = next_at onward_record octets _ authorized.0 (window c.pass_records-2.new.parser) p3 authorized.1.1 in
+    let p2 = next_at onward_question octets _ asked.0 (window c.read_questions.new.parser) p1 asked.1.1 in
+    let p3 = next_at onward_record octets _ answered.0 (window c.read_records.new.parser) p2 answered.1.1 in
+    let p4 = next_at onward_record octets _ authorized.0 (window c.read_records-2.new.parser) p3 authorized.1.1 in
     let e1 = at_place octets _ c.pos-questions.result p1 c.pos-questions.ensures.position in
     let e2 = at_place octets _ c.pos-answers.result p2 c.pos-answers.ensures.position in
     let e3 = at_place octets _ c.pos-authorities.result p3 c.pos-authorities.ensures.position in
     let e4 = at_place octets _ c.pos-additionals.result p4 c.pos-additionals.ensures.position in
     let w = window c.parse.new.parser in
-    let x = window c.pass_questions.new.parser in
-    let y = window c.pass_records.new.parser in
-    let z = window c.pass_records-2.new.parser in
-    let end = window c.pass_records-3.new.parser in
-    let q = subst (λ row. Many counts.qdcount IsQuestion w row x) (held_at question_code IsQuestion one_question w _ x e1
+    let x = window c.read_questions.new.parser in
+    let y = window c.read_records.new.parser in
+    let z = window c.read_records-2.new.parser in
+    let end = window c.read_records-3.new.parser in
+    let q = subst (λ row. Many counts.qdcount IsQuestion w row x)
+    (held_at question_code IsQuestion one_question w _ x e1
     counts.qdcount asked.0 kept.0 asked.1) asked.1 in
     let a = subst (λ row. Many counts.ancount IsRecord x row y) (held_at record_code IsRecord one_record x _ y e2
     counts.ancount answered.0 kept.1.0 answered.1) answered.1 in
@@ -187,8 +188,8 @@ pub returns-clause-least : goal.returns-clause-least
 unfolding returns-clause-message
 returns-clause-least g c =
     let row = (returns-clause-message g c).sections_are in
-    let q = c.in_ok-pass_questions.ensures.least _ _ row.1 in
-    let a = c.in_ok-pass_records.ensures.least _ _ row.2.1 in
-    let b = c.in_ok-pass_records-2.ensures.least _ _ row.2.2.1 in
-    let d = c.in_ok-pass_records-3.ensures.least _ _ row.2.2.2 in
+    let q = c.in_ok-read_questions.ensures.least _ _ row.1 in
+    let a = c.in_ok-read_records.ensures.least _ _ row.2.1 in
+    let b = c.in_ok-read_records-2.ensures.least _ _ row.2.2.1 in
+    let d = c.in_ok-read_records-3.ensures.least _ _ row.2.2.2 in
     omega (arith, q, a, b, d)

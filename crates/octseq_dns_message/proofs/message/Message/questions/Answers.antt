@@ -12,5 +12,6 @@ at-requires g c =
 pub returns : goal.returns
 returns g c =
     let self = c.args.self.now in
-    subst (λ w. (held : Holds IsQuestion w self.header.counts.qdcount) → questions_left c.at.result ≡ held.0) c.parser_at.ensures
+    subst (λ w. (held : Holds IsQuestion w self.header.counts.qdcount)
+    → questions_left c.at.result ≡ held.0) c.parser_at.ensures
     c.at.ensures self.asked

@@ -1,6 +1,6 @@
 use Rattle.std.proofs.Common.{◌+◌, ◌≤◌, inr, length, sym, ap, subst, refl, arith, rules}
 use Rattle.octseq_dns_message.specs.AliasTurns.{alias_turns}
-use Rattle.octseq_dns_message.specs.Canonical.{LeadsTo}
+use Rattle.octseq_dns_message.specs.Canonical.{IsAliasOf}
 use Rattle.octseq_dns_message.specs.Said.{record_of}
 use Rattle.octseq_dns_message.specs.Walk.{records_left}
 use Rattle.octseq_dns_message.proofs.Aliases.{passed_over, found_first, found_later, same_alias_turns}
@@ -18,11 +18,11 @@ loop-entry-init g c =
     record {
       ready = search rules;
       finite = search rules;
-      on = λ target leads. subst (λ walk. LeadsTo class (records_left walk) name target) gives leads;
-      back = λ target leads. subst (λ walk. LeadsTo class (records_left walk) name target) (sym gives) leads;
+      on = λ target leads. subst (λ walk. IsAliasOf class (records_left walk) name target) gives leads;
+      back = λ target leads. subst (λ walk. IsAliasOf class (records_left walk) name target) (sym gives) leads;
       some = omega arith;
-      least = subst (λ walk. (target : Name) (left : LeadsTo class (records_left walk) name target)
-          (whole : LeadsTo class all name target) → c.args.turns.now + alias_turns class all name target whole
+      least = subst (λ walk. (target : Name) (left : IsAliasOf class (records_left walk) name target)
+          (whole : IsAliasOf class all name target) → c.args.turns.now + alias_turns class all name target whole
           ≤ c.args.turns.now + alias_turns class (records_left walk) name target left) (sym gives)
           (λ target left whole.
           let same = same_alias_turns class all name target target whole left in omega (arith, same));
@@ -42,11 +42,11 @@ loop-entry-preserved g c =
     record {
       ready = so_far.ready;
       finite = so_far.finite;
-      on = λ target leads. so_far.on target (subst (λ records. LeadsTo c.args.class records name target) (sym steps)
+      on = λ target leads. so_far.on target (subst (λ records. IsAliasOf c.args.class records name target) (sym steps)
           (inr (none, leads)));
       back = λ target leads. passed_over c.args.class (record_of c.in-Some.entry) (records_left c.next.new.self) name
           target none
-          (subst (λ records. LeadsTo c.args.class records name target) steps (so_far.back target leads));
+          (subst (λ records. IsAliasOf c.args.class records name target) steps (so_far.back target leads));
       some = let before = so_far.some in omega (arith, before, tick, some);
       least = λ target left whole.
           let one = found_later c.args.class (record_of c.in-Some.entry) (records_left c.loop-entry.entry-iterator)

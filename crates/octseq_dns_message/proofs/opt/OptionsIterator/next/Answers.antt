@@ -1,7 +1,7 @@
 use Rattle.std.proofs.Common.{refl, sym, subst, arith}
 use Rattle.octseq.specs.Parser.{window}
 use Rattle.octseq_dns_message.specs.Edns.{option_of}
-use Rattle.octseq_dns_data.specs.OneRow.{Reaches}
+use Rattle.octseq_dns_data.specs.OneRow.{IsRowTo}
 use Rattle.octseq_dns_message.specs.OneOption.{option_code, option_item, option_parts}
 use Rattle.octseq_dns_message.specs.Opt.{HasOption}
 use Rattle.octseq_dns_message.proofs.Options.{option_found, option_is}
@@ -38,7 +38,7 @@ invariant_of-self g c =
     let option = option_of c.in-Ok.option in
     let is = option_is w (option.code, option.octets) u c.in-Ok.ensures.value in
     record {
-      ahead = subst (Reaches HasOption u) (sym (option_item.ends w option u is))
+      ahead = subst (IsRowTo HasOption u) (sym (option_item.ends w option u is))
           (reached_more option_code HasOption option_item w u w.end option self.ahead
           (λ same. omega (arith, left, some, same)) is);
     }

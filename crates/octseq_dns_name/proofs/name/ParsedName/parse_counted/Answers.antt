@@ -2,7 +2,7 @@ use Rattle.std.proofs.Common.{refl, sym, ap, ◌∙◌, subst}
 use Rattle.octseq.specs.Parser.{window}
 use Rattle.octseq.specs.Window.{at}
 use Rattle.octseq_dns_name.specs.Name.{IsName}
-use Rattle.octseq_dns_name.specs.Pass.{NoName, Ends}
+use Rattle.octseq_dns_name.specs.Pass.{NoName, NameEnds}
 use Rattle.octseq_dns_name.proofs.Names.{named_as}
 use Rattle.octseq_dns_name.proofs.Passes.{own_window, ends_counted}
 use Rattle.octseq_dns_name.proofs.name.ParsedName.parse_counted.Goals as goal
@@ -17,7 +17,7 @@ pub invariant_of-name : goal.invariant_of-name
 invariant_of-name g c =
     let w = window c.args.parser.now in
     let octets = c.as_ref.ensures.value ∙ ap g.R.AsOctets.content c.octets_ref-octets.ensures in
-    let ends = subst (λ w. Ends w c.in-Some.after c.in-Some.len c.args.turns.now c.name_end.new.turns)
+    let ends = subst (λ w. NameEnds w c.in-Some.after c.in-Some.len c.args.turns.now c.name_end.new.turns)
     (own_window w c.as_ref.result.now c.pos-place.result c.len-end.result octets c.pos-place.ensures.position
     c.len-end.ensures.end) c.in-Some.ensures.some in
     record { named = (ends.labels, ∣ (at c.in-Some.after w, ends.name) ∣₁); measured = ends.size }
@@ -26,7 +26,7 @@ pub returns-clause-name : goal.returns-clause-name
 returns-clause-name g c =
     let w = window c.args.parser.now in
     let octets = c.as_ref.ensures.value ∙ ap g.R.AsOctets.content c.octets_ref-octets.ensures in
-    let ends = subst (λ w. Ends w c.in-Some.after c.in-Some.len c.args.turns.now c.name_end.new.turns)
+    let ends = subst (λ w. NameEnds w c.in-Some.after c.in-Some.len c.args.turns.now c.name_end.new.turns)
     (own_window w c.as_ref.result.now c.pos-place.result c.len-end.result octets c.pos-place.ensures.position
     c.len-end.ensures.end) c.in-Some.ensures.some in
     let end = at c.in-Some.after w in
@@ -38,7 +38,7 @@ pub returns-clause-counted : goal.returns-clause-counted
 returns-clause-counted g c = λ labels end name.
     let w = window c.args.parser.now in
     let octets = c.as_ref.ensures.value ∙ ap g.R.AsOctets.content c.octets_ref-octets.ensures in
-    let ends = subst (λ w. Ends w c.in-Some.after c.in-Some.len c.args.turns.now c.name_end.new.turns)
+    let ends = subst (λ w. NameEnds w c.in-Some.after c.in-Some.len c.args.turns.now c.name_end.new.turns)
     (own_window w c.as_ref.result.now c.pos-place.result c.len-end.result octets c.pos-place.ensures.position
     c.len-end.ensures.end) c.in-Some.ensures.some in
     ends_counted w c.in-Some.after c.in-Some.len c.args.turns.now c.name_end.new.turns ends labels end name

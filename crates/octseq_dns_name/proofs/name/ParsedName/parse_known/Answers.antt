@@ -8,4 +8,4 @@ pub returns-clause-name : goal.returns-clause-name
 returns-clause-name g c =
     let w = window c.args.parser.now in
     let named = c.result-1.given.0 in
-    ∥∥₁_elim named.1 ∥∥₁_prop (λ x. ∣ subst (IsName w named.0) (c.pass_known.ensures.end named.0 x.0 x.1) x.1 ∣₁)
+    ∥∥₁_elim named.1 ∥∥₁_prop (λ x. ∣ subst (IsName w named.0) (c.skip_known.ensures.end named.0 x.0 x.1) x.1 ∣₁)

@@ -16,13 +16,14 @@ returns-then-end-at-lt2-clause-none c = λ _.
 pub returns-clause-none : goal.returns-clause-none
 returns-clause-none c = λ no.
     none_before c.args.octets.now c.args.at c.args.end c.args.start c.requires.within c.requires.ordered
-    c.place_at.result c.if-end-at-lt2.false c.place_at.ensures (let late : c.args.start ≤ c.place_at.result = search rules in late)
+    c.pointer_target.result c.if-end-at-lt2.false c.pointer_target.ensures
+    (let late : c.args.start ≤ c.pointer_target.result = search rules in late)
 
 pub returns-clause-some : goal.returns-clause-some
 returns-clause-some c = λ yes.
     let whole = c.if-end-at-lt2.false in
-    let same = c.place_at.ensures in
-    let before : c.place_at.result < c.args.start = search rules in
+    let same = c.pointer_target.ensures in
+    let before : c.pointer_target.result < c.args.start = search rules in
     pointer_there c.args.octets.now c.args.at c.args.end c.args.start c.requires.within c.requires.ordered
     (place_in c.args.octets.now c.args.at) (omega (arith, whole)) c.if-octets-at-lt192.false refl
     (omega (arith, same, before))

@@ -8,7 +8,8 @@ loop-other-preserved g c =
     let reported : IsTrue c.label_eq.result = search rules in
     starts_on (label_octets c.in-Some-next.label) (label_octets c.in-Some.other) (labels_left c.loop-other.ahead)
     (labels_left c.loop-other.other-iterator) (labels_left c.next-in-loop-other.new.self)
-    (labels_left c.next.new.self) c.in-Some-next.ensures.steps.0 c.in-Some.ensures.steps.0 (c.label_eq.ensures.0 reported)
+    (labels_left c.next.new.self) c.in-Some-next.ensures.steps.0 c.in-Some.ensures.steps.0
+    (c.label_eq.ensures.0 reported)
     c.loop-other.invariant
 
 pub returns : goal.returns

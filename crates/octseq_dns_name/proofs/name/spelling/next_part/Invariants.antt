@@ -1,11 +1,11 @@
 -- The octets so far are read, and what is ahead follows them.
 use Rattle.std.proofs.Common.{◌≤◌, length}
-use Rattle.octseq_dns_name.specs.Refused.{Reads}
+use Rattle.octseq_dns_name.specs.Refused.{ReadsLabelPart}
 use Rattle.octseq_dns_name.proofs.name.spelling.next_part.Given as goal
 
 abbrev pub invariant-octets : goal.invariant-octets
 invariant-octets l = record {
-  reads : Reads l.fn.text l.label.content l.ahead;
+  reads : ReadsLabelPart l.fn.text l.label.content l.ahead;
   short : length l.label.content ≤ 63;
 }
 

@@ -2,7 +2,7 @@ use Rattle.std.proofs.Common.{◌≡◌, ◌+◌, ◌<◌, ◌≤◌, [], ◌∷
 use Rattle.std.proofs.lemmas.List.{flat_map_more, length-append}
 use Rattle.octseq_dns_name.specs.Name.{wire_length}
 use Rattle.octseq_dns_name.specs.NameFormat.{bodies}
-use Rattle.octseq_dns_name.specs.Refused.{Reads}
+use Rattle.octseq_dns_name.specs.Refused.{ReadsLabelPart}
 use Rattle.octseq_dns_name.proofs.Names.{wire_append}
 use Rattle.octseq_dns_name.proofs.SpellingSteps.{read_label}
 use Rattle.octseq_dns_name.proofs.Wires.{bodies_length}
@@ -11,7 +11,8 @@ use Rattle.octseq_dns_name.proofs.name.spelling.read_labels.Goals as goal
 pub returns-in_default-clause-ok : goal.returns-in_default-clause-ok
 returns-in_default-clause-ok c =
     let so_far = c.labels.invariant in
-    let last : Reads c.labels.ahead.now c.in_ok-label.label.content [] = rw c.in_default.is at c.in_ok-label.ensures.ok in
+    let last : ReadsLabelPart c.labels.ahead.now c.in_ok-label.label.content [] = rw c.in_default.is at
+    c.in_ok-label.ensures.ok in
     (so_far.done, so_far.appended, (c.labels.ahead.now, so_far.reads, last, c.in_ok-label.ensures.short))
 
 pub returns-then-not-has_room-clause-refused : goal.returns-then-not-has_room-clause-refused
@@ -26,8 +27,12 @@ returns-then-not-has_room-clause-refused c =
     let both = wire_append so_far.done (label ∷ []) in
     let long : 255 < length octets + 1 + length c.as_slice-slice.result.now + 1 = search rules in
     let past : 255 < wire_length (so_far.done ++ label ∷ []) = omega (arith, long, size, all, is, both) in
-    let read : Reads c.labels.ahead.now label (46 ∷ c.in-Some.rest.now) = search rules in
-    (so_far.done, c.labels.ahead.now, so_far.reads, (label, c.in-Some.rest.now, read, some, c.in_ok-label.ensures.short, past))
+    let read : ReadsLabelPart c.labels.ahead.now label (46 ∷ c.in-Some.rest.now) = search rules in (
+      so_far.done,
+      c.labels.ahead.now,
+      so_far.reads,
+      (label, c.in-Some.rest.now, read, some, c.in_ok-label.ensures.short, past),
+    )
 
 pub labels-preserved : goal.labels-preserved
 labels-preserved c =
@@ -46,7 +51,7 @@ labels-preserved c =
     ∙ flat_map_more (λ l. length l ∷ l) [] so_far.done label in
     let all = ap length appended in
     let is = bodies_length (so_far.done ++ label ∷ []) in
-    let read : Reads c.labels.ahead.now label (46 ∷ c.in-Some.rest.now) = search rules in
+    let read : ReadsLabelPart c.labels.ahead.now label (46 ∷ c.in-Some.rest.now) = search rules in
     record {
       done = so_far.done ++ label ∷ [];
       reads = read_label c.args.text.now so_far.done c.labels.ahead.now label c.in-Some.rest.now so_far.reads

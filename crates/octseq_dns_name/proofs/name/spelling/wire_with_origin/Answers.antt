@@ -1,4 +1,5 @@
-use Rattle.std.proofs.Common.{◌≡◌, ◌+◌, ◌<◌, ◌≤◌, ℕ, inl, inr, refl, List, [], ◌∷◌, ◌++◌, length, subst, sym, ◌∙◌, rules}
+use Rattle.std.proofs.Common.{◌≡◌, ◌+◌, ◌<◌, ◌≤◌, ℕ, inl, inr, refl, List, [], ◌∷◌, ◌++◌, length, subst, sym, ◌∙◌}
+use Rattle.std.proofs.Common.{rules}
 use Rattle.std.proofs.lemmas.Result.{IfOk-weaker, IfErr-weaker}
 use Rattle.octseq_dns_name.specs.Name.{wire_length}
 use Rattle.octseq_dns_name.specs.Origin.{IsRefusedWithOrigin, SpellsWithOrigin}
@@ -55,7 +56,8 @@ returns-then-is_empty-clause-refused g c =
     let read = c.in_ok-octets.ensures.ok in
     let none : c.in_ok-octets.octets.content ≡ [] = search rules in
     let over : c.in_ok-octets.last.content ≡ [] = search rules in
-    nothing_there c.in_ok-octets.octets.content read.0 c.args.text.now c.in_ok-octets.last.content read.1 read.2 none over
+    nothing_there c.in_ok-octets.octets.content read.0 c.args.text.now c.in_ok-octets.last.content read.1 read.2 none
+    over
 
 pub returns-clause-ok : goal.returns-clause-ok
 returns-clause-ok g c =

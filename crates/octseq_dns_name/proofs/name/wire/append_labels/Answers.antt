@@ -1,6 +1,6 @@
 use Rattle.std.proofs.Common.{◌≡◌, ◌+◌, ◌≤◌, [], ◌∷◌, ◌++◌, length, sym, ap, ◌∙◌, subst, append_assoc, arith}
 use Rattle.std.proofs.lemmas.List.{length-append}
-use Rattle.octseq.specs.Limit.{IsPast}
+use Rattle.octseq.specs.Limit.{ExceedsLimit}
 use Rattle.octseq_dns_name.specs.Name.{wire_length}
 use Rattle.octseq_dns_name.specs.Read.{labels_left, label_octets}
 use Rattle.octseq_dns_name.proofs.Names.{wire_some}
@@ -30,7 +30,7 @@ append-requires-in-loop-label g c =
     let size : length (content c.loop-label.octets) + (1 + length slice) ≡ length
     (content c.append.new.octets) + length slice =
     let one = length-append (content c.loop-label.octets) (length slice ∷ []) in omega (arith, made, one) in
-    subst (λ n. ¬ IsPast limit n) size
+    subst (λ n. ¬ ExceedsLimit limit n) size
     (room_ahead limit (content c.loop-label.octets) (content c.args.octets.now)
     (labels_left c.args.labels) so_far.done ahead
     (1 + length slice) so_far.appended so_far.labels_are fits c.requires)

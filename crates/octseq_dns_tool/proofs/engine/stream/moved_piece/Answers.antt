@@ -1,6 +1,6 @@
 use Rattle.std.proofs.Common.{◌≡◌, ℕ, Bool, false, List, [], inl, inr, refl, sym, subst}
 use Rattle.octseq_dns.specs.Parsed.{header_of, questions_of, answers_of, authorities_of, additionals_of}
-use Rattle.octseq_dns_tool.specs.Rewritten.{CannotMove, IsSuch, IsTooLong}
+use Rattle.octseq_dns_tool.specs.Rewritten.{CannotMove, IsSuch, IsRewrittenTooLong}
 use Rattle.octseq_dns_tool.specs.Taken.{IsLeftNote, IsMoved}
 use Rattle.octseq_dns_tool.proofs.engine.stream.moved_piece.Goals as goal
 
@@ -34,7 +34,7 @@ returns-in_ok-note-in-Immovable c =
 pub returns-in_ok-note-in-Long : goal.returns-in_ok-note-in-Long
 returns-in_ok-note-in-Long c =
     let message = c.in-Ok.message in
-    let such : IsSuch IsTooLong c.args.octets.now = record {
+    let such : IsSuch IsRewrittenTooLong c.args.octets.now = record {
       header = header_of message;
       questions = questions_of message;
       answers = answers_of message;

@@ -15,7 +15,7 @@ pub returns-clause-value : goal.returns-clause-value
 returns-clause-value g c =
     let f = g.F.Format in
     let w = window c.args.parser.now in
-    let v = window c.pass_all.new.parser in
+    let v = window c.skip_all.new.parser in
     let all = c.in_ok-count.ensures.all in
     let same = c.at.ensures (all.0, ∣ (v, ((all.1.0, all.1.1), sym c.pos.ensures.position)) ∣₁) in
     let row = subst (λ row. Row f.is_at w row v) (sym same) all.1.1 in
@@ -24,7 +24,7 @@ returns-clause-value g c =
 
 pub returns-clause-counted : goal.returns-clause-counted
 returns-clause-counted g c =
-    let v = window c.pass_all.new.parser in
+    let v = window c.skip_all.new.parser in
     let all = c.in_ok-count.ensures.all in
     let same = c.at.ensures (all.0, ∣ (v, ((all.1.0, all.1.1), sym c.pos.ensures.position)) ∣₁) in
-    subst (λ row. c.args.turns.now + row_turns g.F.Format.turns_of row ≤ c.pass_all.new.turns) (sym same) all.2
+    subst (λ row. c.args.turns.now + row_turns g.F.Format.turns_of row ≤ c.skip_all.new.turns) (sym same) all.2

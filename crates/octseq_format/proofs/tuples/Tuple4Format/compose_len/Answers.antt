@@ -25,7 +25,8 @@ returns g c =
     let hb = both_has_len fb.octets (fc.octets before fd.octets) fb.fits (fc.fits also fd.fits) (sb, (sc, sd)) _ _ _
     (has_len fb.octets fb.fits sb _ nb.some nb.fit nb.none)
     hc c.both_len-from_b.ensures in
-    let ha = both_has_len fa.octets (fb.octets before fc.octets before fd.octets) fa.fits (fb.fits also fc.fits also fd.fits) (sa, (sb, (sc, sd))) _ _ _
+    let ha = both_has_len fa.octets (fb.octets before fc.octets before fd.octets) fa.fits
+    (fb.fits also fc.fits also fd.fits) (sa, (sb, (sc, sd))) _ _ _
     (has_len fa.octets fa.fits sa _ na.some na.fit na.none)
     hb c.both_len.ensures in
     record { some = len_some _ _ _ _ ha; fit = len_fit _ _ _ _ ha; none = len_none _ _ _ _ ha }

@@ -28,10 +28,12 @@ returns g c =
     let hc = both_has_len fc.octets (fd.octets before fe.octets) fc.fits (fd.fits also fe.fits) (sc, (sd, se)) _ _ _
     (has_len fc.octets fc.fits sc _ nc.some nc.fit nc.none)
     hd c.both_len-from_c.ensures in
-    let hb = both_has_len fb.octets (fc.octets before fd.octets before fe.octets) fb.fits (fc.fits also fd.fits also fe.fits) (sb, (sc, (sd, se))) _ _ _
+    let hb = both_has_len fb.octets (fc.octets before fd.octets before fe.octets) fb.fits
+    (fc.fits also fd.fits also fe.fits) (sb, (sc, (sd, se))) _ _ _
     (has_len fb.octets fb.fits sb _ nb.some nb.fit nb.none)
     hc c.both_len-from_b.ensures in
-    let ha = both_has_len fa.octets (fb.octets before fc.octets before fd.octets before fe.octets) fa.fits (fb.fits also fc.fits also fd.fits also fe.fits) (sa, (sb, (sc, (sd, se)))) _ _ _
+    let ha = both_has_len fa.octets (fb.octets before fc.octets before fd.octets before fe.octets) fa.fits
+    (fb.fits also fc.fits also fd.fits also fe.fits) (sa, (sb, (sc, (sd, se)))) _ _ _
     (has_len fa.octets fa.fits sa _ na.some na.fit na.none)
     hb c.both_len.ensures in
     record { some = len_some _ _ _ _ ha; fit = len_fit _ _ _ _ ha; none = len_none _ _ _ _ ha }

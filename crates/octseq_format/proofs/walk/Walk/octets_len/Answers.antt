@@ -1,6 +1,6 @@
 use Rattle.std.proofs.Common.{arith}
 use Rattle.octseq.specs.Parser.{window}
-use Rattle.octseq_format.proofs.Copies.{held_place}
+use Rattle.octseq_format.proofs.Copies.{held_offset}
 use Rattle.octseq_format.proofs.walk.Walk.octets_len.Goals as goal
 
 pub overflow_sub-result : goal.overflow_sub-result
@@ -9,9 +9,9 @@ overflow_sub-result g c =
     let f = g.F.Format in
     let is = c.pos.ensures.position in
     let ordered = c.pos.ensures.ordered in
-    let place = held_place f.is_at g.met.F.Format.onward (window self.parser) self.left self.end self.ahead
+    let offset = held_offset f.is_at g.met.F.Format.onward (window self.parser) self.left self.end self.ahead
     (omega (arith, is, ordered)) in
-    omega (arith, is, place.0)
+    omega (arith, is, offset.0)
 
 pub returns-clause-end : goal.returns-clause-end
 returns-clause-end g c =
@@ -25,6 +25,6 @@ returns-clause-within g c =
     let f = g.F.Format in
     let is = c.pos.ensures.position in
     let ordered = c.pos.ensures.ordered in
-    let place = held_place f.is_at g.met.F.Format.onward (window self.parser) self.left self.end self.ahead
+    let offset = held_offset f.is_at g.met.F.Format.onward (window self.parser) self.left self.end self.ahead
     (omega (arith, is, ordered)) in
-    omega (arith, is, place.1)
+    omega (arith, is, offset.1)

@@ -9,6 +9,13 @@ returns g c =
     let f = g.F.Format in
     record {
       cases = ap (λ ahead.
-          record { parser = self.parser; left = self.left; end = self.end; item = self.item; answers = self.answers; ahead = ahead })
+          record {
+            parser = self.parser;
+            left = self.left;
+            end = self.end;
+            item = self.item;
+            answers = self.answers;
+            ahead = ahead;
+          })
           (held_to_once f.found_code f.is_at f.one (window self.parser) self.left self.end _ self.ahead);
     }

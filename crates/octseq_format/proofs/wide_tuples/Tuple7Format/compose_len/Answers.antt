@@ -34,16 +34,23 @@ returns g c =
     let he = both_has_len fe.octets (ff.octets before fg.octets) fe.fits (ff.fits also fg.fits) (se, (sf, sg)) _ _ _
     (has_len fe.octets fe.fits se _ ne.some ne.fit ne.none)
     hf c.both_len-from_e.ensures in
-    let hd = both_has_len fd.octets (fe.octets before ff.octets before fg.octets) fd.fits (fe.fits also ff.fits also fg.fits) (sd, (se, (sf, sg))) _ _ _
+    let hd = both_has_len fd.octets (fe.octets before ff.octets before fg.octets) fd.fits
+    (fe.fits also ff.fits also fg.fits) (sd, (se, (sf, sg))) _ _ _
     (has_len fd.octets fd.fits sd _ nd.some nd.fit nd.none)
     he c.both_len-from_d.ensures in
-    let hc = both_has_len fc.octets (fd.octets before fe.octets before ff.octets before fg.octets) fc.fits (fd.fits also fe.fits also ff.fits also fg.fits) (sc, (sd, (se, (sf, sg)))) _ _ _
+    let hc = both_has_len fc.octets (fd.octets before fe.octets before ff.octets before fg.octets) fc.fits
+    (fd.fits also fe.fits also ff.fits also fg.fits) (sc, (sd, (se, (sf, sg)))) _ _ _
     (has_len fc.octets fc.fits sc _ nc.some nc.fit nc.none)
     hd c.both_len-from_c.ensures in
-    let hb = both_has_len fb.octets (fc.octets before fd.octets before fe.octets before ff.octets before fg.octets) fb.fits (fc.fits also fd.fits also fe.fits also ff.fits also fg.fits) (sb, (sc, (sd, (se, (sf, sg))))) _ _ _
+    let hb = both_has_len fb.octets
+    (fc.octets before fd.octets before fe.octets before ff.octets before fg.octets) fb.fits
+    (fc.fits also fd.fits also fe.fits also ff.fits also fg.fits) (sb, (sc, (sd, (se, (sf, sg))))) _ _ _
     (has_len fb.octets fb.fits sb _ nb.some nb.fit nb.none)
     hc c.both_len-from_b.ensures in
-    let ha = both_has_len fa.octets (fb.octets before fc.octets before fd.octets before fe.octets before ff.octets before fg.octets) fa.fits (fb.fits also fc.fits also fd.fits also fe.fits also ff.fits also fg.fits) (sa, (sb, (sc, (sd, (se, (sf, sg)))))) _ _ _
+    let ha = both_has_len fa.octets
+    (fb.octets before fc.octets before fd.octets before fe.octets before ff.octets before fg.octets) fa.fits
+    (fb.fits also fc.fits also fd.fits also fe.fits also ff.fits also fg.fits)
+    (sa, (sb, (sc, (sd, (se, (sf, sg)))))) _ _ _
     (has_len fa.octets fa.fits sa _ na.some na.fit na.none)
     hb c.both_len.ensures in
     record { some = len_some _ _ _ _ ha; fit = len_fit _ _ _ _ ha; none = len_none _ _ _ _ ha }

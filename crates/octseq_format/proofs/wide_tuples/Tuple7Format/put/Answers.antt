@@ -19,12 +19,18 @@ put_or_cut-requires-6-clause-within g c =
     let o4 = g.E.Format.octets (g.E.Format.says (g.E.Format.found v.4)) in
     let o5 = g.F.Format.octets (g.F.Format.says (g.F.Format.found v.5)) in
     let o6 = g.G.Format.octets (g.G.Format.says (g.G.Format.found v.6)) in
-    let w1 = rest_within limit (content c.args.builder.now) (content c.put.new.builder) o0 (o1 ++ (o2 ++ (o3 ++ (o4 ++ (o5 ++ o6))))) c.requires.within c.in_ok-put.ensures.ok in
-    let w2 = rest_within limit (content c.put.new.builder) (content c.put_or_cut.new.builder) o1 (o2 ++ (o3 ++ (o4 ++ (o5 ++ o6)))) w1 c.in_ok-put_or_cut.ensures.ok in
-    let w3 = rest_within limit (content c.put_or_cut.new.builder) (content c.put_or_cut-2.new.builder) o2 (o3 ++ (o4 ++ (o5 ++ o6))) w2 c.in_ok-put_or_cut-2.ensures.ok in
-    let w4 = rest_within limit (content c.put_or_cut-2.new.builder) (content c.put_or_cut-3.new.builder) o3 (o4 ++ (o5 ++ o6)) w3 c.in_ok-put_or_cut-3.ensures.ok in
-    let w5 = rest_within limit (content c.put_or_cut-3.new.builder) (content c.put_or_cut-4.new.builder) o4 (o5 ++ o6) w4 c.in_ok-put_or_cut-4.ensures.ok in
-    let w6 = rest_within limit (content c.put_or_cut-4.new.builder) (content c.put_or_cut-5.new.builder) o5 (o6) w5 c.in_ok-put_or_cut-5.ensures.ok in
+    let w1 = rest_within limit (content c.args.builder.now) (content c.put.new.builder) o0
+    (o1 ++ (o2 ++ (o3 ++ (o4 ++ (o5 ++ o6))))) c.requires.within c.in_ok-put.ensures.ok in
+    let w2 = rest_within limit (content c.put.new.builder) (content c.put_or_cut.new.builder) o1
+    (o2 ++ (o3 ++ (o4 ++ (o5 ++ o6)))) w1 c.in_ok-put_or_cut.ensures.ok in
+    let w3 = rest_within limit (content c.put_or_cut.new.builder) (content c.put_or_cut-2.new.builder) o2
+    (o3 ++ (o4 ++ (o5 ++ o6))) w2 c.in_ok-put_or_cut-2.ensures.ok in
+    let w4 = rest_within limit (content c.put_or_cut-2.new.builder) (content c.put_or_cut-3.new.builder) o3
+    (o4 ++ (o5 ++ o6)) w3 c.in_ok-put_or_cut-3.ensures.ok in
+    let w5 = rest_within limit (content c.put_or_cut-3.new.builder) (content c.put_or_cut-4.new.builder) o4
+    (o5 ++ o6) w4 c.in_ok-put_or_cut-4.ensures.ok in
+    let w6 = rest_within limit (content c.put_or_cut-4.new.builder) (content c.put_or_cut-5.new.builder) o5
+    (o6) w5 c.in_ok-put_or_cut-5.ensures.ok in
     w6
 
 pub returns-clause-ok : goal.returns-clause-ok
@@ -41,10 +47,16 @@ returns-clause-ok g c =
     let o5 = g.F.Format.octets (g.F.Format.says (g.F.Format.found v.5)) in
     let o6 = g.G.Format.octets (g.G.Format.says (g.G.Format.found v.6)) in
     on_ok_weaker c.put_or_cut-6.result (λ e6.
-    let e5 = append_on (content c.put_or_cut-4.new.builder) (content c.put_or_cut-5.new.builder) (content c.put_or_cut-6.new.builder) o5 (o6) c.in_ok-put_or_cut-5.ensures.ok e6 in
-    let e4 = append_on (content c.put_or_cut-3.new.builder) (content c.put_or_cut-4.new.builder) (content c.put_or_cut-6.new.builder) o4 (o5 ++ o6) c.in_ok-put_or_cut-4.ensures.ok e5 in
-    let e3 = append_on (content c.put_or_cut-2.new.builder) (content c.put_or_cut-3.new.builder) (content c.put_or_cut-6.new.builder) o3 (o4 ++ (o5 ++ o6)) c.in_ok-put_or_cut-3.ensures.ok e4 in
-    let e2 = append_on (content c.put_or_cut.new.builder) (content c.put_or_cut-2.new.builder) (content c.put_or_cut-6.new.builder) o2 (o3 ++ (o4 ++ (o5 ++ o6))) c.in_ok-put_or_cut-2.ensures.ok e3 in
-    let e1 = append_on (content c.put.new.builder) (content c.put_or_cut.new.builder) (content c.put_or_cut-6.new.builder) o1 (o2 ++ (o3 ++ (o4 ++ (o5 ++ o6)))) c.in_ok-put_or_cut.ensures.ok e2 in
-    let e0 = append_on (content c.args.builder.now) (content c.put.new.builder) (content c.put_or_cut-6.new.builder) o0 (o1 ++ (o2 ++ (o3 ++ (o4 ++ (o5 ++ o6))))) c.in_ok-put.ensures.ok e1 in
+    let e5 = append_on (content c.put_or_cut-4.new.builder) (content c.put_or_cut-5.new.builder)
+    (content c.put_or_cut-6.new.builder) o5 (o6) c.in_ok-put_or_cut-5.ensures.ok e6 in
+    let e4 = append_on (content c.put_or_cut-3.new.builder) (content c.put_or_cut-4.new.builder)
+    (content c.put_or_cut-6.new.builder) o4 (o5 ++ o6) c.in_ok-put_or_cut-4.ensures.ok e5 in
+    let e3 = append_on (content c.put_or_cut-2.new.builder) (content c.put_or_cut-3.new.builder)
+    (content c.put_or_cut-6.new.builder) o3 (o4 ++ (o5 ++ o6)) c.in_ok-put_or_cut-3.ensures.ok e4 in
+    let e2 = append_on (content c.put_or_cut.new.builder) (content c.put_or_cut-2.new.builder)
+    (content c.put_or_cut-6.new.builder) o2 (o3 ++ (o4 ++ (o5 ++ o6))) c.in_ok-put_or_cut-2.ensures.ok e3 in
+    let e1 = append_on (content c.put.new.builder) (content c.put_or_cut.new.builder)
+    (content c.put_or_cut-6.new.builder) o1 (o2 ++ (o3 ++ (o4 ++ (o5 ++ o6)))) c.in_ok-put_or_cut.ensures.ok e2 in
+    let e0 = append_on (content c.args.builder.now) (content c.put.new.builder)
+    (content c.put_or_cut-6.new.builder) o0 (o1 ++ (o2 ++ (o3 ++ (o4 ++ (o5 ++ o6))))) c.in_ok-put.ensures.ok e1 in
     e0) c.put_or_cut-6.ensures.ok

@@ -37,19 +37,29 @@ returns g c =
     let hf = both_has_len ff.octets (fg.octets before fh.octets) ff.fits (fg.fits also fh.fits) (sf, (sg, sh)) _ _ _
     (has_len ff.octets ff.fits sf _ nf.some nf.fit nf.none)
     hg c.both_len-from_f.ensures in
-    let he = both_has_len fe.octets (ff.octets before fg.octets before fh.octets) fe.fits (ff.fits also fg.fits also fh.fits) (se, (sf, (sg, sh))) _ _ _
+    let he = both_has_len fe.octets (ff.octets before fg.octets before fh.octets) fe.fits
+    (ff.fits also fg.fits also fh.fits) (se, (sf, (sg, sh))) _ _ _
     (has_len fe.octets fe.fits se _ ne.some ne.fit ne.none)
     hf c.both_len-from_e.ensures in
-    let hd = both_has_len fd.octets (fe.octets before ff.octets before fg.octets before fh.octets) fd.fits (fe.fits also ff.fits also fg.fits also fh.fits) (sd, (se, (sf, (sg, sh)))) _ _ _
+    let hd = both_has_len fd.octets (fe.octets before ff.octets before fg.octets before fh.octets) fd.fits
+    (fe.fits also ff.fits also fg.fits also fh.fits) (sd, (se, (sf, (sg, sh)))) _ _ _
     (has_len fd.octets fd.fits sd _ nd.some nd.fit nd.none)
     he c.both_len-from_d.ensures in
-    let hc = both_has_len fc.octets (fd.octets before fe.octets before ff.octets before fg.octets before fh.octets) fc.fits (fd.fits also fe.fits also ff.fits also fg.fits also fh.fits) (sc, (sd, (se, (sf, (sg, sh))))) _ _ _
+    let hc = both_has_len fc.octets
+    (fd.octets before fe.octets before ff.octets before fg.octets before fh.octets) fc.fits
+    (fd.fits also fe.fits also ff.fits also fg.fits also fh.fits) (sc, (sd, (se, (sf, (sg, sh))))) _ _ _
     (has_len fc.octets fc.fits sc _ nc.some nc.fit nc.none)
     hd c.both_len-from_c.ensures in
-    let hb = both_has_len fb.octets (fc.octets before fd.octets before fe.octets before ff.octets before fg.octets before fh.octets) fb.fits (fc.fits also fd.fits also fe.fits also ff.fits also fg.fits also fh.fits) (sb, (sc, (sd, (se, (sf, (sg, sh)))))) _ _ _
+    let hb = both_has_len fb.octets
+    (fc.octets before fd.octets before fe.octets before ff.octets before fg.octets before fh.octets) fb.fits
+    (fc.fits also fd.fits also fe.fits also ff.fits also fg.fits also fh.fits)
+    (sb, (sc, (sd, (se, (sf, (sg, sh)))))) _ _ _
     (has_len fb.octets fb.fits sb _ nb.some nb.fit nb.none)
     hc c.both_len-from_b.ensures in
-    let ha = both_has_len fa.octets (fb.octets before fc.octets before fd.octets before fe.octets before ff.octets before fg.octets before fh.octets) fa.fits (fb.fits also fc.fits also fd.fits also fe.fits also ff.fits also fg.fits also fh.fits) (sa, (sb, (sc, (sd, (se, (sf, (sg, sh))))))) _ _ _
+    let ha = both_has_len fa.octets
+    (fb.octets before fc.octets before fd.octets before fe.octets before ff.octets before fg.octets before
+    fh.octets) fa.fits (fb.fits also fc.fits also fd.fits also fe.fits also ff.fits also fg.fits also fh.fits)
+    (sa, (sb, (sc, (sd, (se, (sf, (sg, sh))))))) _ _ _
     (has_len fa.octets fa.fits sa _ na.some na.fit na.none)
     hb c.both_len.ensures in
     record { some = len_some _ _ _ _ ha; fit = len_fit _ _ _ _ ha; none = len_none _ _ _ _ ha }

@@ -13,5 +13,6 @@ returns-clause-octets c =
     let same = c.of.ensures ∙ ap octets_of_bits c.from.ensures in
     let few = c.requires in
     ap (take c.of.result) (c.prefix-cleared.ensures.address
-    ∙ ap (λ w. address_of bits (rest w)) c.from_ref.ensures.window ∙ ap (address_of bits) (rest_whole o)) ∙ address_front c.of.result 16 0 bits o (omega (arith, same, few))
+    ∙ ap (λ w. address_of bits (rest w)) c.from_ref.ensures.window ∙ ap (address_of bits) (rest_whole o))
+    ∙ address_front c.of.result 16 0 bits o (omega (arith, same, few))
     ∙ ap (λ n. address_from n 0 bits o) same

@@ -2,14 +2,14 @@ use Rattle.std.proofs.Common.{◌≡◌, ℕ, List, ◌++◌, Option, rules, sym
 use Rattle.std.proofs.KnownBytes.{Appends-trans}
 use Rattle.std.specs.Io.KnownBytes.{Appends}
 use Rattle.octseq.proofs.Fronts.{front_then}
-use Rattle.octseq.specs.Parts.{IsFront}
+use Rattle.octseq.specs.Parts.{StartsWith}
 use Rattle.octseq_mrt.specs.RecordWriter.{writer_of}
 use Rattle.octseq_mrt.proofs.writer.RecordWriter.write_raw.Goals as goal
 
 -- a front of what follows the first octets, after them
 front_of_second : (before mid after : Option (List ℕ)) (whole first second : List ℕ) → whole ≡ first ++ second
-    → Appends before mid first → ((front : List ℕ) × IsFront front second × Appends mid after front)
-    → (front : List ℕ) × IsFront front whole × Appends before after front
+    → Appends before mid first → ((front : List ℕ) × StartsWith front second × Appends mid after front)
+    → (front : List ℕ) × StartsWith front whole × Appends before after front
 front_of_second before mid after whole first second split one (front, (rest, e), two) = (
   first ++ front,
   (rest, split ∙ ap (λ o. first ++ o) e ∙ sym (append_assoc first front rest)),

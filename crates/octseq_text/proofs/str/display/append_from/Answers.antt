@@ -4,7 +4,7 @@ use Rattle.std.proofs.lemmas.List.{length-append}
 use Rattle.std.proofs.lemmas.Option.{IfSome_then}
 use Rattle.std.specs.Option.{IfSome}
 use Rattle.octseq_core.proofs.Limits.{within_not_past}
-use Rattle.octseq_core.specs.Limit.{IsPast}
+use Rattle.octseq_core.specs.Limit.{ExceedsLimit}
 use Rattle.octseq_text.proofs.str.display.append_from.Given as given
 use Rattle.octseq_text.proofs.str.display.append_from.Goals as goal
 use Rattle.octseq_text.proofs.str.display.append_from.Goals.{After-drop-value}
@@ -28,4 +28,4 @@ returns-in-Ok-clause-past g c =
     IfSome_then (g.D.Display.output c.args.value) (appended g c)
     (λ octets made past.
     let long = ap length (c.end.ensures.ok ∙ made) ∙ length-append content octets in
-    absurd (within_not_past limit _ c.end.ensures.within (subst (IsPast limit) (sym long) past)))
+    absurd (within_not_past limit _ c.end.ensures.within (subst (ExceedsLimit limit) (sym long) past)))

@@ -1,7 +1,7 @@
 use Rattle.std.proofs.Common.{◌≡◌, ◌++◌, ℕ, List, ap, sym, ◌∙◌, subst, length}
 use Rattle.std.proofs.lemmas.Fmt.{contents_after_writes}
 use Rattle.std.proofs.lemmas.List.{length-append}
-use Rattle.octseq_core.specs.Limit.{IsPast}
+use Rattle.octseq_core.specs.Limit.{ExceedsLimit}
 use Rattle.octseq_core.proofs.Limits.{within_not_past}
 use Rattle.octseq_text.proofs.str.lines.append_from.Given as given
 use Rattle.octseq_text.proofs.str.lines.append_from.Goals as goal
@@ -30,4 +30,4 @@ returns-in-Ok-clause-past g c = λ lines are past.
     let made = appended g c in
     let same = c.requires.one _ _ made.1 are in
     let long = ap length (made.2 ∙ ap (λ y. old ++ y) same) ∙ length-append old lines in
-    absurd (within_not_past limit _ c.end.ensures.within (subst (IsPast limit) (sym long) past))
+    absurd (within_not_past limit _ c.end.ensures.within (subst (ExceedsLimit limit) (sym long) past))

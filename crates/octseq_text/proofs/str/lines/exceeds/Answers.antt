@@ -1,6 +1,6 @@
 use Rattle.std.proofs.Common.{◌+◌, length, ap, subst, sym, arith}
 use Rattle.octseq_text.proofs.Counts.{count_after_writes}
-use Rattle.octseq_core.specs.Limit.{IsPast}
+use Rattle.octseq_core.specs.Limit.{ExceedsLimit}
 use Rattle.octseq_text.proofs.str.lines.exceeds.Goals as goal
 
 pub returns-in-Some-Ok : goal.returns-in-Some-Ok
@@ -12,5 +12,5 @@ returns-in-Some-Ok g c = λ _ lines are.
     let first = ap (λ w. w.count) c.new-f.ensures.writer in
     let last = ap (λ w. w.count) c.into_inner-counter.ensures in
     let over = c.if-limit-counter.true in
-    subst (λ limit. IsPast limit (c.args.len + length lines)) (sym c.in-Some-Ok.is-0)
+    subst (λ limit. ExceedsLimit limit (c.args.len + length lines)) (sym c.in-Some-Ok.is-0)
     (omega (arith, over, counted, same, first, last))

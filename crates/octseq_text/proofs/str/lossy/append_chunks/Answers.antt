@@ -2,7 +2,7 @@ use Rattle.std.proofs.Common.{arith, ◌++◌, length, ap, ◌∙◌, subst, app
 use Rattle.std.proofs.Math.Nat.{le_refl}
 use Rattle.std.proofs.lemmas.List.{append-nil}
 use Rattle.std.proofs.lemmas.Result.{err_from_is_err_and}
-use Rattle.octseq_core.specs.Limit.{IsPast}
+use Rattle.octseq_core.specs.Limit.{ExceedsLimit}
 use Rattle.octseq_utf8.specs.Chunk.{chunk_text, mark_of}
 use Rattle.octseq_utf8.specs.Parts.{text_with}
 use Rattle.octseq_utf8.specs.Reading.{parts_of}
@@ -22,7 +22,7 @@ returns-in_err-append_chunk-clause-short g c =
     (λ h. chunk_short g.B.AsOctets.limit c.args.replacement content c.args.first.valid c.args.first.invalid
     c.as_bytes-mark.result.now
     (text_with c.args.replacement (parts_of c.args.rest)) mark
-    (subst (λ y. IsPast g.B.AsOctets.limit
+    (subst (λ y. ExceedsLimit g.B.AsOctets.limit
     (length (y ++ (c.args.first.valid ++ mark_of c.as_bytes-mark.result.now c.args.first.invalid)))) empty
     (c.in_err-append_chunk.ensures.short h)))
 

@@ -1,7 +1,8 @@
 use Rattle.std.specs.Prelude.{◌==◌}
-use Rattle.std.proofs.Common.{Bool, true, false, ℕ, ◌+◌, Option, List, ◌≡◌, [], ◌++◌, length, arith, ap, sym, ◌∙◌, subst}
+use Rattle.std.proofs.Common.{Bool, true, false, ℕ, ◌+◌, Option, List, ◌≡◌, [], ◌++◌, length, arith, ap, sym, ◌∙◌}
+use Rattle.std.proofs.Common.{subst}
 use Rattle.std.proofs.lemmas.Result.{err_from_is_err_and}
-use Rattle.octseq_core.specs.Limit.{IsPast, IsWithin}
+use Rattle.octseq_core.specs.Limit.{ExceedsLimit, IsWithin}
 use Rattle.octseq_core.proofs.Limits.{within_not_past}
 use Rattle.octseq_utf8.specs.Chunk.{Chunk, IsFirstChunk, chunk_text}
 use Rattle.octseq_utf8.specs.Parts.{text_with}
@@ -16,7 +17,8 @@ use Rattle.octseq_text.proofs.Replacing.{nothing_added}
 use Rattle.octseq_text.proofs.str.lossy.read_with.Goals as goal
 
 -- octets whose first chunk has a bad part are not well formed
-is_bad : (x read after : List ℕ) (first : Chunk) (seen : List ℕ) (test : Bool) → read ≡ x → IsFirstChunk read first after
+is_bad : (x read after : List ℕ) (first : Chunk) (seen : List ℕ) (test : Bool) → read ≡ x
+    → IsFirstChunk read first after
     → seen ≡ first.invalid → test ≡ (length seen == 0) → test ≡ false → ¬ IsWellFormed x
 is_bad x read after first seen test same chunk e f t good =
     no_whole_text read first after chunk (some_of _ seen test e f t) (subst IsWellFormed (sym same) good)
@@ -38,9 +40,9 @@ all_text w x read after made first same chunk nothing =
 
 -- what is within a limit isn't past it
 none_past : (limit : Option ℕ) (text made : List ℕ) → text ≡ made → IsWithin limit (length made)
-    → ¬ IsPast limit (length text)
+    → ¬ ExceedsLimit limit (length text)
 none_past limit text made same within past =
-    within_not_past limit (length made) within (subst (λ y. IsPast limit (length y)) same past)
+    within_not_past limit (length made) within (subst (λ y. ExceedsLimit limit (length y)) same past)
 
 -- no octets
 
@@ -67,13 +69,18 @@ returns-in-None-clause-turns g c =
 
 pub returns-then-is_empty-clause-text : goal.returns-then-is_empty-clause-text
 returns-then-is_empty-clause-text g c =
-    rw c.from_utf8_unchecked-then-is_empty.ensures (sym (is_text c.args.replacement _ _ _ c.in-Some.first c.invalid.result.now c.is_empty.result
-    (c.chunks-chunks.ensures ∙ c.as_ref-content.ensures.value) c.in-Some.ensures.gives c.invalid.ensures c.is_empty.ensures c.if-is_empty.true))
+    rw c.from_utf8_unchecked-then-is_empty.ensures
+    (sym (is_text c.args.replacement _ _ _ c.in-Some.first c.invalid.result.now c.is_empty.result
+    (c.chunks-chunks.ensures
+    ∙ c.as_ref-content.ensures.value) c.in-Some.ensures.gives c.invalid.ensures c.is_empty.ensures
+    c.if-is_empty.true))
 
 pub returns-then-is_empty-clause-past : goal.returns-then-is_empty-clause-past
 returns-then-is_empty-clause-past g c = λ past.
     let same = is_text c.args.replacement _ _ _ c.in-Some.first c.invalid.result.now c.is_empty.result
-    (c.chunks-chunks.ensures ∙ c.as_ref-content.ensures.value) c.in-Some.ensures.gives c.invalid.ensures c.is_empty.ensures c.if-is_empty.true in
+    (c.chunks-chunks.ensures
+    ∙ c.as_ref-content.ensures.value) c.in-Some.ensures.gives c.invalid.ensures c.is_empty.ensures
+    c.if-is_empty.true in
     absurd (none_past g.B.AsOctets.limit _ _ same c.as_ref-content.ensures.within past)
 
 pub returns-then-is_empty-clause-turns : goal.returns-then-is_empty-clause-turns
@@ -88,13 +95,15 @@ returns-then-is_empty-clause-turns g c =
 
 pub returns-in_err-made-in-Some-clause-same : goal.returns-in_err-made-in-Some-clause-same
 returns-in_err-made-in-Some-clause-same g c = λ good.
-    absurd (is_bad _ _ _ c.in-Some.first c.invalid.result.now c.is_empty.result (c.chunks-chunks.ensures ∙ c.as_ref-content.ensures.value)
+    absurd (is_bad _ _ _ c.in-Some.first c.invalid.result.now c.is_empty.result
+    (c.chunks-chunks.ensures ∙ c.as_ref-content.ensures.value)
     c.in-Some.ensures.gives c.invalid.ensures c.is_empty.ensures c.if-is_empty.false good)
 
 pub returns-in_err-made-in-Some-clause-memory : goal.returns-in_err-made-in-Some-clause-memory
 returns-in_err-made-in-Some-clause-memory g c = λ refused. (
   c.in_err-made-in-Some.ensures.memory,
-  is_bad _ _ _ c.in-Some.first c.invalid.result.now c.is_empty.result (c.chunks-chunks.ensures ∙ c.as_ref-content.ensures.value)
+  is_bad _ _ _ c.in-Some.first c.invalid.result.now c.is_empty.result
+      (c.chunks-chunks.ensures ∙ c.as_ref-content.ensures.value)
       c.in-Some.ensures.gives c.invalid.ensures c.is_empty.ensures c.if-is_empty.false,
 )
 
@@ -110,7 +119,8 @@ returns-in_err-made-in-Some-clause-turns g c =
 
 pub returns-in_err-append_chunks-in-Some-clause-same : goal.returns-in_err-append_chunks-in-Some-clause-same
 returns-in_err-append_chunks-in-Some-clause-same g c = λ good.
-    absurd (is_bad _ _ _ c.in-Some.first c.invalid.result.now c.is_empty.result (c.chunks-chunks.ensures ∙ c.as_ref-content.ensures.value)
+    absurd (is_bad _ _ _ c.in-Some.first c.invalid.result.now c.is_empty.result
+    (c.chunks-chunks.ensures ∙ c.as_ref-content.ensures.value)
     c.in-Some.ensures.gives c.invalid.ensures c.is_empty.ensures c.if-is_empty.false good)
 
 pub returns-in_err-append_chunks-in-Some-clause-short : goal.returns-in_err-append_chunks-in-Some-clause-short
@@ -126,7 +136,8 @@ pub returns-in_err-append_chunks-in-Some-clause-memory : goal.returns-in_err-app
 returns-in_err-append_chunks-in-Some-clause-memory g c =
     let exit = c.from_residual-in_err-append_chunks-in-Some in
     let p = err_from_is_err_and exit.result exit.ensures.1 in
-    let bad = is_bad _ _ _ c.in-Some.first c.invalid.result.now c.is_empty.result (c.chunks-chunks.ensures ∙ c.as_ref-content.ensures.value)
+    let bad = is_bad _ _ _ c.in-Some.first c.invalid.result.now c.is_empty.result
+    (c.chunks-chunks.ensures ∙ c.as_ref-content.ensures.value)
     c.in-Some.ensures.gives c.invalid.ensures c.is_empty.ensures c.if-is_empty.false in
     rw (p.1, p.2) (λ h. (c.in_err-append_chunks-in-Some.ensures.memory h, bad))
 
@@ -158,7 +169,8 @@ returns-in_ok-append_chunks-in-Some-clause-text g c =
 
 pub returns-in_ok-append_chunks-in-Some-clause-same : goal.returns-in_ok-append_chunks-in-Some-clause-same
 returns-in_ok-append_chunks-in-Some-clause-same g c = λ good.
-    absurd (is_bad _ _ _ c.in-Some.first c.invalid.result.now c.is_empty.result (c.chunks-chunks.ensures ∙ c.as_ref-content.ensures.value)
+    absurd (is_bad _ _ _ c.in-Some.first c.invalid.result.now c.is_empty.result
+    (c.chunks-chunks.ensures ∙ c.as_ref-content.ensures.value)
     c.in-Some.ensures.gives c.invalid.ensures c.is_empty.ensures c.if-is_empty.false good)
 
 pub returns-in_ok-append_chunks-in-Some-clause-past : goal.returns-in_ok-append_chunks-in-Some-clause-past

@@ -31,7 +31,8 @@ returns-in-Character-clause-passed c =
     let is = made.1 ∙ ap (λ y. y ++ take c.in-Character.taken c.args.piece.now) c.as_slice-2.ensures.content in
     let left = rest_of c.args.piece.now c.in-Character.taken in
     let n = c.args.passed in
-    let m = c.saturating_add-passed.ensures ∙ ap (λ y. saturated (n + length y)) c.as_slice-in-Character.ensures.content in
+    let m = c.saturating_add-passed.ensures
+    ∙ ap (λ y. saturated (n + length y)) c.as_slice-in-Character.ensures.content in
     IfOk-weaker c.search-in-Character.result _ _
     (λ reached p. character_all _ _ _ _ c.in-Character.taken is made.2 left
     (λ y. PassesAfter n y reached.passed reached.end.content)
@@ -45,7 +46,8 @@ returns-in-Character-clause-fault c =
     let is = made.1 ∙ ap (λ y. y ++ take c.in-Character.taken c.args.piece.now) c.as_slice-2.ensures.content in
     let left = rest_of c.args.piece.now c.in-Character.taken in
     let n = c.args.passed in
-    let m = c.saturating_add-passed.ensures ∙ ap (λ y. saturated (n + length y)) c.as_slice-in-Character.ensures.content in
+    let m = c.saturating_add-passed.ensures
+    ∙ ap (λ y. saturated (n + length y)) c.as_slice-in-Character.ensures.content in
     IfErr-weaker c.search-in-Character.result _ _
     (λ reported s. character_all _ _ _ _ c.in-Character.taken is made.2 left (λ y. SettlesAfter n y reported)
     (settles_after n _ c.in-Character.encoding.content

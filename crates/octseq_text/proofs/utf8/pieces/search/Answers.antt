@@ -24,5 +24,6 @@ pub open_end-requires : goal.open_end-requires
 open_end-requires c =
     let none = size_none c.in-Some.fault.size c.error_len.result c.error_len.ensures
     (sym c.is_some.ensures ∙ c.if-is_some.false) in
-    let few = open_few _ c.in-Some.fault c.in-Some.ensures.fault none (length c.args.octets.now - c.in-Some.fault.place) in
+    let few = open_few _ c.in-Some.fault c.in-Some.ensures.fault none
+    (length c.args.octets.now - c.in-Some.fault.place) in
     rw c.valid_up_to-in-Some.ensures (omega (arith, few))

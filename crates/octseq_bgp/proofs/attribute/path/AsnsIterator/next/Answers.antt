@@ -10,7 +10,8 @@ use Rattle.octseq_bgp.proofs.attribute.path.AsnsIterator.next.Goals as goal
 pub returns-then-self-eq0-clause-steps : goal.returns-then-self-eq0-clause-steps
 returns-then-self-eq0-clause-steps g c =
     let self = c.args.self.now in
-    let none = held_none coded_ℕ (IsNumber (asn_size self.wide)) (window self.parser) self.left self.ahead (search rules) in
+    let none = held_none coded_ℕ (IsNumber (asn_size self.wide)) (window self.parser) self.left self.ahead
+    (search rules) in
     (none, none)
 
 pub unreachable-requires : goal.unreachable-requires

@@ -13,7 +13,8 @@ use Rattle.octseq_bgp.proofs.attribute.reach.MpReachNlri.parse_counted.Goals as 
 
 pub returns-in_err-afi-clause-malformed : goal.returns-in_err-afi-clause-malformed
 returns-in_err-afi-clause-malformed g c = λ _ it is.
-    c.in_err-afi.ensures.malformed refl (afi_number it.family, (safi_number it.family, (is.next_hops, (is.reserved, is.rest)))) is.front
+    c.in_err-afi.ensures.malformed refl
+    (afi_number it.family, (safi_number it.family, (is.next_hops, (is.reserved, is.rest)))) is.front
 
 pub returns-in_err-next_hop-clause-malformed : goal.returns-in_err-next_hop-clause-malformed
 returns-in_err-next_hop-clause-malformed g c = λ _ it is.

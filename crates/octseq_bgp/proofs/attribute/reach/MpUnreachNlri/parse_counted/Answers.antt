@@ -15,7 +15,8 @@ returns-in_err-afi-clause-malformed g c = λ _ it is.
 pub returns-in_err-prefixes-clause-malformed : goal.returns-in_err-prefixes-clause-malformed
 returns-in_err-prefixes-clause-malformed g c = λ _ it is.
     let s = c.args.session.now in
-    let front = one_whole IsUnreachFront one_unreach_front (window c.args.parser) _ _ is.front c.in_ok-afi.ensures.value in
+    let front = one_whole IsUnreachFront one_unreach_front
+    (window c.args.parser) _ _ is.front c.in_ok-afi.ensures.value in
     let numbers = c.in-Some.ensures.some in
     let family = one_family it.family c.in-Some.family (ap (λ f. f.0) front ∙ sym numbers.0)
     (ap (λ f. f.1.0) front ∙ sym numbers.1) in

@@ -19,8 +19,12 @@ returns-clause-accepted g c = λ zero row left before marks.
     let bound : c.from-code.result < 256 = omega arith in
     let room : c.from-code.result < length old.seen = let long = old.long in omega (arith, bound, long) in
     one_more (attributes_session old.attributes) (attributes_session c.next.new.self) old.external before
-    (attributes_left old.attributes) (attributes_left c.next.new.self) e (rank old.missing) old.seen c.from-code.result n
-    row row code bound (subst (λ s. IsRank s old.external (get_or old.seen c.from-code.result false) e n) c.session-session.ensures c.attribute_handling-handling.ensures)
+    (attributes_left old.attributes) (attributes_left c.next.new.self) e
+    (rank old.missing) old.seen c.from-code.result n
+    row row code bound (subst
+    (λ s. IsRank s old.external
+    (get_or old.seen c.from-code.result false) e n) c.session-session.ensures
+    c.attribute_handling-handling.ensures)
     c.in-Some.ensures.steps.0 c.in-Some.ensures.steps.1 marks
     (left (e ∷ before) (marked old.seen before e c.from-code.result code room marks)) (none_before (Some e) n row zero)
 
@@ -33,7 +37,11 @@ returns-clause-fault g c = λ not row left before marks.
     let bound : c.from-code.result < 256 = omega arith in
     let room : c.from-code.result < length old.seen = let long = old.long in omega (arith, bound, long) in
     one_more (attributes_session old.attributes) (attributes_session c.next.new.self) old.external before
-    (attributes_left old.attributes) (attributes_left c.next.new.self) e (rank old.missing) old.seen c.from-code.result n
-    _ row code bound (subst (λ s. IsRank s old.external (get_or old.seen c.from-code.result false) e n) c.session-session.ensures c.attribute_handling-handling.ensures)
+    (attributes_left old.attributes) (attributes_left c.next.new.self) e
+    (rank old.missing) old.seen c.from-code.result n
+    _ row code bound (subst
+    (λ s. IsRank s old.external
+    (get_or old.seen c.from-code.result false) e n) c.session-session.ensures
+    c.attribute_handling-handling.ensures)
     c.in-Some.ensures.steps.0 c.in-Some.ensures.steps.1 marks
     (left (e ∷ before) (marked old.seen before e c.from-code.result code room marks)) (some_before (Some e) n row not)

@@ -18,13 +18,14 @@ returns-clause-steps g c = (
       let reported = c.rank-2.ensures in
       let not : m ≢ 0 = λ zero. omega (arith, test, reported, zero) in
       let s = attributes_session now.attributes in
-      c.attributes.invariant.left (record { place = None; rank = m } ∷ row) (λ before marks.
+      c.attributes.invariant.left (record { attribute = None; rank = m } ∷ row) (λ before marks.
       let marked = subst (λ seen. Marks seen before) (sym none.2) marks in
-      let end = subst (λ attributes. AreFaults (attributes_session after.attributes) after.external before attributes 0 row)
+      let end = subst (λ attributes. AreFaults
+      (attributes_session after.attributes) after.external before attributes 0 row)
       none.1 (left before marked) in
-      let faults = ap (λ row. record { place = None; rank = m } ∷ row) end ∙ some_before None m [] not in
+      let faults = ap (λ row. record { attribute = None; rank = m } ∷ row) end ∙ some_before None m [] not in
       let missing = ap rank c.in_default.ensures.missing in
       subst (λ attributes. AreFaults s now.external before attributes (rank now.missing)
-      (record { place = None; rank = m } ∷ row)) (sym none.0)
+      (record { attribute = None; rank = m } ∷ row)) (sym none.0)
       (faults ∙ ap (λ n. fault_before None n []) missing)),
 )

@@ -12,6 +12,7 @@ returns-in_err-version-clause-malformed g c = λ _ it is.
 pub returns-in_err-parameters-clause-malformed : goal.returns-in_err-parameters-clause-malformed
 returns-in_err-parameters-clause-malformed g c = λ _ it is.
     let w = window c.args.parser in
-    let same = one_whole IsOpenFront one_open_front w (open_numbers it is.rest) _ is.front c.in_ok-version.ensures.value in
+    let same = one_whole IsOpenFront one_open_front w
+    (open_numbers it is.rest) _ is.front c.in_ok-version.ensures.value in
     c.in_err-parameters.ensures.malformed refl it.parameters
     (subst (λ n. HasParameters n.1.1.1.1 it.parameters) same is.parameters)

@@ -24,7 +24,8 @@ returns-in_err-parameters-clause-malformed g c = λ _.
 
 pub returns-in_err-inside-clause-malformed : goal.returns-in_err-inside-clause-malformed
 returns-in_err-inside-clause-malformed g c = λ _.
-    no_short (window c.args.parser) (λ long. let is = c.is_long.ensures.1 long in let not = c.if-is_long.false in absurd (cc))
+    no_short (window c.args.parser)
+    (λ long. let is = c.is_long.ensures.1 long in let not = c.if-is_long.false in absurd (cc))
     (λ row inside is fills. c.in_err-inside.ensures.malformed refl inside is)
 
 pub returns-in_err-parameters-2-clause-malformed : goal.returns-in_err-parameters-2-clause-malformed
@@ -38,7 +39,8 @@ returns-in_err-parameters-2-clause-malformed g c = λ _.
 
 pub returns-in_ok-parameters-clause-parameters : goal.returns-in_ok-parameters-clause-parameters
 returns-in_ok-parameters-clause-parameters g c =
-    HasParameters.long (c.is_long.ensures.0 c.if-is_long.true) _ c.in_ok-_length.ensures.value c.in_ok-parameters.ensures.parameters
+    HasParameters.long (c.is_long.ensures.0 c.if-is_long.true) _ c.in_ok-_length.ensures.value
+    c.in_ok-parameters.ensures.parameters
 
 pub returns-in_ok-parameters-2-clause-parameters : goal.returns-in_ok-parameters-2-clause-parameters
 returns-in_ok-parameters-2-clause-parameters g c =

@@ -1,6 +1,6 @@
 use Rattle.std.proofs.Common.{[], sym, ap, ◌∙◌, subst}
 use Rattle.std.specs.Prelude.{max}
-use Rattle.octseq_bgp.specs.Handling.{rank, IsWorst, Misses}
+use Rattle.octseq_bgp.specs.Handling.{rank, IsWorst, LacksMandatory}
 use Rattle.octseq_bgp.specs.Lists.{attributes_left}
 use Rattle.octseq_bgp.specs.Parsed.{update_of}
 use Rattle.octseq_bgp.proofs.message.update.UpdateMessage.handling.Goals as goal
@@ -14,10 +14,10 @@ returns g c =
       worst = worst;
       is_worst = subst (λ s. IsWorst s c.args.external [] (attributes_left self.path_attributes) worst) same
           c.worst_handling-worst.ensures;
-      misses = c.misses.result;
+      lacks_mandatory = c.lacks_mandatory.result;
       is_missing = (
-        λ is. subst (λ s. Misses s (update_of self)) same (c.misses.ensures.0 is),
-        λ is. c.misses.ensures.1 (subst (λ s. Misses s (update_of self)) (sym same) is),
+        λ is. subst (λ s. LacksMandatory s (update_of self)) same (c.lacks_mandatory.ensures.0 is),
+        λ is. c.lacks_mandatory.ensures.1 (subst (λ s. LacksMandatory s (update_of self)) (sym same) is),
       );
       is = c.worse.ensures ∙ ap (λ n. max worst n) c.missing_handling.ensures;
     }

@@ -22,7 +22,8 @@ returns-in-RouteRefresh g c =
     let text = line (codes "route-refresh") (refresh_text (r.afi, (r.subtype, (r.safi, window r.orf)))) in
     record {
       shown =
-          shown_of c.fmt-in-RouteRefresh.result (IsMessageText (message_of c.args.self.now)) (IsPlainFormatter c.args.f.now)
+          shown_of c.fmt-in-RouteRefresh.result (IsMessageText (message_of c.args.self.now))
+          (IsPlainFormatter c.args.f.now)
           (λ text. HasWritten g.W.Write.write_str_gives c.args.f.now text c.fmt-in-RouteRefresh.new.f) text
           (subst (λ m. IsMessageText (message_of m) text) (sym c.in-RouteRefresh.is) refl) (λ plain ok. search rules);
     }

@@ -13,6 +13,7 @@ returns g c = record {
       let it = c.args.self.now in
       subst (λ said. WritesOnOk g.W.Write.write_str_gives c.args.f.now c.write_attribute.result
       (attribute_text (attribute_of it) said) c.write_attribute.new.f)
-      (one_value it.session it.type_code (window it.value) (value_of c.value-value.result) value c.value-value.ensures is)
+      (one_value it.session it.type_code (window it.value)
+      (value_of c.value-value.result) value c.value-value.ensures is)
       c.write_attribute.ensures;
 }

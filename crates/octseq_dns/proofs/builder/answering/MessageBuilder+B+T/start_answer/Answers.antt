@@ -1,6 +1,6 @@
 use Rattle.std.proofs.Common.{◌≡◌, ℕ, ◌≤◌, List, [], length, map, refl, sym, ap, ◌∙◌, subst, arith, rules}
 use Rattle.std.proofs.lemmas.List.{length-map}
-use Rattle.octseq.specs.Limit.{IsPast, IsWithin}
+use Rattle.octseq.specs.Limit.{ExceedsLimit, IsWithin}
 use Rattle.octseq_dns_compress.specs.Composed.{message_limit}
 use Rattle.octseq_dns_compress.specs.State.{State}
 use Rattle.octseq_dns_message.specs.Entry as entry
@@ -9,11 +9,11 @@ use Rattle.octseq_dns_message.specs.declared.header.Header.{Header}
 use Rattle.octseq_dns_message.specs.declared.header.HeaderCounts.{HeaderCounts}
 use Rattle.octseq_dns.specs.Answering.{answer_header, answer_with, answer_to}
 use Rattle.octseq_dns.specs.Appended.{Appended}
-use Rattle.octseq_dns.specs.Contents.{FitsHeader, FitsQuestion, counts_of, headed, octets_of, question_entry}
+use Rattle.octseq_dns.specs.Contents.{FitsHeader, FitsQuestion, counts_of, with_only_header, octets_of, question_entry}
 use Rattle.octseq_dns.specs.Labels.{question_labels}
 use Rattle.octseq_dns.specs.ReadBack.{bare}
 use Rattle.octseq_dns.specs.Rewritten.{IsQuestionOf}
-use Rattle.octseq_dns.specs.Writes.{Writes, NothingYet, least_limit}
+use Rattle.octseq_dns.specs.Writes.{ComposesMessage, NothingYet, least_limit}
 use Rattle.octseq_dns.proofs.Blank.{begun_anew}
 use Rattle.octseq_dns.proofs.LeastLimit.{past_first, past_second, within_both, within_second}
 use Rattle.octseq_dns.proofs.Pushed.{headed_long}
@@ -22,7 +22,8 @@ use Rattle.octseq_dns.proofs.WrittenWhole.{asked_past, whole_is, whole_written}
 use Rattle.octseq_dns.proofs.builder.answering.MessageBuilder+B+T.start_answer.Goals as goal
 
 -- the questions are all that is counted
-counted : {counts : HeaderCounts} (h : Header) (qs : List entry.Question) (rcode n : ℕ) → NothingYet counts → n ≡ length qs
+counted : {counts : HeaderCounts} (h : Header) (qs : List entry.Question) (rcode n : ℕ) → NothingYet counts
+    → n ≡ length qs
     → record counts { qdcount = n } ≡ counts_of (answer_with h qs rcode)
 counted h qs rcode n none is = λ i. record {
   qdcount = (is ∙ sym (length-map qs bare)) i;
@@ -33,9 +34,9 @@ counted h qs rcode n none is = λ i. record {
 
 writes : {most : ℕ} {first second : State} {header : Header} {counts : HeaderCounts} {from to : ℕ} (h : Header)
     (qs : List entry.Question) (rcode : ℕ) → header ≡ answer_header h rcode
-    → counts ≡ counts_of (answer_with h qs rcode) → first ≡ headed header counts → FitsHeader header
+    → counts ≡ counts_of (answer_with h qs rcode) → first ≡ with_only_header header counts → FitsHeader header
     → Appended IsQuestionOf question_entry question_labels FitsQuestion most qs first second from to
-    → counts.qdcount ≤ 65535 → Writes most (answer_with h qs rcode) second header counts
+    → counts.qdcount ≤ 65535 → ComposesMessage most (answer_with h qs rcode) second header counts
 writes h qs rcode header_is counts begun fits asked few =
     let none = ap (λ (c : HeaderCounts). c.ancount) counts in
     let no_more = ap (λ (c : HeaderCounts). c.nscount) counts in
@@ -65,8 +66,8 @@ returns-then-is_past-clause-short g c short =
     (begun_anew _ _ c.self.invariant c.octets_of.ensures.octets c.put_header.ensures.state)
     (c.in_ok-append_questions.ensures.appended.is (map bare qs) (zip_bare qs)) in
     past_first c.args.self.push_limit (message_limit g.B.AsOctets.limit) (length (octets_of g.T.Compressor.most m))
-    (subst (λ v. IsPast v.push_limit (length (octets_of g.T.Compressor.most m))) c.self.view_is
-    (subst (IsPast c.self.inside.push_limit) (ap length c.as_slice.ensures ∙ ap (λ s. length s.octets) whole)
+    (subst (λ v. ExceedsLimit v.push_limit (length (octets_of g.T.Compressor.most m))) c.self.view_is
+    (subst (ExceedsLimit c.self.inside.push_limit) (ap length c.as_slice.ensures ∙ ap (λ s. length s.octets) whole)
     (c.is_past.ensures.past (search rules))))
 
 pub invariant_of-result : goal.invariant_of-result
@@ -103,5 +104,6 @@ returns-clause-fits g c within =
     ∙ ap (λ v. length v.state.octets) c.self.view_is in
     let asked = c.in_ok-append_questions.ensures.within
     (subst (IsWithin limit) (sym long) (within_second c.args.self.push_limit limit _ within)) in
-    within_both c.args.self.push_limit limit _ (subst (λ v. IsWithin v.push_limit (length c.append_questions.new.message.state.octets)) c.self.view_is
+    within_both c.args.self.push_limit limit _
+    (subst (λ v. IsWithin v.push_limit (length c.append_questions.new.message.state.octets)) c.self.view_is
     (subst (IsWithin in'.push_limit) (ap length c.as_slice.ensures) (c.is_past.ensures.within (search rules)))) asked

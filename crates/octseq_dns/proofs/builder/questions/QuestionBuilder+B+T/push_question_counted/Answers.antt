@@ -5,14 +5,15 @@ use Rattle.octseq_dns_compress.specs.Composed.{message_limit}
 use Rattle.octseq_dns.specs.Contents.{question_entry}
 use Rattle.octseq_dns.specs.Pushed.{pushed_question}
 use Rattle.octseq_dns.specs.Sections.{takes_questions}
-use Rattle.octseq_dns.specs.Writes.{IsBuilt, UpToQuestions, Writes, least_limit, more_questions}
+use Rattle.octseq_dns.specs.Writes.{IsBuilt, UpToQuestions, ComposesMessage, least_limit, more_questions}
 use Rattle.octseq_dns.proofs.Pushed.{pushed, pushed_within}
 use Rattle.octseq_dns.proofs.builder.questions.QuestionBuilder+B+T.push_question_counted.Goals as goal
 
 pub invariant_of-self : goal.invariant_of-self
 invariant_of-self g c =
     let in' = c.self.inside in
-    subst (λ s. IsBuilt g.T.Compressor.most s in'.header in'.counts UpToQuestions) (sym c.in_err-append_question.ensures.appended.err)
+    subst (λ s. IsBuilt g.T.Compressor.most s in'.header in'.counts UpToQuestions)
+    (sym c.in_err-append_question.ensures.appended.err)
     c.self.invariant
 
 pub invariant_of-self-2 : goal.invariant_of-self-2
@@ -41,7 +42,8 @@ returns-clause-written g c m is =
     let now_is = ap (λ n. record in'.counts { qdcount = n }) raised in
     pushed takes_questions g.T.Compressor.most m one in'.message.state c.append_question.new.message.state
     c.put_header.new.self.state in'.header in'.counts _ c.octets_of.result
-    (subst (λ v. Writes g.T.Compressor.most m v.state v.header v.counts) (sym c.self.view_is) is) c.self.invariant.1
+    (subst (λ v. ComposesMessage g.T.Compressor.most m v.state v.header v.counts)
+    (sym c.self.view_is) is) c.self.invariant.1
     c.in_ok-append_question.ensures.fits less now_is c.in_ok-append_question.ensures.appended.ok
     c.octets_of.ensures.octets c.put_header.ensures.state
 

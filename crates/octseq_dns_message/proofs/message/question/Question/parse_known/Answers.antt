@@ -13,7 +13,8 @@ parse_known-qname-requires g c = known_name question_parts IsAfterName (window c
 pub infallible-qtype-requires : goal.infallible-qtype-requires
 infallible-qtype-requires g c = ok_unless c.parse_after_name.result (λ refused.
     known_after question_parts IsAfterName (window c.args.parser.now) (window c.parse_known-qname.new.parser)
-    (labels_of c.parse_known-qname.result) c.requires c.parse_known-qname.ensures.name (c.parse_after_name.ensures.malformed refused))
+    (labels_of c.parse_known-qname.result) c.requires c.parse_known-qname.ensures.name
+    (c.parse_after_name.ensures.malformed refused))
 
 pub returns : goal.returns
 returns g c =

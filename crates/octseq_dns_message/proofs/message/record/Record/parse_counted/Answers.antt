@@ -3,7 +3,7 @@ use Rattle.octseq.specs.Parser.{window}
 use Rattle.octseq_dns_message.specs.Entry.{IsAfterOwner, Record}
 use Rattle.octseq_dns_name.specs.Read.{labels_of, name_of}
 use Rattle.octseq_dns_message.proofs.Formats.{none_after_name}
-use Rattle.octseq_dns_message.proofs.Places.{record_of_window}
+use Rattle.octseq_dns_message.proofs.Offsets.{record_of_window}
 use Rattle.octseq_dns_message.proofs.message.record.Record.parse_counted.Goals as goal
 
 pub returns-in_err-owner-clause-malformed : goal.returns-in_err-owner-clause-malformed

@@ -8,7 +8,7 @@ use Rattle.octseq_dns_name.proofs.Known.{ok_unless}
 use Rattle.octseq_dns_name.specs.Name.{IsName}
 use Rattle.octseq_dns_name.specs.Read.{labels_of, name_of}
 use Rattle.octseq_dns_message.proofs.Known.{known_name, known_after}
-use Rattle.octseq_dns_message.proofs.Places.{record_of_window}
+use Rattle.octseq_dns_message.proofs.Offsets.{record_of_window}
 use Rattle.octseq_dns_message.proofs.message.record.Record.parse_known.Goals as goal
 
 pub parse_known-owner-requires : goal.parse_known-owner-requires

@@ -24,8 +24,10 @@ invariant_of-self g c =
     let self = c.args.self.now in
     let some = c.if-self-eq0.false in
     record {
-      ahead = known_more question_code IsQuestion one_question (window self.parser) (window c.parse_known-entry.new.parser)
-          (question_of c.parse_known-entry.result) self.left (self.left - 1) self.ahead c.parse_known-entry.ensures.question
+      ahead = known_more question_code IsQuestion one_question (window self.parser)
+          (window c.parse_known-entry.new.parser)
+          (question_of c.parse_known-entry.result) self.left
+          (self.left - 1) self.ahead c.parse_known-entry.ensures.question
           (omega (arith, some));
     }
 
@@ -34,7 +36,8 @@ returns-clause-steps g c =
     let self = c.args.self.now in
     let some = c.if-self-eq0.false in
     known_then question_code IsQuestion one_question (window self.parser) (window c.parse_known-entry.new.parser)
-    (question_of c.parse_known-entry.result) self.left (self.left - 1) self.ahead c.parse_known-entry.ensures.question (omega (arith, some))
+    (question_of c.parse_known-entry.result) self.left (self.left - 1) self.ahead c.parse_known-entry.ensures.question
+    (omega (arith, some))
     c.self-1.given.0
 
 pub returns-clause-goes : goal.returns-clause-goes

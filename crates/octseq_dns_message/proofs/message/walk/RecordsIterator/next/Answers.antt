@@ -34,7 +34,8 @@ returns-clause-steps g c =
     let self = c.args.self.now in
     let some = c.if-self-eq0.false in
     known_then record_code IsRecord one_record (window self.parser) (window c.parse_known-entry.new.parser)
-    (record_of c.parse_known-entry.result) self.left (self.left - 1) self.ahead c.parse_known-entry.ensures.entry (omega (arith, some))
+    (record_of c.parse_known-entry.result) self.left (self.left - 1) self.ahead c.parse_known-entry.ensures.entry
+    (omega (arith, some))
     c.self-1.given.0
 
 pub returns-clause-goes : goal.returns-clause-goes

@@ -1,5 +1,5 @@
 use Rattle.std.proofs.Common.{◌≡◌, Err, map, length, refl, sym, ap, ◌∙◌, subst, rules}
-use Rattle.octseq.specs.Limit.{IsPast}
+use Rattle.octseq.specs.Limit.{ExceedsLimit}
 use Rattle.octseq_dns_name.specs.Name.{wire_length}
 use Rattle.octseq_dns_name.specs.Unfit.{AreUnfit}
 use Rattle.octseq_dns_name.specs.declared.error.FromLabelsError.{FromLabelsError}
@@ -24,10 +24,11 @@ returns-in_err-held-in_default-clause-refused g c = λ other no_memory.
     let made = c.in_ok-wire.ensures.ok in
     let size : length c.as_slice.result.now ≡ wire_length labels =
     ap length c.as_slice.ensures.content ∙ ap length made.0 ∙ wire_has labels in
-    let within : ¬ IsPast limit (length c.as_slice.result.now) = search rules in
+    let within : ¬ ExceedsLimit limit (length c.as_slice.result.now) = search rules in
     let is : c.from_residual-in_err-held-in_default.result ≡ Err FromLabelsError.Memory = search rules in (
       λ also. absurd (no_memory (let e = sym is ∙ also in let same : other ≡ FromLabelsError.Memory = cc in same)),
-      λ unfits. absurd (none_unfit limit labels made.1 made.2 (subst (λ n. ¬ IsPast limit n) size within) other unfits),
+      λ unfits. absurd (none_unfit limit labels made.1 made.2
+          (subst (λ n. ¬ ExceedsLimit limit n) size within) other unfits),
     )
 
 pub returns-in-Some-clause-refused : goal.returns-in-Some-clause-refused
@@ -36,8 +37,8 @@ returns-in-Some-clause-refused g c = λ other _.
     let limit = g.B.AsOctets.limit in
     let made = c.in_ok-wire.ensures.ok in
     let size : length c.in_ok-wire.wire.content ≡ wire_length labels = ap length made.0 ∙ wire_has labels in
-    let past : IsPast limit (length c.in_ok-wire.wire.content) = search rules in
-    let is : AreUnfit limit FromLabelsError.Short labels = (made.1, made.2, subst (IsPast limit) size past) in
+    let past : ExceedsLimit limit (length c.in_ok-wire.wire.content) = search rules in
+    let is : AreUnfit limit FromLabelsError.Short labels = (made.1, made.2, subst (ExceedsLimit limit) size past) in
     reported _ FromLabelsError.Short (λ f. AreUnfit limit f labels) refl is
     (λ f also. one_unfit limit FromLabelsError.Short f labels is also) other
 
@@ -48,6 +49,6 @@ returns-in_ok-held-in_default-clause-refused g c = λ other _.
     let made = c.in_ok-wire.ensures.ok in
     let size : length c.as_slice.result.now ≡ wire_length labels =
     ap length c.as_slice.ensures.content ∙ ap length made.0 ∙ wire_has labels in
-    let within : ¬ IsPast limit (length c.as_slice.result.now) = search rules in
+    let within : ¬ ExceedsLimit limit (length c.as_slice.result.now) = search rules in
     none_reported _ _ (λ f. AreUnfit limit f labels) refl
-    (none_unfit limit labels made.1 made.2 (subst (λ n. ¬ IsPast limit n) size within)) other
+    (none_unfit limit labels made.1 made.2 (subst (λ n. ¬ ExceedsLimit limit n) size within)) other

@@ -4,8 +4,8 @@ use Rattle.octseq_mrt.specs.Parsed.{peer_of}
 use Rattle.octseq_mrt.proofs.Listing.{listed_long, listed_place, refused_by, table_more}
 use Rattle.octseq_mrt.proofs.builder.peers.PeerTableBuilder.push_parts.Goals as goal
 
-pub push_item-requires-clause-place : goal.push_item-requires-clause-place
-push_item-requires-clause-place g c = listed_place c.args.self.now.table.1
+pub push_item-requires-clause-offset : goal.push_item-requires-clause-offset
+push_item-requires-clause-offset g c = listed_place c.args.self.now.table.1
 
 pub invariant_of-self : goal.invariant_of-self
 invariant_of-self g c =

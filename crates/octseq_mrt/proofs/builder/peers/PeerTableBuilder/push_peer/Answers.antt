@@ -9,4 +9,11 @@ push_parts-requires-clause-octets g c =
     let kind : c.to_be_bytes.result ≡ octets_be 1 p.peer_type = search (rules, written_1) in
     let id : c.to_be_bytes-2.result ≡ octets_be 4 p.bgp_id = search (rules, written_4) in
     let asn = c.asn_octets.ensures p.asn.0 (search (rules, written_4)) in
-    rw (kind, id, c.address_octets-addr_len.ensures.octets, asn, c.has_wide_asn.ensures, append-nil (octets_be _ p.asn.0)) refl
+    rw (
+      kind,
+      id,
+      c.address_octets-addr_len.ensures.octets,
+      asn,
+      c.has_wide_asn.ensures,
+      append-nil (octets_be _ p.asn.0),
+    ) refl

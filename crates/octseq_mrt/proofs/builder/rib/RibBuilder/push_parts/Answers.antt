@@ -3,8 +3,8 @@ use Rattle.octseq_mrt.specs.Building.{pushed_route, same_rib}
 use Rattle.octseq_mrt.proofs.Listing.{listed_long, listed_place, refused_by, rib_more}
 use Rattle.octseq_mrt.proofs.builder.rib.RibBuilder.push_parts.Goals as goal
 
-pub push_item-requires-clause-place : goal.push_item-requires-clause-place
-push_item-requires-clause-place g c = listed_place c.args.self.now.rib.1
+pub push_item-requires-clause-offset : goal.push_item-requires-clause-offset
+push_item-requires-clause-offset g c = listed_place c.args.self.now.rib.1
 
 pub invariant_of-self : goal.invariant_of-self
 invariant_of-self g c =

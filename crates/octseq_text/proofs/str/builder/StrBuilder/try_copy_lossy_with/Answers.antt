@@ -1,6 +1,6 @@
 use Rattle.std.proofs.Common.{◌++◌, [], length, refl, ap, sym, ◌∙◌, subst}
 use Rattle.std.proofs.lemmas.Result.{err_from_is_err_and}
-use Rattle.octseq_core.specs.Limit.{IsPast}
+use Rattle.octseq_core.specs.Limit.{ExceedsLimit}
 use Rattle.octseq_core.specs.Refusal.{append_error}
 use Rattle.octseq_core.proofs.Limits.{within_not_past}
 use Rattle.octseq_utf8.specs.Parts.{text_with}
@@ -32,7 +32,7 @@ returns-in_err-append_lossy g c =
     (record {
       answer = reads_lossily append_error _ _ c.args.replacement [] _ _ _
           (from_scalar c.args.replacement c.ranges.replacement.0) ([], spells_nothing)
-          tt (λ h. subst (λ y. IsPast g.Octets.AsOctets.limit (length (y ++ text))) c.in_ok-made.ensures.ok
+          tt (λ h. subst (λ y. ExceedsLimit g.Octets.AsOctets.limit (length (y ++ text))) c.in_ok-made.ensures.ok
           (c.in_err-append_lossy.ensures.short h)) (λ past. refl)
           c.in_err-append_lossy.ensures.memory;
     })
@@ -53,6 +53,6 @@ returns g c =
           (from_scalar c.args.replacement c.ranges.replacement.0) ([], spells_nothing)
           (ap g.Octets.AsOctets.content c.from_utf8_unchecked.ensures ∙ made) (λ h. absurd h)
           (λ past. absurd (within_not_past g.Octets.AsOctets.limit _ c.in_ok-append_lossy.ensures.within
-          (subst (λ y. IsPast g.Octets.AsOctets.limit (length y)) (sym made) past)))
+          (subst (λ y. ExceedsLimit g.Octets.AsOctets.limit (length y)) (sym made) past)))
           (λ h. absurd h);
     }

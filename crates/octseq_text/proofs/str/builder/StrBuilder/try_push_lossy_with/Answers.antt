@@ -1,5 +1,5 @@
 use Rattle.std.proofs.Common.{length, refl, sym, subst}
-use Rattle.octseq_core.specs.Limit.{IsPast}
+use Rattle.octseq_core.specs.Limit.{ExceedsLimit}
 use Rattle.octseq_core.specs.Refusal.{append_error}
 use Rattle.octseq_core.proofs.Limits.{within_not_past}
 use Rattle.octseq_utf8.specs.Text.{IsWellFormed}
@@ -24,7 +24,7 @@ returns-in-Ok-clause-answer g c =
     c.args.octets.now _ _
     (from_scalar c.args.replacement c.ranges.replacement.0) c.self.invariant c.in-Ok.ensures.text (λ h. absurd h)
     (λ past. absurd (within_not_past g.Octets.AsOctets.limit _ c.in-Ok.ensures.within
-    (subst (λ y. IsPast g.Octets.AsOctets.limit (length y)) (sym c.in-Ok.ensures.text) past)))
+    (subst (λ y. ExceedsLimit g.Octets.AsOctets.limit (length y)) (sym c.in-Ok.ensures.text) past)))
     (λ h. absurd h))
 
 pub returns-in-Err-clause-answer : goal.returns-in-Err-clause-answer

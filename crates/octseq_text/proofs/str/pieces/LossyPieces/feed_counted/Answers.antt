@@ -1,5 +1,5 @@
 use Rattle.std.proofs.Common.{◌+◌, ◌≤◌, ◌++◌, length, arith, sym, subst}
-use Rattle.octseq_core.specs.Limit.{IsPast}
+use Rattle.octseq_core.specs.Limit.{ExceedsLimit}
 use Rattle.octseq_utf8.proofs.Splitting.{only_parts}
 use Rattle.octseq_text.proofs.Completions.{parts_open}
 use Rattle.octseq_text.proofs.Piecewise.{feed_has_read, feed_text, feed_too_long, sound_reading}
@@ -27,7 +27,7 @@ returns-in-Ok-clause-past g c =
     let read = c.in-Ok.ensures.read in
     rw (← c.self.view_is)
     (λ octets end settled s t p. absurd (within_not_past g.B.AsOctets.limit _ c.in-Ok.ensures.within
-    (subst (λ y. IsPast g.B.AsOctets.limit (length y))
+    (subst (λ y. ExceedsLimit g.B.AsOctets.limit (length y))
     (sym (feed_text _ octets c.args.piece.now _ _ s read c.in-Ok.ensures.open_end end settled t)) p)))
 
 pub returns-in-Err-clause-short : goal.returns-in-Err-clause-short

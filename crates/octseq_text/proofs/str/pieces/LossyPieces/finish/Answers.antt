@@ -1,6 +1,6 @@
 use Rattle.std.proofs.Common.{length, ap, sym, ◌∙◌, subst}
 use Rattle.std.proofs.lemmas.Result.{err_from_is_err_and}
-use Rattle.octseq_core.specs.Limit.{IsPast}
+use Rattle.octseq_core.specs.Limit.{ExceedsLimit}
 use Rattle.octseq_text.proofs.Piecewise.{finish_text, finish_well_formed, finish_too_long}
 use Rattle.octseq_core.proofs.Limits.{within_not_past}
 use Rattle.octseq_text.proofs.str.pieces.LossyPieces.finish.Goals as goal
@@ -26,5 +26,5 @@ returns-clause-text g c =
 pub returns-clause-past : goal.returns-clause-past
 returns-clause-past g c = λ octets parts s t p.
     absurd (within_not_past g.B.AsOctets.limit _ c.in_ok-append_end.ensures.within
-    (subst (λ y. IsPast g.B.AsOctets.limit (length y)) (sym (returns-clause-text g c octets parts s t)
+    (subst (λ y. ExceedsLimit g.B.AsOctets.limit (length y)) (sym (returns-clause-text g c octets parts s t)
     ∙ ap g.B.AsOctets.content c.from_utf8_unchecked.ensures) p))

@@ -9,5 +9,6 @@ invariant_of-result g c =
     (ap (λ (a : ArrayOctets). a.content) c.new.ensures) refl
 
 pub returns-clause-has_read : goal.returns-clause-has_read
-returns-clause-has_read g c = has_read_nothing _ c.in_ok-text.ensures.ok (ap (λ (a : ArrayOctets). a.content) c.new.ensures)
+returns-clause-has_read g c = has_read_nothing _ c.in_ok-text.ensures.ok
+    (ap (λ (a : ArrayOctets). a.content) c.new.ensures)
     refl

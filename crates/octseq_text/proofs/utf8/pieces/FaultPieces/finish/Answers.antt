@@ -1,11 +1,13 @@
 use Rattle.std.proofs.Common.{refl}
-use Rattle.octseq_text.proofs.FaultSearching.{reported_fault, reported_refutes, met_reported, all_well_formed, end_reported}
+use Rattle.octseq_text.proofs.FaultSearching.{reported_fault, reported_refutes, met_reported, all_well_formed}
+use Rattle.octseq_text.proofs.FaultSearching.{end_reported}
 use Rattle.octseq_text.proofs.utf8.pieces.FaultPieces.finish.Goals as goal
 
 -- where a fault was met
 
 pub returns-in-Some-clause-reported : goal.returns-in-Some-clause-reported
-returns-in-Some-clause-reported c = rw (← c.self.view_is) (λ octets s. met_reported _ octets c.in-Some.fault s c.in-Some.is)
+returns-in-Some-clause-reported c = rw (← c.self.view_is)
+    (λ octets s. met_reported _ octets c.in-Some.fault s c.in-Some.is)
 
 pub returns-in-Some-clause-fault : goal.returns-in-Some-clause-fault
 returns-in-Some-clause-fault c = λ octets s. reported_fault octets _ (returns-in-Some-clause-reported c octets s)

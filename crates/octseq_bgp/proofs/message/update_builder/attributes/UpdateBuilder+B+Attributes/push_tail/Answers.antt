@@ -23,8 +23,13 @@ invariant_of-self-inside g c =
     let a : WrittenAttribute = record { flags = c.args.flags; kind = c.args.type_code; octets = octets } in
     let wanted = attribute_after in'.held a (c.as_slice.ensures ∙ made.octets) made.flags made.type_code
     (made.some refl) in
-    let puts = rw c.longest-most.ensures.value at c.in-Ok.ensures.puts in
-    ((more_attributes in'.held.0 a, ∣ put_held puts (least_most (longest in'.session) g.B.AsOctets.limit) wanted tt ∣₁), tt)
+    let puts = rw c.longest-most.ensures.value at c.in-Ok.ensures.puts in (
+      (
+        more_attributes in'.held.0 a,
+        ∣ put_held puts (least_most (longest in'.session) g.B.AsOctets.limit) wanted tt ∣₁,
+      ),
+      tt,
+    )
 
 pub invariant_of-self-inside-in-Err-1 : goal.invariant_of-self-inside-in-Err-1
 invariant_of-self-inside-in-Err-1 g c = (none_held c.in-Err.ensures.puts c.self.inside.held, tt)

@@ -9,7 +9,8 @@ use Rattle.octseq_bgp.proofs.message.update_builder.fill.UpdateBuilder+B+Announc
 
 abbrev pub invariant-loop-prefix : goal.invariant-loop-prefix
 invariant-loop-prefix g l = record {
-  put : ArePut (λ p. IsPrefixOf l.fn.self.session family.Ipv4Unicast p.0 p.1) (with_announced l.fn.self.update) l.fn.prefixes
+  put : ArePut (λ p. IsPrefixOf l.fn.self.session family.Ipv4Unicast p.0 p.1)
+      (with_announced l.fn.self.update) l.fn.prefixes
       (least (longest l.fn.self.session) g.B.AsOctets.limit) l.fn.self l.self l.prefix-index;
   count : l.announced ≡ l.prefix-index;
   borrows : g.B.AsOctets.borrows l.self.octets ≡ g.B.AsOctets.borrows l.fn.self.octets;

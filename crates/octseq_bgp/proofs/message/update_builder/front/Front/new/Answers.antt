@@ -1,4 +1,5 @@
-use Rattle.std.proofs.Common.{◌+◌, ◌-◌, ◌++◌, ◌∷◌, [], sym, ap, ◌∙◌, arith, length, take, get_or, replicate, append_assoc}
+use Rattle.std.proofs.Common.{◌+◌, ◌-◌, ◌++◌, ◌∷◌, [], sym, ap, ◌∙◌, arith, length, take, get_or, replicate}
+use Rattle.std.proofs.Common.{append_assoc}
 use Rattle.octseq.specs.Integer.{octets_be}
 use Rattle.octseq.proofs.Written.{made_be_2}
 use borrow.Rule.Slice.PartMut.{put_mid}

@@ -15,11 +15,14 @@ returns-clause-octets c =
     let address = c.copy_from_slice-2.new.self in
     let bits = c.args.prefix.now.len in
     let n = c.octets_of_bits-len.result in
-    let whole = put_mid 5 16 (set (id ++ 0 ∷ 0 ∷ 0 ∷ 0 ∷ 0 ∷ 0 ∷ 0 ∷ 0 ∷ 0 ∷ 0 ∷ 0 ∷ 0 ∷ 0 ∷ 0 ∷ 0 ∷ 0 ∷ 0 ∷ []) 4 bits) address in
+    let whole = put_mid 5 16
+    (set (id ++ 0 ∷ 0 ∷ 0 ∷ 0 ∷ 0 ∷ 0 ∷ 0 ∷ 0 ∷ 0 ∷ 0 ∷ 0 ∷ 0 ∷ 0 ∷ 0 ∷ 0 ∷ 0 ∷ 0 ∷ []) 4 bits) address in
     let tail : bits ∷ take n address ≡ octets_be 1 bits ++ address_from n 0 bits c.args.prefix.now.address =
     ap (λ o. bits ∷ o) (ap (take n) c.copy_from_slice-2.ensures.after ∙ c.cleared_address-address.ensures)
-    ∙ ap (λ o. o ++ address_from n 0 bits c.args.prefix.now.address) (sym (one_octet bits (omega (arith, c.requires)))) in
-    let all = ap (λ k. path_octets c.args.path_id ++ (octets_be 1 bits ++ address_from k 0 bits c.args.prefix.now.address))
+    ∙ ap (λ o. o ++ address_from n 0 bits c.args.prefix.now.address)
+    (sym (one_octet bits (omega (arith, c.requires)))) in
+    let all = ap (λ k. path_octets c.args.path_id
+    ++ (octets_be 1 bits ++ address_from k 0 bits c.args.prefix.now.address))
     c.octets_of_bits-len.ensures.octets in
     let copied = c.copy_from_slice.ensures.after in
     elim c.match-path_id.branch [

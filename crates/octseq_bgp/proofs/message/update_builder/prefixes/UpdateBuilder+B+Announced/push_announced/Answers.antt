@@ -22,7 +22,9 @@ invariant_of-self-inside g c =
     let octets = c.new-octets.ensures.octets in
     let puts = rw c.longest-most.ensures.value at c.append_announced.ensures.puts in (
       push_held c.append_announced.result puts (least_most (longest in'.session) g.B.AsOctets.limit)
-          (announced_wanted in'.held (written_prefix p c.args.path_id) (slice_range c.new-octets.result.octets c.new-octets.result.start c.new-octets.result.end) fits octets) in'.held (λ o. o),
+          (announced_wanted in'.held (written_prefix p c.args.path_id)
+          (slice_range c.new-octets.result.octets c.new-octets.result.start c.new-octets.result.end) fits octets)
+          in'.held (λ o. o),
       tt,
     )
 
@@ -36,5 +38,7 @@ returns-clause-pushed g c =
     let puts = rw c.longest-most.ensures.value at c.append_announced.ensures.puts in
     rw (← c.self.view_is)
     (pushes c.append_announced.result puts
-    (announced_wanted in'.held (written_prefix p c.args.path_id) (slice_range c.new-octets.result.octets c.new-octets.result.start c.new-octets.result.end) fits octets) good refl refl
+    (announced_wanted in'.held (written_prefix p c.args.path_id)
+    (slice_range c.new-octets.result.octets c.new-octets.result.start c.new-octets.result.end) fits octets) good
+    refl refl
     in'.held refl c.self-1.given.0 refl refl)

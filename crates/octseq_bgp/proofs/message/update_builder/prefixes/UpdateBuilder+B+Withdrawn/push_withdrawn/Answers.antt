@@ -21,7 +21,8 @@ invariant_of-self-inside g c =
     let octets = c.as_slice.ensures ∙ c.new-octets.ensures.octets in
     let puts = rw c.longest-most.ensures.value at c.append_withdrawn.ensures.puts in (
       push_held c.append_withdrawn.result puts (least_most (longest in'.session) g.B.AsOctets.limit)
-          (withdrawn_wanted in'.held (written_prefix p c.args.path_id) c.as_slice.result.now fits octets) in'.held (λ o. o),
+          (withdrawn_wanted in'.held (written_prefix p c.args.path_id) c.as_slice.result.now fits octets) in'.held
+          (λ o. o),
       tt,
     )
 

@@ -4,7 +4,7 @@ use Rattle.octseq_bgp.specs.Written.{flags_for, head_octets, length_width, longe
 use Rattle.octseq_bgp.specs.Writing.{list_type}
 use Rattle.octseq_bgp.proofs.Attributes.{none_announced, typed_many}
 use Rattle.octseq_bgp.proofs.Composing.{least_most}
-use Rattle.octseq_bgp.proofs.Lasts.{grown_open, grown_past, grown_wanted, head_fits, head_grows, place_fits}
+use Rattle.octseq_bgp.proofs.Lasts.{grown_open, grown_past, grown_wanted, head_fits, head_grows, offset_fits}
 use Rattle.octseq_bgp.proofs.Pushes.{push_held, pushes, too_long}
 use Rattle.octseq_bgp.proofs.Updates.{held_long, longest_most}
 use Rattle.octseq_bgp.proofs.message.update_builder.reach.UpdateBuilder+B+Attributes.grow_last.Goals as goal
@@ -12,7 +12,7 @@ use Rattle.octseq_bgp.proofs.message.update_builder.reach.UpdateBuilder+B+Attrib
 pub overflow_sub-len : goal.overflow_sub-len
 overflow_sub-len g c =
     let opened = rw (← c.self.view_is) at c.requires.list in
-    let fits = place_fits c.self.inside.held c.args.list opened in
+    let fits = offset_fits c.self.inside.held c.args.list opened in
     omega (arith, fits, c.attributes_len.ensures)
 
 pub overflow_sub-len-2 : goal.overflow_sub-len-2
@@ -39,7 +39,8 @@ returns-in_default-clause-pushed g c =
     let count : n ≡ length in'.octets.attributes - in'.open_at - old + length c.args.more.now =
     ap (λ k. k - in'.open_at - old + length c.args.more.now) c.attributes_len.ensures in
     let flags = c.flags_for.ensures ∙ ap (λ t. flags_for t n) c.kind-kind.ensures in
-    let many = typed_many (list_type c.args.list) n (subst (λ f. 256 ^ length_width f ≤ n) flags (c.in_default.ensures.none refl)) in
+    let many = typed_many (list_type c.args.list) n
+    (subst (λ f. 256 ^ length_width f ≤ n) flags (c.in_default.ensures.none refl)) in
     let past = grown_past in'.held c.args.list opened old (record { short = heads.short; long = heads.long })
     c.args.more.now n count many in
     let most = longest_most in'.session in

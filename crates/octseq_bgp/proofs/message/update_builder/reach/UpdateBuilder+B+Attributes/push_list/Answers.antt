@@ -18,7 +18,7 @@ invariant_of-self-inside g c =
       front = in'.held.0.attributes;
       octets = c.args.octets.now;
       is = ap (λ (u : WrittenUpdate). u.attributes) update;
-      place = c.attributes_len-at.ensures ∙ ap length (held_attributes in'.held);
+      offset = c.attributes_len-at.ensures ∙ ap length (held_attributes in'.held);
     } in
     (held_as after.held (λ up. up) (λ opened. last), tt)
 
@@ -26,5 +26,6 @@ pub returns-in-Ok-clause-pushed : goal.returns-in-Ok-clause-pushed
 returns-in-Ok-clause-pushed g c =
     let pushed = rw c.kind.ensures at c.in-Ok.ensures.pushed in
     pushes_opened pushed tt
-    (held_same c.self-1.given.0 c.self-2.inside.held ∙ ap (λ (v : Writing g.row.B.Denot). v.update) c.self-2.view_is) refl
+    (held_same c.self-1.given.0 c.self-2.inside.held
+    ∙ ap (λ (v : Writing g.row.B.Denot). v.update) c.self-2.view_is) refl
     (ap (λ (v : Writing g.row.B.Denot). v.session) c.self-2.view_is)

@@ -1,5 +1,0 @@
-//! Tests of compressed names: what no proof covers.
-#![tactic(auto)]
-
-#[cfg(test)]
-mod tests;

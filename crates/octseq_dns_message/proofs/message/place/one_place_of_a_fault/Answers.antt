@@ -1,5 +1,0 @@
-use Rattle.octseq_dns_message.proofs.Stops.{one_stop}
-use Rattle.octseq_dns_message.proofs.message.place.one_place_of_a_fault.Goals as goal
-
-pub returns : goal.returns
-returns c = one_stop

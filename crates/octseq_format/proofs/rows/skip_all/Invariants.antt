@@ -1,0 +1,25 @@
+-- Some items were passed.
+use Rattle.std.proofs.Common.{◌≡◌, ◌+◌, ◌*◌, ◌^◌, ◌<◌, ◌≤◌, List}
+use Rattle.octseq.specs.Parser.{sequence, window}
+use Rattle.octseq.specs.Window.{left}
+use Rattle.octseq_format.specs.Row.{Many, row_turns}
+use Rattle.octseq_format.proofs.rows.skip_all.Given as goal
+
+abbrev pub invariant-items : goal.invariant-items
+invariant-items g l =
+    let f = g.F.Format in
+    record {
+      all : (row : List f.Found) × Many l.count f.is_at (window l.fn.parser) row (window l.parser)
+          × (l.fn.turns + row_turns f.turns_of row ≤ l.turns);
+      ahead : l.left ≡ left (window l.parser);
+      few : l.count + l.left < 2 ^ 64;
+      onward : l.left ≤ left (window l.fn.parser);
+      same : sequence l.parser ≡ sequence l.fn.parser;
+      end : (window l.parser).end ≡ (window l.fn.parser).end;
+      some : l.fn.turns ≤ l.turns;
+      took : l.turns + (f.base + 1 + f.rate) * left (window l.parser)
+          ≤ l.fn.turns + (f.base + 1 + f.rate) * left (window l.fn.parser);
+    }
+
+abbrev pub decreases-items : goal.decreases-items
+decreases-items g l = left (window l.parser)

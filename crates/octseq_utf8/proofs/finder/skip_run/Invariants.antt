@@ -1,0 +1,9 @@
+use Rattle.std.proofs.Common.{length, ◌-◌}
+use Rattle.octseq_utf8.proofs.Search.{Passes}
+use Rattle.octseq_utf8.proofs.finder.skip_run.Given as goal
+
+abbrev pub invariant-loop-at : goal.invariant-loop-at
+invariant-loop-at g l = Passes l.octets l.from l.at l.fn.turns l.turns
+
+abbrev pub decreases-loop-at : goal.decreases-loop-at
+decreases-loop-at g l = length l.initial.octets - l.at
