@@ -4,7 +4,7 @@ use Rattle.octseq.specs.Window.{rest}
 use Rattle.octseq_format.specs.Canonical.{AreOctets}
 use Rattle.octseq_bgp.specs.Composed.{message_octets}
 use Rattle.octseq_bgp.specs.Message.{IsMessage, Message}
-use Rattle.octseq_bgp.specs.Minimal.{IsBodyMinimal, IsMinimal}
+use Rattle.octseq_bgp.specs.Minimal.{IsBodyMinimal, IsMinimalMessage}
 use Rattle.octseq_bgp.specs.Rewritten.{IsMessageRewritten, IsRewritten}
 use Rattle.octseq_bgp.specs.declared.session.SessionConfig.{SessionConfig}
 use Rattle.octseq_bgp.proofs.Anew.{Shrinks}
@@ -34,7 +34,7 @@ pub no_longer : (s : SessionConfig) (octets out : List ℕ) → AreOctets octets
     → length out ≤ length octets
 no_longer s octets out each anew = (message_shrinks s octets out anew.0 each anew.1 anew.2).short
 
-pub minimal_stays : (s : SessionConfig) (octets out : List ℕ) → AreOctets octets → IsMinimal s octets
+pub minimal_stays : (s : SessionConfig) (octets out : List ℕ) → AreOctets octets → IsMinimalMessage s octets
     → IsRewritten s octets out → out ≡ octets
 minimal_stays s octets out each minimal anew =
     let m = minimal.message in

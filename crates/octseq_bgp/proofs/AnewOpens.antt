@@ -10,7 +10,7 @@ use Rattle.octseq.specs.Integer.{be, octets_be}
 use Rattle.octseq.specs.Part.{part_of}
 use Rattle.octseq.specs.Window.{Window, left, next, past, rest}
 use Rattle.octseq_format.proofs.Parts.{part_of_counted}
-use Rattle.octseq_format.specs.Canonical.{IsSound, many_rest}
+use Rattle.octseq_format.specs.Canonical.{IsSoundWindow, many_rest}
 use Rattle.octseq_format.specs.Fixed.{canonical_fixed}
 use Rattle.octseq_format.specs.Pair.{same_pair}
 use Rattle.octseq_bgp.specs.Capability.{CapabilityValue, HasCode, IsCapabilityValue, ParameterValue}
@@ -50,7 +50,7 @@ family_kept t = record {
       ap (λ f. tuple_octets (t.0, (t.1.0, f))) flags;
 }
 
-coded_kept : (c : CapabilityType) (w : Window) (v : CapabilityValue) → IsSound w → HasCode c w v
+coded_kept : (c : CapabilityType) (w : Window) (v : CapabilityValue) → IsSoundWindow w → HasCode c w v
     → Kept (HasNoReserved v) (capability_anew v (rest w)) (rest w)
 coded_kept code.MultiProtocol w v sound is =
     let t = is.0 in
@@ -85,7 +85,7 @@ coded_kept code.EnhancedRouteRefresh w v sound is =
 coded_kept _ w v sound is =
     subst (λ v. Kept (HasNoReserved v) (capability_anew v (rest w)) (rest w)) (sym is.1) (kept_as refl)
 
-pub value_kept : (number : ℕ) (w : Window) (v : CapabilityValue) → IsSound w → IsCapabilityValue number w v
+pub value_kept : (number : ℕ) (w : Window) (v : CapabilityValue) → IsSoundWindow w → IsCapabilityValue number w v
     → Kept (HasNoReserved v) (capability_anew v (rest w)) (rest w)
 value_kept number w v sound (inl is) = coded_kept is.0 w v sound is.2
 value_kept number w v sound (inr is) =
@@ -192,7 +192,7 @@ short_enough row apart few =
     let short : nat_le 256 (length (parameters_octets false row)) ≡ false = grind (arith, nat_tests) in
     ap (λ b. not b || nat_le 256 (length (parameters_octets false row))) apart ∙ short
 
-parameters_back : (w : Window) (row : List (ℕ × Window)) → IsSound w → (has : HasParameters w row)
+parameters_back : (w : Window) (row : List (ℕ × Window)) → IsSoundWindow w → (has : HasParameters w row)
     → ParametersBack w row has
 parameters_back w row sound (HasParameters.short not inside is fills) =
     let said = map says_parameter row in
@@ -250,7 +250,7 @@ record OpenBack (w : Window) (o : Open) (is : IsOpen w o) : Type 0 where
   are : rest w ≡ open_numbers o ++ (parameters.front ++ parameters_octets parameters.long
       (map says_parameter o.parameters))
 
-open_back : (w : Window) (o : Open) → IsSound w → (is : IsOpen w o) → OpenBack w o is
+open_back : (w : Window) (o : Open) → IsSoundWindow w → (is : IsOpen w o) → OpenBack w o is
 open_back w o sound is =
     let front = whole_back (number_back 1 back_and number_back 2 back_and number_back 2 back_and number_back 4
     back_and rest_back)
@@ -280,7 +280,7 @@ form_fewer row false false so = omega arith
 form_parts : (h n l p : List ℕ) → (h ++ (n ++ l)) ++ p ≡ h ++ (n ++ (l ++ p))
 form_parts h n l p = simp append_assoc
 
-pub open_shrinks : (w : Window) (o : Open) (out : List ℕ) → IsSound w → IsOpen w o → IsOpenRewritten o out
+pub open_shrinks : (w : Window) (o : Open) (out : List ℕ) → IsSoundWindow w → IsOpen w o → IsOpenRewritten o out
     → Shrinks (IsOpenMinimal w o) out (message_octets 1 (rest w))
 open_shrinks w o out sound is anew =
     let back = open_back w o sound is in
@@ -317,7 +317,7 @@ short_fewer : (long : Bool) (row : List WrittenParameter)
 short_fewer true row = let long = long_row row in omega (arith, long)
 short_fewer false row = omega arith
 
-pub open_ready : (w : Window) (o : Open) → IsSound w → IsOpen w o
+pub open_ready : (w : Window) (o : Open) → IsSoundWindow w → IsOpen w o
     → AreItemsSound o.parameters × (length (said_octets false o.parameters) ≤ left w)
 open_ready w o sound is =
     let back = open_back w o sound is in

@@ -14,7 +14,7 @@ use Rattle.octseq.proofs.Written.{length_be}
 use Rattle.octseq.specs.Integer.{octets_be}
 use Rattle.octseq.specs.Part.{part_of}
 use Rattle.octseq.specs.Window.{Window, left, rest}
-use Rattle.octseq_format.specs.Canonical.{IsSound, many_rest}
+use Rattle.octseq_format.specs.Canonical.{IsSoundWindow, many_rest}
 use Rattle.octseq_bgp.specs.Composed.{long_after, message_octets}
 use Rattle.octseq_bgp.specs.Family.{afi_number, afi_of, safi_number}
 use Rattle.octseq_bgp.specs.Minimal.{AreClear, IsAttributeMinimal, IsClear, IsUpdateMinimal, IsValueMinimal}
@@ -31,7 +31,7 @@ use Rattle.octseq_bgp.specs.Update.{IsUpdate, Update}
 use Rattle.octseq_bgp.specs.Value.{HasForm, IsReach, IsUnreach, IsValue, Reach, Unreach, Value}
 use Rattle.octseq_bgp.specs.Written.{IsHopOf, WrittenAttribute, attribute_octets, attributes_octets, body_octets}
 use Rattle.octseq_bgp.specs.Written.{hop_octets}
-use Rattle.octseq_bgp.specs.Written.{length_width, path_octets, prefix_octets, prefixes_octets}
+use Rattle.octseq_bgp.specs.Written.{length_width, path_id_octets, prefix_octets, prefixes_octets}
 use Rattle.octseq_bgp.specs.declared.attribute.attribute_type.AttributeType.{AttributeType}
 use Rattle.octseq_bgp.specs.declared.attribute.attribute_type.AttributeType.TheVariants as kind
 use Rattle.octseq_bgp.specs.declared.attribute.next_hop.NextHop.{NextHop}
@@ -74,7 +74,7 @@ address_kept bits octets many =
     }
 
 prefix_kept : (n : Nlri) → HasItsOctets n → Kept (IsClear n) (prefix_octets (prefix_anew n)) (nlri_octets n)
-prefix_kept n has = front_kept (path_octets n.path_id) (front_kept (octets_be 1 n.bits)
+prefix_kept n has = front_kept (path_id_octets n.path_id) (front_kept (octets_be 1 n.bits)
     (address_kept n.bits (rest n.octets) has.1))
 
 pub prefixes_kept : (row : List Nlri) → AllByRecursion HasItsOctets row
@@ -106,7 +106,8 @@ reserved_kept n = record {
 reach_parts : (a b c d e : List ℕ) → (a ++ (b ++ (c ++ d))) ++ e ≡ a ++ (b ++ (c ++ (d ++ e)))
 reach_parts a b c d e = simp append_assoc
 
-reach_formed : (s : SessionConfig) (w : Window) (r : Reach) → IsSound w → IsReach s w r → Formed s w (Value.reach r)
+reach_formed : (s : SessionConfig) (w : Window) (r : Reach) → IsSoundWindow w → IsReach s w r
+    → Formed s w (Value.reach r)
 reach_formed s w r sound is =
     let front = whole_back (number_back 2 back_and number_back 1 back_and counted_back 1 back_and number_back 1
     back_and rest_back)
@@ -127,7 +128,7 @@ reach_formed s w r sound is =
       fits = (hop_fits r.family is.next_hops r.next_hop is.next_hop, all_few r.prefixes prefixes.1);
     }
 
-unreach_formed : (s : SessionConfig) (w : Window) (r : Unreach) → IsSound w → IsUnreach s w r
+unreach_formed : (s : SessionConfig) (w : Window) (r : Unreach) → IsSoundWindow w → IsUnreach s w r
     → Formed s w (Value.unreach r)
 unreach_formed s w r sound is =
     let front = whole_back (number_back 2 back_and number_back 1 back_and rest_back) w _ sound is.front in
@@ -142,7 +143,7 @@ unreach_formed s w r sound is =
       fits = all_few r.prefixes prefixes.1;
     }
 
-form_formed : (s : SessionConfig) (w : Window) → IsSound w → (t : AttributeType) (v : Value) → HasForm s t w v
+form_formed : (s : SessionConfig) (w : Window) → IsSoundWindow w → (t : AttributeType) (v : Value) → HasForm s t w v
     → Formed s w v
 form_formed s w sound kind.MpReachNlri v is = subst (Formed s w) (sym is.1) (reach_formed s w is.0 sound is.2)
 form_formed s w sound kind.MpUnreachNlri v is = subst (Formed s w) (sym is.1) (unreach_formed s w is.0 sound is.2)
@@ -150,7 +151,7 @@ form_formed s w sound kind.AtomicAggregate v is = subst (Formed s w) (sym is.0)
     (record { kept = kept_as refl; fits = tt })
 form_formed s w sound _ v is = subst (Formed s w) (sym is.1) (record { kept = kept_as refl; fits = tt })
 
-pub value_formed : (s : SessionConfig) (w : Window) → IsSound w → (number : ℕ) (v : Value) → IsValue s number w v
+pub value_formed : (s : SessionConfig) (w : Window) → IsSoundWindow w → (number : ℕ) (v : Value) → IsValue s number w v
     → Formed s w v
 value_formed s w sound number v (inl typed) = form_formed s w sound typed.0 v typed.2
 value_formed s w sound number v (inr other) = subst (Formed s w) (sym other.0)
@@ -299,7 +300,7 @@ pub record UpdateBack (w : Window) (u : Update) : Type 0 where
   pub attributes : AllByRecursion IsAttributeSound u.attributes
   pub announced : AllByRecursion HasItsOctets u.announced
 
-pub update_back : (s : SessionConfig) (w : Window) (u : Update) → IsSound w → IsUpdate s w u → UpdateBack w u
+pub update_back : (s : SessionConfig) (w : Window) (u : Update) → IsSoundWindow w → IsUpdate s w u → UpdateBack w u
 update_back s w u sound is =
     let parts = whole_back (counted_back 2 back_and counted_back 2 back_and rest_back) w is.parts sound is.are in
     let paths = adds_path s.add_path family.Ipv4Unicast in
@@ -315,7 +316,7 @@ update_back s w u sound is =
       announced = announced.1;
     }
 
-pub update_shrinks : (s : SessionConfig) (w : Window) (u : Update) (out : List ℕ) → IsSound w → IsUpdate s w u
+pub update_shrinks : (s : SessionConfig) (w : Window) (u : Update) (out : List ℕ) → IsSoundWindow w → IsUpdate s w u
     → IsUpdateRewritten u out → Shrinks (IsUpdateMinimal u) out (message_octets 2 (rest w))
 update_shrinks s w u out sound is anew =
     let back = update_back s w u sound is in

@@ -13,7 +13,7 @@ use Rattle.octseq_bgp.specs.Filling.{Given, given, given_long, with_in_last}
 use Rattle.octseq_bgp.specs.Parts.{is_extended}
 use Rattle.octseq_bgp.specs.Writing.{grown, more_in_last}
 use Rattle.octseq_bgp.specs.Written.{WrittenAttribute, WrittenPrefix, WrittenUpdate, attribute_octets}
-use Rattle.octseq_bgp.specs.Written.{attributes_octets, flags_for, head_octets, length_width, path_octets}
+use Rattle.octseq_bgp.specs.Written.{attributes_octets, flags_for, head_octets, length_width, path_id_octets}
 use Rattle.octseq_bgp.specs.Written.{prefix_octets, prefixes_octets, typed_attribute}
 use Rattle.octseq_bgp.specs.declared.attribute.attribute_type.AttributeType.{AttributeType}
 use Rattle.octseq_bgp.proofs.Attributes.{head_and}
@@ -112,7 +112,7 @@ grown_longer t more (one ∷ other ∷ rest) some =
 given_some : (p : Given) (row : List Given) → 1 ≤ sum_by given_long (p ∷ row)
 given_some p row =
     let w = given p in
-    let one = length-append (path_octets w.path_id) (octets_be 1 w.bits ++ w.octets) in
+    let one = length-append (path_id_octets w.path_id) (octets_be 1 w.bits ++ w.octets) in
     let two = length-append (octets_be 1 w.bits) w.octets in
     omega (arith, one, two, length_be 1 w.bits, sum_by-cons given_long p row)
 

@@ -5,7 +5,7 @@ use Rattle.std.proofs.Math.Nat.{mul-div_cancel, one-le-pow}
 use Rattle.std.proofs.lemmas.List.{get_or_past}
 use Rattle.octseq_format.specs.Canonical.{AreOctets}
 use Rattle.octseq_bgp.specs.Parts.{octets_of_bits}
-use Rattle.octseq_bgp.specs.PrefixValue.{address_from, address_of, bits_after, cleared}
+use Rattle.octseq_bgp.specs.PrefixValue.{address_from, prefix_address, bits_after, cleared}
 use Rattle.octseq_bgp.proofs.Prefixes.{address_long}
 
 octet_at : (octets : List ℕ) (k : ℕ) → AreOctets octets → get_or octets k 0 < 256
@@ -66,7 +66,7 @@ agree (suc n) i bits xs ys same =
     ∙ ap (λ more. cleared (bits_after bits i) (get_or ys i 0) ∷ more) (agree n (i + 1) bits xs ys same)
 
 pub address_kept : (bits : ℕ) (address : List ℕ) → AreOctets address
-    → address_of bits (address_from (octets_of_bits bits) 0 bits address) ≡ address_of bits address
+    → prefix_address bits (address_from (octets_of_bits bits) 0 bits address) ≡ prefix_address bits address
 address_kept bits address each =
     agree 16 0 bits (address_from (octets_of_bits bits) 0 bits address) address
     (λ k. sym (kept_at bits k address each (below_or_not k (octets_of_bits bits))))

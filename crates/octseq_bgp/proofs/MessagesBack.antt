@@ -17,7 +17,7 @@ use Rattle.octseq_bgp.specs.Fills.{Whole}
 use Rattle.octseq_bgp.specs.Message.{IsMessage, IsNotification, IsRouteRefresh, IsShortEnough, Message}
 use Rattle.octseq_bgp.specs.OneOpen.{delimited_parameter, open_says, says_parameter}
 use Rattle.octseq_bgp.specs.Open.{HasParameters, IsLong, IsLongPart, IsOpenFront, Open}
-use Rattle.octseq_bgp.specs.WrittenMessage.{keepalive_octets, longest}
+use Rattle.octseq_bgp.specs.WrittenMessage.{keepalive_octets, max_length}
 use Rattle.octseq_bgp.specs.WrittenNotification.{WrittenNotification, notification_octets, notification_says}
 use Rattle.octseq_bgp.specs.WrittenOpen.{FitsOpen, FitsParameter, WrittenOpen, WrittenParameter, is_apart, lengths}
 use Rattle.octseq_bgp.specs.WrittenOpen.{most_parameters, numbers_octets, open_octets, parameter_octets}
@@ -37,14 +37,14 @@ read_as : {A S : Type 0} {Is : Relation A} {says : A → S} {octets : S → List
 read_as back w said all fits is has = whole_back back w said fits (subst (HasAll w) (sym is) has)
 
 -- a message of a type that may be long
-may_be_long : (s : SessionConfig) (kind n : ℕ) → 1 < kind → (kind ≡ 4 → ⊥) → n ≤ longest s.extended_message
+may_be_long : (s : SessionConfig) (kind n : ℕ) → 1 < kind → (kind ≡ 4 → ⊥) → n ≤ max_length s.extended_message
     → IsShortEnough s kind n
 may_be_long s kind n other another fits = by_flag s.extended_message refl fits where
-  by_flag : (extended : Bool) → s.extended_message ≡ extended → n ≤ longest extended → IsShortEnough s kind n
+  by_flag : (extended : Bool) → s.extended_message ≡ extended → n ≤ max_length extended → IsShortEnough s kind n
   by_flag true is fits = inr (is, (λ same. omega (arith, same, other)), another)
   by_flag false is fits = inl fits
 
-longest_few : (extended : Bool) → longest extended ≤ 65535
+longest_few : (extended : Bool) → max_length extended ≤ 65535
 longest_few true = omega arith
 longest_few false = omega arith
 
@@ -55,7 +55,7 @@ notification_back : IsReadBack IsNotification ((λ n. n) and (λ n. n) and exten
 notification_back = delimited_fixed (are_be 1) back_then delimited_fixed (are_be 1) back_then extent_back
 
 pub notification_read : (s : SessionConfig) (n : WrittenNotification) → n.code < 256 → n.subcode < 256
-    → length (notification_octets n) ≤ longest s.extended_message
+    → length (notification_octets n) ≤ max_length s.extended_message
     → (it : ℕ × (ℕ × Window)) × IsMessage s (notification_octets n) (Message.notification it)
     × (notification_says it ≡ n)
 unfolding both_say both_octets
@@ -92,7 +92,7 @@ route_refresh_back = delimited_fixed (are_be 2) back_then delimited_fixed (are_b
     delimited_fixed (are_be 1) back_then extent_back
 
 pub route_refresh_read : (s : SessionConfig) (r : WrittenRouteRefresh) → r.afi < 65536 → r.subtype < 256 → r.safi < 256
-    → length (route_refresh_octets r) ≤ longest s.extended_message
+    → length (route_refresh_octets r) ≤ max_length s.extended_message
     → (it : ℕ × (ℕ × (ℕ × Window))) × IsMessage s (route_refresh_octets r) (Message.route_refresh it)
     × (route_refresh_says it ≡ r)
 unfolding both_say both_octets

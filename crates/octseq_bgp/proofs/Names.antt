@@ -5,7 +5,7 @@ use Rattle.std.specs.Fmt.{decimal}
 use Rattle.octseq_bgp.specs.AttributeType.{type_number}
 use Rattle.octseq_bgp.specs.Path.{segment_number}
 use Rattle.octseq_bgp.specs.Text.{segment_text, type_text}
-use Rattle.octseq_bgp.specs.ValueText.{name_text, segment_name}
+use Rattle.octseq_bgp.specs.ValueText.{attribute_name_text, segment_name}
 use Rattle.octseq_bgp.specs.declared.attribute.attribute_type.AttributeType.{AttributeType}
 use Rattle.octseq_bgp.specs.declared.attribute.attribute_type.AttributeType.TheVariants as kind
 use Rattle.octseq_bgp.specs.declared.attribute.path.SegmentType.{SegmentType}
@@ -17,7 +17,7 @@ segment_is_named segment.Sequence = refl
 segment_is_named segment.ConfedSequence = refl
 segment_is_named segment.ConfedSet = refl
 
-pub type_is_named : (t : AttributeType) → type_text t ≡ name_text (type_number t)
+pub type_is_named : (t : AttributeType) → type_text t ≡ attribute_name_text (type_number t)
 type_is_named kind.Origin = refl
 type_is_named kind.AsPath = refl
 type_is_named kind.NextHop = refl
@@ -39,7 +39,7 @@ type_is_named kind.LargeCommunities = refl
 passed : (n m : ℕ) (name other : List ℕ) → (m ≡ n → ⊥) → (if nat_eq n m then name else other) ≡ other
 passed n m name other not = ap (λ b. if b then name else other) (ne_eqb n m (λ is. not (sym is)))
 
-pub number_is_named : (n : ℕ) → ((t : AttributeType) → type_number t ≡ n → ⊥) → decimal n ≡ name_text n
+pub number_is_named : (n : ℕ) → ((t : AttributeType) → type_number t ≡ n → ⊥) → decimal n ≡ attribute_name_text n
 number_is_named n none =
     sym (passed n 1 _ _ (none kind.Origin) ∙ passed n 2 _ _ (none kind.AsPath) ∙ passed n 3 _ _ (none kind.NextHop)
     ∙ passed n 4 _ _ (none kind.MultiExitDisc) ∙ passed n 5 _ _ (none kind.LocalPref)

@@ -6,7 +6,8 @@ use Rattle.octseq_format.specs.Fixed.{IsFixed}
 use Rattle.octseq_format.specs.Laws.{IsOne}
 use Rattle.octseq_format.specs.Pair.{◌then◌, ◌one_then◌}
 use Rattle.octseq_format.specs.Rest.{IsRest, one_rest}
-use Rattle.octseq_bgp.specs.Capability.{CapabilityValue, Restart, IsRestart, Said, HasCode, IsCoded, IsCapabilityValue}
+use Rattle.octseq_bgp.specs.Capability.{CapabilityValue, Restart, IsRestart, MadeCapability, HasCode, IsCoded}
+use Rattle.octseq_bgp.specs.Capability.{IsCapabilityValue}
 use Rattle.octseq_bgp.specs.CapabilityType.{code_number}
 use Rattle.octseq_bgp.specs.Parts.{IsNumber}
 use Rattle.octseq_bgp.specs.FamilyTuple.{family_tuple}
@@ -39,7 +40,7 @@ code_again code.EnhancedRouteRefresh = refl
 pub one_code : (a b : CapabilityType) → code_number a ≡ code_number b → a ≡ b
 one_code a b same = sym (code_again a) ∙ ap code_of same ∙ code_again b
 
-one_said : {A : Type 0} (make : A → CapabilityValue) {Is : A → Type 0} → OneSaid Is → OneSaid (Said make Is)
+one_said : {A : Type 0} (make : A → CapabilityValue) {Is : A → Type 0} → OneSaid Is → OneSaid (MadeCapability make Is)
 one_said make one v u a b = a.1 ∙ ap make (one a.0 b.0 a.2 b.2) ∙ sym b.1
 
 restart_from : ℕ → List (ℕ × (ℕ × ℕ)) → Restart

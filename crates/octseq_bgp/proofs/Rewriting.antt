@@ -8,13 +8,13 @@ use Rattle.octseq.proofs.Written.{length_be}
 use Rattle.octseq.specs.Integer.{octets_be}
 use Rattle.octseq.specs.Part.{part_of}
 use Rattle.octseq.specs.Window.{Window, left, rest}
-use Rattle.octseq_format.specs.Canonical.{AreOctets, IsSound, many_rest}
+use Rattle.octseq_format.specs.Canonical.{AreOctets, IsSoundWindow, many_rest}
 use Rattle.octseq_bgp.specs.Composed.{header_long, header_octets, message_octets}
 use Rattle.octseq_bgp.specs.Message.{IsMessage, Message}
 use Rattle.octseq_bgp.specs.Open.{IsOpen, Open}
 use Rattle.octseq_bgp.specs.Parts.{Attribute, flags_of, inside_of, octets_of_bits, type_of}
 use Rattle.octseq_bgp.specs.Prefix.{Nlri}
-use Rattle.octseq_bgp.specs.PrefixValue.{address_from, address_of, bits_after, cleared}
+use Rattle.octseq_bgp.specs.PrefixValue.{address_from, prefix_address, bits_after, cleared}
 use Rattle.octseq_bgp.specs.Rewritten.{AreAttributesAnew, AreSound, IsAttributeAnew, IsReady, IsUpdateRewritten}
 use Rattle.octseq_bgp.specs.Rewritten.{attribute_anew}
 use Rattle.octseq_bgp.specs.Rewritten.{attribute_size, attributes_size, flags_anew, prefix_anew, prefixes_anew}
@@ -23,7 +23,7 @@ use Rattle.octseq_bgp.specs.Rewritten.{value_anew}
 use Rattle.octseq_bgp.specs.Update.{IsUpdate, Update}
 use Rattle.octseq_bgp.specs.Value.{Value}
 use Rattle.octseq_bgp.specs.Written.{WrittenAttribute, attribute_octets, attributes_octets, body_octets, head_octets}
-use Rattle.octseq_bgp.specs.Written.{path_octets}
+use Rattle.octseq_bgp.specs.Written.{path_id_octets}
 use Rattle.octseq_bgp.specs.Written.{prefix_octets, written_prefix}
 use Rattle.octseq_bgp.specs.declared.prefix.Prefix.{Prefix}
 use Rattle.octseq_bgp.specs.declared.session.SessionConfig.{SessionConfig}
@@ -41,16 +41,16 @@ use Rattle.octseq_bgp.proofs.WrittenBack.{IsAttributeSound, message_back, nlri_o
 
 -- a prefix
 pub prefix_long : (n : Nlri)
-    → length (prefix_octets (prefix_anew n)) ≡ length (path_octets n.path_id) + (1 + octets_of_bits n.bits)
+    → length (prefix_octets (prefix_anew n)) ≡ length (path_id_octets n.path_id) + (1 + octets_of_bits n.bits)
 prefix_long n =
     let octets = address_from (octets_of_bits n.bits) 0 n.bits (rest n.octets) in
-    let all = length-append (path_octets n.path_id) (octets_be 1 n.bits ++ octets) in
+    let all = length-append (path_id_octets n.path_id) (octets_be 1 n.bits ++ octets) in
     let more = length-append (octets_be 1 n.bits) octets in
     omega (arith, all, more, length_be 1 n.bits, address_long (octets_of_bits n.bits) 0 n.bits (rest n.octets))
 
 -- the octets of a prefix, from its address
 pub address_again : (n i bits : ℕ) (octets : List ℕ) → i + n ≤ 16
-    → address_from n i bits (address_of bits octets) ≡ address_from n i bits octets
+    → address_from n i bits (prefix_address bits octets) ≡ address_from n i bits octets
 address_again zero i bits octets fits = refl
 address_again (suc n) i bits octets fits =
     let z = bits_after bits i in
@@ -58,12 +58,12 @@ address_again (suc n) i bits octets fits =
     let at = address_at 16 0 bits octets i (omega (arith, fits))
     ∙ ap (λ j. cleared (bits_after bits j) (get_or octets j 0)) here in
     let first = ap (cleared z) at ∙ sym (cleared_twice z (get_or octets i 0)) in
-    ap (λ x. x ∷ address_from n (i + 1) bits (address_of bits octets)) first
+    ap (λ x. x ∷ address_from n (i + 1) bits (prefix_address bits octets)) first
     ∙ ap (λ xs. cleared z (get_or octets i 0) ∷ xs) (address_again n (i + 1) bits octets (omega (arith, fits)))
 
 -- the prefix of an address that was read is written anew
 pub written_again : (n : Nlri) (p : Prefix) → n.bits ≤ 128 → p.len ≡ n.bits → p.address
-    ≡ address_of n.bits (rest n.octets)
+    ≡ prefix_address n.bits (rest n.octets)
     → prefix_octets (written_prefix p n.path_id) ≡ prefix_octets (prefix_anew n)
 written_again n p few len address =
     let say = λ (bits : ℕ) (address : List ℕ). prefix_octets (record {
@@ -114,7 +114,7 @@ module _ (a : Attribute) (v : Value) (n : ℕ) (long : length (value_anew (insid
       let all = ap length attribute_is ∙ attribute_long a v n long in
       omega (arith, both, all, long)
 
-pub anew_long : (s : SessionConfig) (a : Attribute) (new : WrittenAttribute) → IsSound (inside_of a)
+pub anew_long : (s : SessionConfig) (a : Attribute) (new : WrittenAttribute) → IsSoundWindow (inside_of a)
     → IsAttributeAnew s a new
     → length (attribute_octets new) ≡ attribute_size (left (inside_of a))
 anew_long s a new sound is =
@@ -151,7 +151,7 @@ all_sound : (row : List Attribute) → AllByRecursion IsAttributeSound row → A
 all_sound [] all = tt
 all_sound (a ∷ row) all = (all.0.0, all_sound row all.1)
 
-pub update_ready : (s : SessionConfig) (w : Window) (u : Update) → IsUpdate s w u → IsSound w → left w ≤ 65516
+pub update_ready : (s : SessionConfig) (w : Window) (u : Update) → IsUpdate s w u → IsSoundWindow w → left w ≤ 65516
     → IsReady u
 update_ready s w u is sound few =
     let back = update_back s w u sound is in
@@ -210,7 +210,7 @@ update_put old w a n total all =
 
 -- an OPEN has at most 4,077 octets after its header
 pub open_in : (s : SessionConfig) (octets : List ℕ) (o : Open) → AreOctets octets → IsMessage s octets (Message.opens o)
-    → (w : Window) × IsOpen w o × IsSound w × (left w ≤ 4077)
+    → (w : Window) × IsOpen w o × IsSoundWindow w × (left w ≤ 4077)
 open_in s octets o each message =
     let back = message_back each message in
     let many = many_rest message.body back.1 in
@@ -224,7 +224,7 @@ open_in s octets o each message =
 -- an UPDATE at most 65,516
 pub update_in : (s : SessionConfig) (octets : List ℕ) (u : Update) → AreOctets octets
     → IsMessage s octets (Message.update u)
-    → (session : SessionConfig) × (w : Window) × IsUpdate session w u × IsSound w × (left w ≤ 65516)
+    → (session : SessionConfig) × (w : Window) × IsUpdate session w u × IsSoundWindow w × (left w ≤ 65516)
 update_in s octets u each message =
     let back = message_back each message in
     let many = many_rest message.body back.1 in

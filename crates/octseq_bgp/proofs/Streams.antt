@@ -8,13 +8,13 @@ use Rattle.std.specs.Prelude.{IsTrue, if◌then◌else◌, replicate, ◌⊎◌}
 use Rattle.octseq.proofs.WrittenBack.{AreOctets, small_be, as_be}
 use Rattle.octseq.specs.Integer.{be, octets_be}
 use Rattle.octseq.specs.Window.{left, next, past, whole}
-use Rattle.octseq_format.specs.Canonical.{IsSound, each_next, many_next, sound_past}
+use Rattle.octseq_format.specs.Canonical.{IsSoundWindow, each_next, many_next, sound_past}
 use Rattle.octseq_bgp.specs.MessageType as message_type
 use Rattle.octseq_bgp.specs.Message.{Message, IsMessage, IsShortEnough}
 use Rattle.octseq_bgp.specs.OneFrame.{length_in_front, marked_front, marked_more}
 use Rattle.octseq_bgp.specs.Stream.{IsFramed, IsFrameHeader, IsMisframed, longest_message, message_length}
 use Rattle.octseq_bgp.specs.declared.session.SessionConfig.{SessionConfig}
-use Rattle.octseq_stream.specs.Frames.{IsHeader}
+use Rattle.octseq_stream.specs.Frames.{IsFramingHeader}
 
 -- misframed octets stay misframed
 pub misframed_more : (s : SessionConfig) (octets more : List ℕ) → IsMisframed s octets
@@ -54,7 +54,7 @@ pub framed : (s : SessionConfig) (octets : List ℕ) (m : Message) → AreOctets
     → IsFramed s octets
 framed s octets m each message =
     let w = whole octets in
-    let sound : IsSound w = record { each = each; ordered = omega arith; within = omega arith } in
+    let sound : IsSoundWindow w = record { each = each; ordered = omega arith; within = omega arith } in
     let header = message.header.1 in
     let room = header.2.2.1.0 in
     let there = ap left (header.2.1.2 ∙ ap (past 2) header.1.2) in
@@ -77,7 +77,7 @@ framed s octets m each message =
 
 -- a front and as many octets as it says are a framed message
 pub front_header : (s : SessionConfig) (front : List ℕ) (more : ℕ) → IsFrameHeader s front more
-    → IsHeader 18 true (IsFramed s) (λ octets. octets) front more
+    → IsFramingHeader 18 true (IsFramed s) (λ octets. octets) front more
 front_header s front more is = record {
   long = is.long;
   fits = λ octets all.

@@ -6,7 +6,7 @@ use Rattle.std.proofs.Math.Logic.{∥∥₁_elim, ∥∥₁_map}
 use Rattle.std.proofs.Props.{props}
 use Rattle.std.specs.Coded.{Coded-set, codes, coded_list, le_prop, Unit-prop}
 use Rattle.octseq_bgp.specs.Composed.{long_after}
-use Rattle.octseq_bgp.specs.Held.{HeldUpdate, held_is, attribute_code, prefix_code, update_code}
+use Rattle.octseq_bgp.specs.Held.{HeldUpdate, held_is, attribute_code, written_prefix_code, update_code}
 use Rattle.octseq_bgp.specs.PartOctets.{PartOctets}
 use Rattle.octseq_bgp.specs.Writing.{IsHeld, IsListOpen, UpToWithdrawn, UpToAttributes, empty_update}
 use Rattle.octseq_bgp.specs.Written.{WrittenAttribute, WrittenUpdate, body_octets, update_octets, UpdateFits}
@@ -139,9 +139,11 @@ held_long held =
 pub held_withdrawn_up : {B : Type 0} {s : SessionConfig} {parts : PartOctets B} {open_list : Option MpList}
     {open_at : ℕ}
     (held : HeldUpdate UpToWithdrawn s parts open_list open_at) → UpToWithdrawn held.0
-held_withdrawn_up held = ∥∥₁_elim held.1 (hlevel (codes, attribute_code, prefix_code, Coded-set)) (λ x. x.reaches)
+held_withdrawn_up held = ∥∥₁_elim held.1 (hlevel (codes, attribute_code, written_prefix_code, Coded-set))
+    (λ x. x.reaches)
 
 pub held_attributes_up : {B : Type 0} {s : SessionConfig} {parts : PartOctets B} {open_list : Option MpList}
     {open_at : ℕ}
     (held : HeldUpdate UpToAttributes s parts open_list open_at) → UpToAttributes held.0
-held_attributes_up held = ∥∥₁_elim held.1 (Coded-set (coded_list prefix_code) held.0.announced []) (λ x. x.reaches)
+held_attributes_up held = ∥∥₁_elim held.1 (Coded-set (coded_list written_prefix_code) held.0.announced [])
+    (λ x. x.reaches)

@@ -12,7 +12,7 @@ use Rattle.octseq.specs.Integer.{be, octets_be}
 use Rattle.octseq.specs.Part.{part_of}
 use Rattle.octseq.specs.Window.{Window, left, next, past, rest, whole}
 use Rattle.octseq_format.proofs.Parts.{part_of_counted}
-use Rattle.octseq_format.specs.Canonical.{AreOctets as EachOctet, IsCanonical, IsSound, sound_nested, sound_past}
+use Rattle.octseq_format.specs.Canonical.{AreOctets as EachOctet, IsCanonical, IsSoundWindow, sound_nested, sound_past}
 use Rattle.octseq_format.specs.Counted.{canonical_counted}
 use Rattle.octseq_format.specs.Family.{canonical_sized}
 use Rattle.octseq_format.specs.Fixed.{canonical_fixed}
@@ -46,13 +46,13 @@ use Rattle.octseq_bgp.proofs.WholesBack.{counted_is}
 -- The octets that a window has left are these, and then those of a second window, which is sound.
 pub record AreBack (w v : Window) (octets : List ℕ) (Holds : Type 0) : Type 0 where
   pub are : rest w ≡ octets ++ rest v
-  pub on : IsSound v
+  pub on : IsSoundWindow v
   pub holds : Holds
 
 -- a value is written as the octets that it was read from, and something holds of it
 abbrev pub IsBack : {A : Type 0} → Relation A → (A → List ℕ) → (A → Type 0) → Type 0
 IsBack {A} Is octets Holds =
-    (w : Window) (a : A) (v : Window) → IsSound w → Is w a v → AreBack w v (octets a) (Holds a)
+    (w : Window) (a : A) (v : Window) → IsSoundWindow w → Is w a v → AreBack w v (octets a) (Holds a)
 
 pub of_canonical : {A S : Type 0} {Is : Relation A} {says : A → S} {octets : S → List ℕ} {Fits : S → Type 0}
     → IsCanonical Is says octets Fits → IsBack Is (λ a. octets (says a)) (λ a. Fits (says a))
@@ -65,13 +65,13 @@ of_canonical canonical w a v sound is =
 pub number_back : (k : ℕ) → IsBack (IsNumber k) (octets_be k) (λ n. n < 256 ^ k)
 number_back k = of_canonical (canonical_fixed (are_be k))
 
-pub rest_back : IsBack IsRest rest IsSound
+pub rest_back : IsBack IsRest rest IsSoundWindow
 rest_back w inside v sound is =
     let it = of_canonical canonical_rest w inside v sound is in
-    record { are = it.are; on = it.on; holds = subst IsSound (sym is.0) sound }
+    record { are = it.are; on = it.on; holds = subst IsSoundWindow (sym is.0) sound }
 
 pub counted_back : (k : ℕ)
-    → IsBack (IsCounted k) (λ u. part_of k (rest u)) (λ u. IsSound u × (length (rest u) < 256 ^ k))
+    → IsBack (IsCounted k) (λ u. part_of k (rest u)) (λ u. IsSoundWindow u × (length (rest u) < 256 ^ k))
 counted_back k w inside v sound is =
     let it = of_canonical (canonical_counted canonical_rest) w inside v sound is in
     let part = part_of_counted k w inside v is in
@@ -80,7 +80,7 @@ counted_back k w inside v sound is =
       are = it.are ∙ ap (λ o. o ++ rest v) (counted_is k (λ o. o) (rest inside));
       on = it.on;
       holds = (
-        subst IsSound (sym part.1) (sound_nested (be (next k w)) (past k w) after part.0.1),
+        subst IsSoundWindow (sym part.1) (sound_nested (be (next k w)) (past k w) after part.0.1),
         subst (λ n. n < 256 ^ k) (zero-add (length (rest inside))) it.holds.tag_fits,
       );
     }
@@ -93,7 +93,7 @@ next_back n w inside v sound is =
 octets_back : (k : ℕ) → IsBack (AreOctets k) (λ o. o) (λ _. Unit {0})
 octets_back k w o v sound is = record {
   are = sym (next_and_rest w k is.0) ∙ ap (λ o. o ++ rest (past k w)) (sym is.1) ∙ ap (λ v. o ++ rest v) (sym is.2);
-  on = subst IsSound (sym is.2) (sound_past k w sound is.0);
+  on = subst IsSoundWindow (sym is.2) (sound_past k w sound is.0);
   holds = tt;
 }
 
@@ -124,14 +124,14 @@ all_back w v octets are none =
     are ∙ ap (λ n. octets ++ take n (drop v.position v.octets)) none ∙ append-nil octets
 
 pub whole_back : {A : Type 0} {Is : Relation A} {octets : A → List ℕ} {Holds : A → Type 0} → IsBack Is octets Holds
-    → (w : Window) (a : A) → IsSound w → Whole Is w a → (rest w ≡ octets a) × Holds a
+    → (w : Window) (a : A) → IsSoundWindow w → Whole Is w a → (rest w ≡ octets a) × Holds a
 whole_back {octets = octets} back w a sound is =
     let it = back w a is.0 sound is.1 in
     (all_back w is.0 (octets a) it.are is.2, it.holds)
 
 module _ {A : Type 0} {Is : Relation A} {octets : A → List ℕ} {Holds : A → Type 0} (back : IsBack Is octets Holds) where
   row_back : IsBack (Row Is) (λ row. flat_map octets row) (λ row. AllByRecursion Holds row)
-  row_back w [] v sound is = record { are = ap rest (sym is); on = subst IsSound (sym is) sound; holds = tt }
+  row_back w [] v sound is = record { are = ap rest (sym is); on = subst IsSoundWindow (sym is) sound; holds = tt }
   row_back w (a ∷ row) v sound is =
       let here = back w a is.0 sound is.1 in
       let there = row_back is.0 row v here.on is.2 in
@@ -143,7 +143,7 @@ module _ {A : Type 0} {Is : Relation A} {octets : A → List ℕ} {Holds : A →
         holds = (here.holds, there.holds);
       }
 
-  pub fills_back : (w : Window) (row : List A) → IsSound w → Fills Is w row
+  pub fills_back : (w : Window) (row : List A) → IsSoundWindow w → Fills Is w row
       → (rest w ≡ flat_map octets row) × AllByRecursion Holds row
   fills_back w row sound is =
       let it = row_back w row is.0 sound is.1.0 in
@@ -191,7 +191,7 @@ each_mapped to Holds [] all = tt
 each_mapped to Holds (a ∷ row) all = (all.0, each_mapped to Holds row all.1)
 
 named_back : {A : Type 0} {Is : Relation A} (to : A → Nlri)
-    → IsBack Is (λ a. nlri_octets (to a)) (λ a. HasItsOctets (to a)) → (w : Window) (row : List Nlri) → IsSound w
+    → IsBack Is (λ a. nlri_octets (to a)) (λ a. HasItsOctets (to a)) → (w : Window) (row : List Nlri) → IsSoundWindow w
     → (parts : List A) × Fills Is w parts × (row ≡ map to parts)
     → (rest w ≡ flat_map nlri_octets row) × AllByRecursion HasItsOctets row
 named_back to back w row sound are =
@@ -199,7 +199,7 @@ named_back to back w row sound are =
     subst (λ row. (rest w ≡ flat_map nlri_octets row) × AllByRecursion HasItsOctets row) (sym are.2)
     (it.0 ∙ sym (flat_map-map nlri_octets to are.0), each_mapped to HasItsOctets are.0 it.1)
 
-pub nlri_back : (paths : Bool) (afi : Afi) (w : Window) (row : List Nlri) → IsSound w → AreNlri paths afi w row
+pub nlri_back : (paths : Bool) (afi : Afi) (w : Window) (row : List Nlri) → IsSoundWindow w → AreNlri paths afi w row
     → (rest w ≡ flat_map nlri_octets row) × AllByRecursion HasItsOctets row
 nlri_back true afi = named_back (path_nlri afi) (path_back afi)
 nlri_back false afi = named_back (plain_nlri afi) (plain_back afi)
@@ -212,11 +212,11 @@ read_octets a = attribute_octets (attribute_says a)
 
 -- its window is sound, and its length fits
 abbrev pub IsAttributeSound : Attribute → Type 0
-IsAttributeSound a = IsSound (inside_of a) × (length (rest (inside_of a)) < 256 ^ length_width (flags_of a))
+IsAttributeSound a = IsSoundWindow (inside_of a) × (length (rest (inside_of a)) < 256 ^ length_width (flags_of a))
 
 value_back : (extended : Bool) → IsBack (cond extended (IsCounted 2) (IsCounted 1))
     (λ u. part_of (if extended then 2 else 1) (rest u))
-    (λ u. IsSound u × (length (rest u) < 256 ^ (if extended then 2 else 1)))
+    (λ u. IsSoundWindow u × (length (rest u) < 256 ^ (if extended then 2 else 1)))
 value_back true = counted_back 2
 value_back false = counted_back 1
 
@@ -226,13 +226,13 @@ attribute_back w a v sound is =
     sound is in
     record { are = it.are; on = it.on; holds = it.holds.1.1 }
 
-pub attributes_back : (w : Window) (row : List Attribute) → IsSound w → Fills IsAttribute w row
+pub attributes_back : (w : Window) (row : List Attribute) → IsSoundWindow w → Fills IsAttribute w row
     → (rest w ≡ flat_map read_octets row) × AllByRecursion IsAttributeSound row
 attributes_back = fills_back attribute_back
 
 -- ---- next hops
 
-pub hop_back : (f : AfiSafiType) (w : Window) (h : NextHop) → IsSound w → IsNextHop f w h → rest w ≡ hop_octets h
+pub hop_back : (f : AfiSafiType) (w : Window) (h : NextHop) → IsSoundWindow w → IsNextHop f w h → rest w ≡ hop_octets h
 hop_back f w (hop.Ipv4 a) sound is = (whole_back (octets_back 4) w a sound is.1).0
 hop_back f w (hop.Ipv6 a) sound is = (whole_back (octets_back 16) w a sound is).0
 hop_back f w (hop.Ipv6LinkLocal a b) sound is = (whole_back (octets_back 16 back_and octets_back 16) w (a, b) sound
@@ -242,7 +242,7 @@ hop_back f w (hop.Ipv6LinkLocal a b) sound is = (whole_back (octets_back 16 back
 
 -- the window of a parameter or of a capability is sound
 abbrev pub IsItemSound : ℕ × Window → Type 0
-IsItemSound p = IsSound p.1
+IsItemSound p = IsSoundWindow p.1
 
 tlv_back : (long : Bool) → IsBack (IsTlv (length_octets long)) (λ p. parameter_octets long (says_parameter p))
     IsItemSound
@@ -250,7 +250,7 @@ tlv_back long w p v sound is =
     let it = (number_back 1 back_and counted_back (length_octets long)) w p v sound is in
     record { are = it.are; on = it.on; holds = it.holds.1.0 }
 
-pub items_back : (long : Bool) (w : Window) (row : List (ℕ × Window)) → IsSound w
+pub items_back : (long : Bool) (w : Window) (row : List (ℕ × Window)) → IsSoundWindow w
     → Fills (IsTlv (length_octets long)) w row
     → (rest w ≡ parameters_octets long (map says_parameter row)) × AllByRecursion IsItemSound row
 items_back long w row sound is =
@@ -259,12 +259,12 @@ items_back long w row sound is =
 
 -- ---- messages
 
-whole_sound : (octets : List ℕ) → EachOctet octets → IsSound (whole octets)
+whole_sound : (octets : List ℕ) → EachOctet octets → IsSoundWindow (whole octets)
 whole_sound octets each = record { each = each; ordered = omega arith; within = omega arith }
 
 -- The octets of a message are a header, and those of its body, which is sound. Its length fits two octets.
 pub message_back : {s : SessionConfig} {octets : List ℕ} {m : Message} → EachOctet octets → (is : IsMessage s octets m)
-    → (octets ≡ message_octets is.kind (rest is.body)) × IsSound is.body × (length octets < 256 ^ 2)
+    → (octets ≡ message_octets is.kind (rest is.body)) × IsSoundWindow is.body × (length octets < 256 ^ 2)
     × (length octets ≡ 19 + length (rest is.body))
 unfolding octets_be
 message_back {octets = octets} each is =

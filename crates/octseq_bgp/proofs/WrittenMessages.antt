@@ -8,8 +8,8 @@ use Rattle.octseq.specs.Limit.{ExceedsLimit}
 use Rattle.octseq.specs.Refusal.{IsMemory, IsShort, Refusal}
 use Rattle.octseq.proofs.Written.{value_be}
 use Rattle.octseq_bgp.specs.Composed.{Extends, header_octets, least, long_after, message_octets}
-use Rattle.octseq_bgp.specs.WrittenMessage.{IsWritten, limit_of}
-use Rattle.octseq_bgp.specs.WrittenNotification.{notification_octets, notification_in, with_data}
+use Rattle.octseq_bgp.specs.WrittenMessage.{IsWrittenMessage, limit_of}
+use Rattle.octseq_bgp.specs.WrittenNotification.{notification_octets, notification_in, notification_with_data}
 use Rattle.octseq_bgp.specs.WrittenRouteRefresh.{FitsRouteRefresh, route_refresh_octets}
 use Rattle.octseq_bgp.specs.WrittenRouteRefresh.{route_refresh_in, with_orf}
 use Rattle.octseq_bgp.proofs.Composing.{least_most}
@@ -28,7 +28,7 @@ pub record Grows {M : Type 0} (octets : M → List ℕ) (Fits : M → Type 0) (f
 pub record Pushed {M : Type 0} (octets : M → List ℕ) (Fits : M → Type 0) (found : List ℕ → M) (more : M → List ℕ → M)
     {E : Type 0} (says : E → Refusal) (most : ℕ) (limit : Option ℕ) (asks : Bool) (slice : List ℕ)
     (result : Result (Unit {0}) E) (old new : List ℕ) : Type 0 where
-  pub now : IsWritten octets Fits found most new
+  pub now : IsWrittenMessage octets Fits found most new
   pub ok : OnOk result (found new ≡ more (found old) slice)
   pub err : OnErr result (found new ≡ found old)
   pub short : IsShort says result ↔ ExceedsLimit (limit_of most limit) (length (octets (more (found old) slice)))
@@ -38,19 +38,19 @@ module _ {M : Type 0} {octets : M → List ℕ} {Fits : M → Type 0} {found : L
     (grows : Grows octets Fits found more) where
   -- octets that are a message are written
   pub is_written : (m : M) (most : ℕ) (content : List ℕ) → Fits m → content ≡ octets m → length content ≤ most
-      → most ≤ 65535 → IsWritten octets Fits found most content
+      → most ≤ 65535 → IsWrittenMessage octets Fits found most content
   is_written m most content fits are within few =
       let same : found content ≡ m = ap found are ∙ grows.back m fits in
       record { are = are ∙ ap octets (sym same); fits = subst Fits (sym same) fits; within = within; few = few }
 
-  pub some_old : {most : ℕ} {old : List ℕ} → IsWritten octets Fits found most old → 19 ≤ length old
+  pub some_old : {most : ℕ} {old : List ℕ} → IsWrittenMessage octets Fits found most old → 19 ≤ length old
   some_old {old = old} was =
       let body = grows.body (found old) in
       let long = ap length (was.are ∙ grows.is (found old)) ∙ long_after (19 + length body) grows.kind body in
       omega (arith, long)
 
   pub pushed : {E : Type 0} {says : E → Refusal} {most : ℕ} {limit : Option ℕ} {asks : Bool} {old new : List ℕ}
-      {slice : List ℕ} {result : Result (Unit {0}) E} → IsWritten octets Fits found most old
+      {slice : List ℕ} {result : Result (Unit {0}) E} → IsWrittenMessage octets Fits found most old
       → ((kind : ℕ) (body : List ℕ) → old ≡ message_octets kind body
       → Extends says (least most limit) asks result (message_octets kind (body ++ slice)) old new)
       → Pushed octets Fits found more says most limit asks slice result old new
@@ -74,7 +74,7 @@ module _ {M : Type 0} {octets : M → List ℕ} {Fits : M → Type 0} {found : L
       let did = extends grows.kind (grows.body m) (was.are ∙ grows.is m) in
       let all = ap (message_octets grows.kind) (grows.grown m slice) ∙ sym (grows.is (more m slice)) in
       record {
-        now = subst (IsWritten octets Fits found most) (sym did.err) was;
+        now = subst (IsWrittenMessage octets Fits found most) (sym did.err) was;
         ok = tt;
         err = ap found did.err;
         short = (
@@ -86,7 +86,7 @@ module _ {M : Type 0} {octets : M → List ℕ} {Fits : M → Type 0} {found : L
 
 -- ---- NOTIFICATION
 
-pub notification_grows : Grows notification_octets (λ _. Unit {0}) notification_in with_data
+pub notification_grows : Grows notification_octets (λ _. Unit {0}) notification_in notification_with_data
 unfolding header_octets octets_be
 notification_grows = record {
   kind = 3;

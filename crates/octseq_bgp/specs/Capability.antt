@@ -71,8 +71,8 @@ abbrev pub IsAddPath : Window → List (ℕ × (ℕ × ℕ)) → Type 0
 IsAddPath w row = SomeItems 4 family_tuple w row × ArePaths row
 
 -- a value made from what a window says
-abbrev pub Said : {A : Type 0} → (A → CapabilityValue) → (A → Type 0) → CapabilityValue → Type 0
-Said {A} make Is v = (a : A) × (v ≡ make a) × Is a
+abbrev pub MadeCapability : {A : Type 0} → (A → CapabilityValue) → (A → Type 0) → CapabilityValue → Type 0
+MadeCapability {A} make Is v = (a : A) × (v ≡ make a) × Is a
 
 -- the window has no octets, and the value is this one
 abbrev pub Bare : CapabilityValue → Window → CapabilityValue → Type 0
@@ -81,12 +81,12 @@ Bare value w v = (v ≡ value) × (left w ≡ 0)
 -- the window has the form of a code, and is this value
 abbrev pub HasCode : CapabilityType → Window → CapabilityValue → Type 0
 HasCode code.MultiProtocol w =
-    Said CapabilityValue.multi_protocol (Whole (IsNumber 2 then IsNumber 1 then IsNumber 1) w)
+    MadeCapability CapabilityValue.multi_protocol (Whole (IsNumber 2 then IsNumber 1 then IsNumber 1) w)
 HasCode code.RouteRefresh w = Bare CapabilityValue.route_refresh w
 HasCode code.ExtendedMessage w = Bare CapabilityValue.extended_message w
-HasCode code.GracefulRestart w = Said CapabilityValue.graceful_restart (IsRestart w)
-HasCode code.FourOctetAsn w = Said CapabilityValue.four_octet_asn (Whole (IsNumber 4) w)
-HasCode code.AddPath w = Said CapabilityValue.add_path (IsAddPath w)
+HasCode code.GracefulRestart w = MadeCapability CapabilityValue.graceful_restart (IsRestart w)
+HasCode code.FourOctetAsn w = MadeCapability CapabilityValue.four_octet_asn (Whole (IsNumber 4) w)
+HasCode code.AddPath w = MadeCapability CapabilityValue.add_path (IsAddPath w)
 HasCode code.EnhancedRouteRefresh w = Bare CapabilityValue.enhanced_route_refresh w
 
 -- the octets of a capability have the form of its code, and are this value

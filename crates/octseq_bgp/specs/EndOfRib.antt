@@ -17,7 +17,7 @@ UnreachesNone s (e ∷ more) f = (length more ≡ 0) × (type_of e ≡ type_numb
 
 -- An UPDATE without prefixes is the End-of-RIB marker of a family: IPv4 unicast if it has no attributes, otherwise that
 -- of the attribute.
-pub record IsEnd (u : Update) (f : AfiSafiType) : Type 0 where
+pub record IsEndOfRib (u : Update) (f : AfiSafiType) : Type 0 where
   pub withdrawn : length u.withdrawn ≡ 0
   pub announced : length u.announced ≡ 0
   pub attributes : (length u.attributes ≡ 0) × (f ≡ family.Ipv4Unicast) ⊎ UnreachesNone u.session u.attributes f

@@ -22,14 +22,14 @@ HeldUpdate Reaches s parts open_list open_at = (u : WrittenUpdate) × ∥ IsHeld
 -- ---- lemmas: proved below this line, so what the words mean is read above it
 
 -- ---- codes, by which values are equal in at most one way
-pub prefix_code : Coded WrittenPrefix
-prefix_code = Prim.hlevel codes
+pub written_prefix_code : Coded WrittenPrefix
+written_prefix_code = Prim.hlevel codes
 
 pub attribute_code : Coded WrittenAttribute
 attribute_code = Prim.hlevel codes
 
 pub update_code : Coded WrittenUpdate
-update_code = Prim.hlevel (codes, prefix_code, attribute_code)
+update_code = Prim.hlevel (codes, written_prefix_code, attribute_code)
 
 -- ---- only one
 

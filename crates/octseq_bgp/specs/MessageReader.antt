@@ -13,8 +13,8 @@ abbrev pub session_of : {R : Type 0} → MessageReader R → SessionConfig
 session_of messages = read.framing_of messages.frames
 
 -- the octets of the last message read
-abbrev pub octets_of : {R : Type 0} → MessageReader R → List ℕ
-octets_of messages = read.octets_of messages.frames
+abbrev pub held_octets : {R : Type 0} → MessageReader R → List ℕ
+held_octets messages = read.held_octets messages.frames
 
 -- whether the end or an error was reported, so that no further message is read
 abbrev pub is_over : {R : Type 0} → MessageReader R → Bool

@@ -80,7 +80,7 @@ IsBodyMinimal w (Message.update u) = IsUpdateMinimal u
 IsBodyMinimal w _ = Unit {0}
 
 -- octets that are a message of a session
-pub record IsMinimal (s : SessionConfig) (octets : List ℕ) : Type 0 where
+pub record IsMinimalMessage (s : SessionConfig) (octets : List ℕ) : Type 0 where
   pub message : Message
   pub is : IsMessage s octets message
   pub minimal : IsBodyMinimal is.body message

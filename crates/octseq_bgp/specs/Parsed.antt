@@ -13,8 +13,8 @@ use Rattle.octseq_bgp.specs.declared.message.update.UpdateMessage.{UpdateMessage
 use Rattle.octseq_bgp.specs.declared.message.update.UpdateParts.{UpdateParts}
 
 -- the three parts of an UPDATE
-abbrev pub parts_of : {R : Type 0} {g : Ghosts R} → UpdateParts R g → Window × (Window × Window)
-parts_of p = (window p.withdrawn, (window p.path_attributes, window p.announced))
+abbrev pub update_parts_of : {R : Type 0} {g : Ghosts R} → UpdateParts R g → Window × (Window × Window)
+update_parts_of p = (window p.withdrawn, (window p.path_attributes, window p.announced))
 
 -- an UPDATE
 abbrev pub update_of : {R : Type 0} {g : Ghosts R} → UpdateMessage R g → Update

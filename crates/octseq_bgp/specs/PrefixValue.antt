@@ -17,5 +17,5 @@ address_from (suc n) i bits octets =
     cleared (bits_after bits i) (slice_index octets i) ∷ address_from n (i + 1) bits octets
 
 -- the address of a prefix, in sixteen octets
-abbrev pub address_of : ℕ → List ℕ → List ℕ
-address_of = address_from 16 0
+abbrev pub prefix_address : ℕ → List ℕ → List ℕ
+prefix_address = address_from 16 0

@@ -37,8 +37,8 @@ plain_says it = record { path_id = None; bits = it.0; octets = rest it.1 }
 abbrev pub path_says : ℕ × (ℕ × Window) → WrittenPrefix
 path_says it = record { path_id = Some (record { 0 = it.0 }); bits = it.1.0; octets = rest it.1.1 }
 
-abbrev BitsFit : ℕ → ℕ × List ℕ → Type 0
-BitsFit most = KeyedFit (λ n. n) (λ n. n < 256 ^ 1)
+abbrev PrefixBitsFit : ℕ → ℕ × List ℕ → Type 0
+PrefixBitsFit most = KeyedFit (λ n. n) (λ n. n < 256 ^ 1)
     (WhenFits (λ bits. bits ≤ most) (λ bits. SizedFit 0 (λ o. o) (λ _. Unit {0}) (octets_of_bits bits)))
 
 -- ---- attributes
@@ -47,8 +47,8 @@ BitsFit most = KeyedFit (λ n. n) (λ n. n < 256 ^ 1)
 abbrev pub attribute_says : Attribute → WrittenAttribute
 attribute_says it = record { flags = it.0; kind = it.1.0; octets = rest it.1.1 }
 
-abbrev value_octets : ℕ → List ℕ → List ℕ
-value_octets flags = cond (is_extended flags) (counted_octets 2 0 (λ o. o)) (counted_octets 1 0 (λ o. o))
+abbrev attribute_value_octets : ℕ → List ℕ → List ℕ
+attribute_value_octets flags = cond (is_extended flags) (counted_octets 2 0 (λ o. o)) (counted_octets 1 0 (λ o. o))
 
 abbrev ValueFits : ℕ → List ℕ → Type 0
 ValueFits flags = cond (is_extended flags) (CountFits 2 0 (λ o. o) (λ _. Unit {0}))
@@ -87,12 +87,12 @@ delimited_as {Is = Is} delimited from written Suits known = record {
 }
 
 delimited_bits : (most : ℕ) → IsDelimited (IsPrefix most) (both_say (λ n. n) rest)
-    (keyed_octets (λ n. n) (octets_be 1) (λ bits o. o)) (BitsFit most)
+    (keyed_octets (λ n. n) (octets_be 1) (λ bits o. o)) (PrefixBitsFit most)
 delimited_bits most = delimited_keyed (λ n. n) (λ n. n) (delimited_fixed (are_be 1))
     (delimited_when (λ bits. bits ≤ most) (λ bits. delimited_sized rest_read_back (octets_of_bits bits)))
 
 bits_fit : {most : ℕ} {paths : Bool} (p : WrittenPrefix) → most < 256 → PrefixFits most paths p
-    → BitsFit most (p.bits, p.octets)
+    → PrefixBitsFit most (p.bits, p.octets)
 bits_fit p few fits = let bits = fits.bits in record {
   first = omega (arith, few, bits);
   second = (record { inside = tt; many = zero-add (length p.octets) ∙ fits.octets }, bits);
@@ -106,7 +106,7 @@ delimited_plain most few = delimited_as (delimited_bits most)
     prefix_octets (PrefixFits most false) (λ p. plain p.path_id p.bits p.octets) where
       plain : (id : Option PathId) (bits : ℕ) (octets : List ℕ)
           → PrefixFits most false (record { path_id = id; bits = bits; octets = octets })
-          → (said : ℕ × List ℕ) × BitsFit most said
+          → (said : ℕ × List ℕ) × PrefixBitsFit most said
           × (Path WrittenPrefix (record { path_id = None; bits = said.0; octets = said.1 })
           (record { path_id = id; bits = bits; octets = octets }))
           × (prefix_octets (record { path_id = id; bits = bits; octets = octets })
@@ -123,7 +123,7 @@ delimited_path most few = delimited_as (delimited_fixed (are_be 4) delimited_the
     prefix_octets (PrefixFits most true) (λ p. path p.path_id p.bits p.octets) where
       path : (id : Option PathId) (bits : ℕ) (octets : List ℕ)
           → PrefixFits most true (record { path_id = id; bits = bits; octets = octets })
-          → (said : ℕ × (ℕ × List ℕ)) × ((λ n. n < 256 ^ 4) also BitsFit most) said
+          → (said : ℕ × (ℕ × List ℕ)) × ((λ n. n < 256 ^ 4) also PrefixBitsFit most) said
           × (Path WrittenPrefix (record { path_id = Some (record { 0 = said.0 }); bits = said.1.0; octets = said.1.1 })
           (record { path_id = id; bits = bits; octets = octets }))
           × (prefix_octets (record { path_id = id; bits = bits; octets = octets })
@@ -146,7 +146,7 @@ delimited_octets : (k : ℕ) → IsDelimited (IsCounted k) rest (counted_octets 
 delimited_octets k = delimited_counted rest_read_back
 
 delimited_value : (flags : ℕ) → IsDelimited (cond (is_extended flags) (IsCounted 2) (IsCounted 1)) rest
-    (value_octets flags) (ValueFits flags)
+    (attribute_value_octets flags) (ValueFits flags)
 delimited_value flags = delimited_by_switch (is_extended flags) (delimited_octets 2) (delimited_octets 1)
 
 pub counted : (k : ℕ) (octets : List ℕ) → length octets < 256 ^ k

@@ -3,7 +3,7 @@
 use Rattle.std.specs.Prelude.{◌≡◌, ℕ, ◌+◌, ◌*◌, ◌/◌, ◌≤◌, List, ◌++◌, length, map, nat_le, if◌then◌else◌}
 use Rattle.std.specs.List.{AllByRecursion, sum_by}
 use Rattle.octseq.specs.Window.{Window, left, rest}
-use Rattle.octseq_format.specs.Canonical.{IsSound}
+use Rattle.octseq_format.specs.Canonical.{IsSoundWindow}
 use Rattle.octseq_bgp.specs.Message.{Message, IsMessage}
 use Rattle.octseq_bgp.specs.Parts.{Attribute, flags_of, type_of, inside_of, octets_of_bits}
 use Rattle.octseq_bgp.specs.Prefix.{Nlri}
@@ -106,7 +106,7 @@ IsWritable _ = Unit {0}
 
 -- attributes whose windows are sound
 abbrev pub AreSound : List Attribute → Type 0
-AreSound row = AllByRecursion (λ a. IsSound (inside_of a)) row
+AreSound row = AllByRecursion (λ a. IsSoundWindow (inside_of a)) row
 
 -- An UPDATE of such prefixes and attributes.
 pub record IsReady (u : Update) : Type 0 where

@@ -4,7 +4,7 @@ use Rattle.std.specs.Prelude.{map}
 use Rattle.std.specs.List.{AllByRecursion, flat_map}
 use Rattle.octseq.specs.Integer.{octets_be}
 use Rattle.octseq.specs.Window.{Window, rest}
-use Rattle.octseq_format.specs.Canonical.{IsSound}
+use Rattle.octseq_format.specs.Canonical.{IsSoundWindow}
 use Rattle.octseq_format.specs.Row.{row_octets}
 use Rattle.octseq_bgp.specs.Capability.{CapabilityValue, IsCapabilityValue, IsParameterValue, ParameterValue, Restart}
 use Rattle.octseq_bgp.specs.Composed.{header_octets}
@@ -98,4 +98,4 @@ said_octets long row = parameters_octets long (map says_parameter row)
 
 -- their windows are sound
 abbrev pub AreItemsSound : List (ℕ × Window) → Type 0
-AreItemsSound row = AllByRecursion (λ p. IsSound p.1) row
+AreItemsSound row = AllByRecursion (λ p. IsSoundWindow p.1) row

@@ -12,7 +12,7 @@ use Rattle.octseq.specs.OctetsText.{opaque_text}
 use Rattle.octseq_bgp.specs.Parts.{Attribute, Segment, flags_of, type_of}
 use Rattle.octseq_bgp.specs.Path.{asn_size}
 use Rattle.octseq_bgp.specs.Prefix.{Nlri}
-use Rattle.octseq_bgp.specs.PrefixValue.{address_of}
+use Rattle.octseq_bgp.specs.PrefixValue.{prefix_address}
 use Rattle.octseq_bgp.specs.Text.{community_text, large_text, family_text, address_text, prefix_text}
 use Rattle.octseq_bgp.specs.Value.{Value}
 use Rattle.octseq_bgp.specs.declared.family.Afi.TheVariants as addresses
@@ -47,8 +47,8 @@ named [] n = decimal n
 named (name ∷ names) n = if nat_eq n name.0 then name.1 else named names n
 
 -- the name of a type, or its number
-abbrev pub name_text : ℕ → List ℕ
-name_text = named type_names
+abbrev pub attribute_name_text : ℕ → List ℕ
+attribute_name_text = named type_names
 
 abbrev pub origin_text : ℕ → List ℕ
 origin_text n = if nat_eq n 0 then codes "IGP" else (if nat_eq n 1 then codes "EGP" else codes "INCOMPLETE")
@@ -107,7 +107,7 @@ value_text (Value.opaque w) = spaced (opaque_text (rest w))
 
 -- an attribute, with its value
 abbrev pub attribute_text : Attribute → Value → List ℕ
-attribute_text e v = flags_text (flags_of e) ++ spaced (name_text (type_of e)) ++ value_text v
+attribute_text e v = flags_text (flags_of e) ++ spaced (attribute_name_text (type_of e)) ++ value_text v
 
 -- the path id, if there is one
 abbrev pub path_id_text : Option PathId → List ℕ
@@ -116,4 +116,4 @@ path_id_text None = []
 
 -- a prefix, with its path id
 unfoldable pub nlri_text : Nlri → List ℕ
-nlri_text n = prefix_text n.afi n.bits (address_of n.bits (rest n.octets)) ++ path_id_text n.path_id
+nlri_text n = prefix_text n.afi n.bits (prefix_address n.bits (rest n.octets)) ++ path_id_text n.path_id

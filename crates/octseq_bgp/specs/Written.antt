@@ -43,13 +43,13 @@ pub record WrittenUpdate : Type 0 where
 -- ---- its octets
 
 -- a path id, where there is one: RFC 7911, 3
-abbrev pub path_octets : Option PathId → List ℕ
-path_octets None = []
-path_octets (Some id) = octets_be 4 id.0
+abbrev pub path_id_octets : Option PathId → List ℕ
+path_id_octets None = []
+path_id_octets (Some id) = octets_be 4 id.0
 
 -- a prefix: its path id, its length in bits, and its octets
 abbrev pub prefix_octets : WrittenPrefix → List ℕ
-prefix_octets p = path_octets p.path_id ++ (octets_be 1 p.bits ++ p.octets)
+prefix_octets p = path_id_octets p.path_id ++ (octets_be 1 p.bits ++ p.octets)
 
 -- prefixes, one after another
 abbrev pub prefixes_octets : List WrittenPrefix → List ℕ

@@ -3,8 +3,8 @@ use Rattle.std.specs.Prelude.{◌≡◌, ℕ, ◌≤◌, Bool, if◌then◌else�
 use Rattle.octseq_bgp.specs.Composed.{least, message_octets}
 
 -- the maximum length of a message: 4,096 octets, or 65,535 if it may be extended
-abbrev pub longest : Bool → ℕ
-longest extended = if extended then 65535 else 4096
+abbrev pub max_length : Bool → ℕ
+max_length extended = if extended then 65535 else 4096
 
 -- the smaller of a maximum and the limit of a builder
 abbrev pub limit_of : ℕ → Option ℕ → Option ℕ
@@ -21,7 +21,7 @@ pub record WritingMessage (B M : Type 0) : Type 0 where
   pub most : ℕ
 
 -- Octets are the message that is found in them, which fits, and at most `most`.
-pub record IsWritten {M : Type 0} (octets : M → List ℕ) (Fits : M → Type 0) (found : List ℕ → M) (most : ℕ)
+pub record IsWrittenMessage {M : Type 0} (octets : M → List ℕ) (Fits : M → Type 0) (found : List ℕ → M) (most : ℕ)
     (content : List ℕ) : Type 0 where
   pub are : content ≡ octets (found content)
   pub fits : Fits (found content)

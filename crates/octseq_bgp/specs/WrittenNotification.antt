@@ -2,7 +2,7 @@
 use Rattle.std.specs.Prelude.{ℕ, List, ◌∷◌, ◌++◌, length, drop, slice_index}
 use Rattle.octseq_bgp.specs.Composed.{message_octets}
 use Rattle.octseq.specs.Window.{Window, rest}
-use Rattle.octseq_bgp.specs.WrittenMessage.{IsWritten}
+use Rattle.octseq_bgp.specs.WrittenMessage.{IsWrittenMessage}
 
 -- A code, a subcode and data.
 pub record WrittenNotification : Type 0 where
@@ -14,8 +14,8 @@ abbrev pub notification_octets : WrittenNotification → List ℕ
 notification_octets n = message_octets 3 (n.code ∷ n.subcode ∷ n.«data»)
 
 -- with more data
-abbrev pub with_data : WrittenNotification → List ℕ → WrittenNotification
-with_data n octets = record n { «data» = n.«data» ++ octets }
+abbrev pub notification_with_data : WrittenNotification → List ℕ → WrittenNotification
+notification_with_data n octets = record n { «data» = n.«data» ++ octets }
 
 -- a text after its length: RFC 9003, 2
 abbrev pub communication_octets : List ℕ → List ℕ
@@ -30,7 +30,7 @@ notification_in octets = record {
 }
 
 abbrev pub IsNotificationWritten : ℕ → List ℕ → Type 0
-IsNotificationWritten = IsWritten notification_octets (λ _. Unit {0}) notification_in
+IsNotificationWritten = IsWrittenMessage notification_octets (λ _. Unit {0}) notification_in
 
 -- what a NOTIFICATION that was read says
 abbrev pub notification_says : ℕ × (ℕ × Window) → WrittenNotification

@@ -3,7 +3,7 @@ use Rattle.std.specs.Prelude.{ℕ, ◌<◌, List, ◌∷◌, ◌++◌, take, dro
 use Rattle.octseq.specs.Integer.{be, octets_be}
 use Rattle.octseq.specs.Window.{Window, rest}
 use Rattle.octseq_bgp.specs.Composed.{message_octets}
-use Rattle.octseq_bgp.specs.WrittenMessage.{IsWritten}
+use Rattle.octseq_bgp.specs.WrittenMessage.{IsWrittenMessage}
 
 -- AFI, subtype, SAFI, and the octets that follow.
 pub record WrittenRouteRefresh : Type 0 where
@@ -33,7 +33,7 @@ abbrev pub FitsRouteRefresh : WrittenRouteRefresh → Type 0
 FitsRouteRefresh r = r.afi < 65536
 
 abbrev pub IsRouteRefreshWritten : ℕ → List ℕ → Type 0
-IsRouteRefreshWritten = IsWritten route_refresh_octets FitsRouteRefresh route_refresh_in
+IsRouteRefreshWritten = IsWrittenMessage route_refresh_octets FitsRouteRefresh route_refresh_in
 
 -- what a ROUTE-REFRESH that was read says
 abbrev pub route_refresh_says : ℕ × (ℕ × (ℕ × Window)) → WrittenRouteRefresh

@@ -3,7 +3,7 @@ ghost use Rattle.std.specs.Prelude.{◌≡◌, ◌≤◌, ◌+◌, ◌++◌, ℕ
 ghost use Rattle.octseq.specs.Limit.{IsWithin};
 ghost use Rattle.octseq.specs.Refusal.{append_error, write_error};
 ghost use Rattle.octseq_bgp.specs.Composed.{Extends, least, header_octets, message_octets};
-ghost use Rattle.octseq_bgp.specs.Puts.{Puts, PutsSome};
+ghost use Rattle.octseq_bgp.specs.Puts.{AppendsUnlimited, AppendsSomeUnlimited};
 
 mod value;
 
@@ -110,7 +110,8 @@ pub(crate) trait Tail {
     fn put<B: OctetsBuilder>(&self, builder: &mut B) -> Result<(), AllocError>
         requires fit { fits self.now }
         requires within { IsWithin B.limit (length (B.content builder.old) + length (octets self.now)) }
-        ensures puts { PutsSome B.asks result (octets self.now) (B.content builder.old) (B.content builder.new) }
+        ensures puts { AppendsSomeUnlimited B.asks result (octets self.now) (B.content builder.old)
+            (B.content builder.new) }
         ensures borrows { B.borrows builder.new ≡ B.borrows builder.old };
 }
 
@@ -180,7 +181,7 @@ impl<'a, T: Tail> Tail for Headed<'a, T> {
 fn put_all<B: OctetsBuilder + Truncate, T: Tail>(octets: &mut B, tail: &T) -> Result<(), AllocError>
     requires fit { T.fits tail.now }
     requires within { IsWithin B.limit (length (B.content octets.old) + length (T.octets tail.now)) }
-    ensures puts { Puts B.asks result (T.octets tail.now) (B.content octets.old) (B.content octets.new) }
+    ensures puts { AppendsUnlimited B.asks result (T.octets tail.now) (B.content octets.old) (B.content octets.new) }
     ensures borrows { B.borrows octets.new ≡ B.borrows octets.old }
 {
     let start = octets.len();

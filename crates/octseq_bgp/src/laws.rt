@@ -13,11 +13,11 @@ ghost use Rattle.octseq_bgp.specs.Handling.{IsHandling};
 ghost use Rattle.octseq_bgp.specs.Message as said;
 ghost use Rattle.octseq_bgp.specs.Message.{IsMessage};
 ghost use Rattle.octseq_bgp.specs.MessageText.{IsMessageText};
-ghost use Rattle.octseq_bgp.specs.Minimal.{IsMinimal};
+ghost use Rattle.octseq_bgp.specs.Minimal.{IsMinimalMessage};
 ghost use Rattle.octseq_bgp.specs.OneOpen.{open_says};
 ghost use Rattle.octseq_bgp.specs.Open.{Open};
 ghost use Rattle.octseq_bgp.specs.Parts.{octets_of_bits};
-ghost use Rattle.octseq_bgp.specs.PrefixValue.{address_from, address_of};
+ghost use Rattle.octseq_bgp.specs.PrefixValue.{address_from, prefix_address};
 ghost use Rattle.octseq_bgp.specs.ReadWritten.{update_says};
 ghost use Rattle.octseq_bgp.specs.Rewritten.{IsRewritten};
 ghost use Rattle.octseq_bgp.specs.Stop.{IsStop};
@@ -25,7 +25,7 @@ ghost use Rattle.octseq_bgp.specs.Stream.{IsFramed, IsMisframed};
 ghost use Rattle.octseq_bgp.specs.Update.{Update};
 ghost use Rattle.octseq_bgp.specs.Value.{Value, HasForm, IsValue};
 ghost use Rattle.octseq_bgp.specs.Written.{WrittenUpdate, UpdateFits, update_octets};
-ghost use Rattle.octseq_bgp.specs.WrittenMessage.{keepalive_octets, longest};
+ghost use Rattle.octseq_bgp.specs.WrittenMessage.{keepalive_octets, max_length};
 ghost use Rattle.octseq_bgp.specs.WrittenNotification.{WrittenNotification, notification_octets, notification_says};
 ghost use Rattle.octseq_bgp.specs.WrittenOpen.{FitsOpen, WrittenOpen, open_octets};
 ghost use Rattle.octseq_bgp.specs.WrittenRouteRefresh.{WrittenRouteRefresh, route_refresh_octets, route_refresh_says};
@@ -128,7 +128,7 @@ pub fn opens_are_read_back()
 /// The octets of a NOTIFICATION that was written are read as it, under the same session.
 pub fn notifications_are_read_back()
     ensures { (session : Session) (n : WrittenNotification) → n.code < 256 → n.subcode < 256
-        → length (notification_octets n) ≤ longest session.extended_message
+        → length (notification_octets n) ≤ max_length session.extended_message
         → (read : ℕ × (ℕ × Window)) × IsMessage session (notification_octets n) (said.Message.notification read)
         × (notification_says read ≡ n) }
 {}
@@ -141,7 +141,7 @@ pub fn keepalives_are_read_back()
 /// The octets of a ROUTE-REFRESH that was written are read as it, under the same session.
 pub fn route_refreshes_are_read_back()
     ensures { (session : Session) (r : WrittenRouteRefresh) → r.afi < 65536 → r.subtype < 256 → r.safi < 256
-        → length (route_refresh_octets r) ≤ longest session.extended_message
+        → length (route_refresh_octets r) ≤ max_length session.extended_message
         → (read : ℕ × (ℕ × (ℕ × Window))) × IsMessage session (route_refresh_octets r) (said.Message.route_refresh read)
         × (route_refresh_says read ≡ r) }
 {}
@@ -149,7 +149,7 @@ pub fn route_refreshes_are_read_back()
 /// The octets of a prefix that was written have the address that was given, with the bits after its length cleared.
 pub fn written_addresses_are_read_back()
     ensures { (bits : ℕ) (address : List ℕ) → AreOctets address
-        → address_of bits (address_from (octets_of_bits bits) 0 bits address) ≡ address_of bits address }
+        → prefix_address bits (address_from (octets_of_bits bits) 0 bits address) ≡ prefix_address bits address }
 {}
 
 /// Prefixes add their own octets to those of an UPDATE, and no others.
@@ -205,5 +205,5 @@ pub fn rewritten_messages_are_no_longer()
 /// the octets that it was.
 pub fn minimal_messages_stay()
     ensures { (session : Session) (octets out : List ℕ) → AreOctets octets
-        → IsMinimal session octets → IsRewritten session octets out → out ≡ octets }
+        → IsMinimalMessage session octets → IsRewritten session octets out → out ≡ octets }
 {}

@@ -142,7 +142,7 @@ pub(crate) fn parse_header<R: AsOctets + Copy>(
 }
 
 impl<R: AsOctets + Copy> UpdateParts<R> {
-    ghost use Rattle.octseq_bgp.specs.Parsed.{parts_of};
+    ghost use Rattle.octseq_bgp.specs.Parsed.{update_parts_of};
 
     /// Splits an UPDATE into its three parts, as parsers. The lengths must fit, but prefixes and attributes needn't
     /// fill them: RFC 7606, 3.
@@ -151,7 +151,7 @@ impl<R: AsOctets + Copy> UpdateParts<R> {
     ///
     /// `Malformed` if by their header the octets aren't an UPDATE of the session, or if the lengths don't fit.
     pub fn parse(octets: R, session: SessionConfig) -> Result<UpdateParts<R>, Malformed>
-        ensures parts { IfOk result (λ it. HasUpdateParts session (R.content octets) (parts_of it)) }
+        ensures parts { IfOk result (λ it. HasUpdateParts session (R.content octets) (update_parts_of it)) }
         ensures malformed { IsErr result → (parts : Window × (Window × Window))
             → ¬ HasUpdateParts session (R.content octets) parts }
     {

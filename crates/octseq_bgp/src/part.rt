@@ -3,7 +3,7 @@ ghost use Rattle.std.specs.Prelude.{◌≡◌, ◌≤◌, ◌+◌, ◌++◌, ◌
 ghost use Rattle.octseq.specs.Limit.{IsWithin};
 ghost use Rattle.octseq_format.specs.Row.{row_octets};
 ghost use Rattle.octseq_bgp.specs.PartRow.{FitRow};
-ghost use Rattle.octseq_bgp.specs.Puts.{PutsSome};
+ghost use Rattle.octseq_bgp.specs.Puts.{AppendsSomeUnlimited};
 
 use octseq::OctetsBuilder;
 use std::alloc::AllocError;
@@ -36,7 +36,7 @@ pub trait Part {
     fn put_part<B: OctetsBuilder>(&self, wide: bool, builder: &mut B) -> Result<(), AllocError>
         requires fit { fits wide (says self.now) }
         requires within { IsWithin B.limit (length (B.content builder.old) + length (octets wide (says self.now))) }
-        ensures puts { PutsSome B.asks result (octets wide (says self.now))
+        ensures puts { AppendsSomeUnlimited B.asks result (octets wide (says self.now))
             (B.content builder.old) (B.content builder.new) }
         ensures borrows { B.borrows builder.new ≡ B.borrows builder.old };
 }
@@ -72,7 +72,7 @@ pub(crate) fn put_parts<B: OctetsBuilder, P: Part>(
     requires fit { FitRow (P.octets wide) (P.fits wide) (map P.says parts.now) }
     requires within { IsWithin B.limit (length (B.content builder.old)
         + length (row_octets (P.octets wide) (map P.says parts.now))) }
-    ensures puts { PutsSome B.asks result (row_octets (P.octets wide) (map P.says parts.now))
+    ensures puts { AppendsSomeUnlimited B.asks result (row_octets (P.octets wide) (map P.says parts.now))
         (B.content builder.old) (B.content builder.new) }
     ensures borrows { B.borrows builder.new ≡ B.borrows builder.old }
 {

@@ -8,7 +8,7 @@ ghost use Rattle.octseq_bgp.specs.Fills.{Counts, TakesFirst};
 ghost use Rattle.octseq_bgp.specs.Parts.{IsPathPrefix, IsPrefix, octets_of_bits};
 ghost use Rattle.octseq_bgp.specs.Prefix as said;
 ghost use Rattle.octseq_bgp.specs.Prefix.{AreAhead, ArePrefixes, ahead_once, most_bits};
-ghost use Rattle.octseq_bgp.specs.PrefixValue.{address_from, address_of, bits_after, cleared};
+ghost use Rattle.octseq_bgp.specs.PrefixValue.{address_from, prefix_address, bits_after, cleared};
 
 use crate::family::{Afi, AfiSafiType};
 use crate::key_octet::KeyOctet;
@@ -332,7 +332,7 @@ pub(crate) fn four_at(octets: &[u8], i: usize, bits: u8) -> [u8; 4]
 /// Returns the address whose first `bits` bits are in `octets`.
 #[inline(always)]
 pub(crate) fn address_of(octets: &[u8], bits: u8) -> [u8; 16]
-    ensures { result ≡ address_of bits octets.now }
+    ensures { result ≡ prefix_address bits octets.now }
 {
     let a = four_at(octets, 0, bits);
     let b = four_at(octets, 4, bits);
@@ -350,7 +350,7 @@ impl<R: AsOctets + Copy> Nlri<R> {
     pub fn prefix(&self) -> Prefix
         ensures afi { result.afi ≡ self.now.afi }
         ensures len { result.len ≡ self.now.len }
-        ensures address { result.address ≡ address_of self.now.len (rest (window self.now.octets)) }
+        ensures address { result.address ≡ prefix_address self.now.len (rest (window self.now.octets)) }
     {
         Prefix {
             afi: self.afi,

@@ -6,7 +6,7 @@
 ghost use Rattle.std.specs.Prelude.{◌≡◌, ◌≤◌, ◌<◌, ◌+◌, ◌^◌, length};
 ghost use Rattle.octseq.specs.Integer.{octets_be};
 ghost use Rattle.octseq.specs.Limit.{IsWithin};
-ghost use Rattle.octseq_bgp.specs.Puts.{Puts, PutsSome};
+ghost use Rattle.octseq_bgp.specs.Puts.{AppendsUnlimited, AppendsSomeUnlimited};
 
 use octseq::OctetsBuilder;
 use std::alloc::AllocError;
@@ -15,8 +15,8 @@ use std::alloc::AllocError;
 #[inline(always)]
 pub(crate) fn put_slice<B: OctetsBuilder>(builder: &mut B, slice: &[u8]) -> Result<(), AllocError>
     requires { IsWithin B.limit (length (B.content builder.old) + length slice.now) }
-    ensures puts { Puts B.asks result slice.now (B.content builder.old) (B.content builder.new) }
-    ensures some { PutsSome B.asks result slice.now (B.content builder.old) (B.content builder.new) }
+    ensures puts { AppendsUnlimited B.asks result slice.now (B.content builder.old) (B.content builder.new) }
+    ensures some { AppendsSomeUnlimited B.asks result slice.now (B.content builder.old) (B.content builder.new) }
     ensures borrows { B.borrows builder.new ≡ B.borrows builder.old }
 {
     builder.append_slice(slice).map_err(|_| AllocError)
@@ -26,8 +26,8 @@ pub(crate) fn put_slice<B: OctetsBuilder>(builder: &mut B, slice: &[u8]) -> Resu
 #[inline(always)]
 pub(crate) fn put_few<B: OctetsBuilder>(builder: &mut B, slice: &[u8]) -> Result<(), AllocError>
     requires { IsWithin B.limit (length (B.content builder.old) + length slice.now) }
-    ensures puts { Puts B.asks result slice.now (B.content builder.old) (B.content builder.new) }
-    ensures some { PutsSome B.asks result slice.now (B.content builder.old) (B.content builder.new) }
+    ensures puts { AppendsUnlimited B.asks result slice.now (B.content builder.old) (B.content builder.new) }
+    ensures some { AppendsSomeUnlimited B.asks result slice.now (B.content builder.old) (B.content builder.new) }
     ensures borrows { B.borrows builder.new ≡ B.borrows builder.old }
 {
     builder.append_few(slice).map_err(|_| AllocError)
@@ -38,8 +38,9 @@ pub(crate) fn put_few<B: OctetsBuilder>(builder: &mut B, slice: &[u8]) -> Result
 #[tactic(auto, using(octseq::proofs::Written::written_1))]
 pub(crate) fn put_u8<B: OctetsBuilder>(builder: &mut B, number: u8) -> Result<(), AllocError>
     requires { IsWithin B.limit (length (B.content builder.old) + length (octets_be 1 number)) }
-    ensures puts { Puts B.asks result (octets_be 1 number) (B.content builder.old) (B.content builder.new) }
-    ensures some { PutsSome B.asks result (octets_be 1 number) (B.content builder.old) (B.content builder.new) }
+    ensures puts { AppendsUnlimited B.asks result (octets_be 1 number) (B.content builder.old) (B.content builder.new) }
+    ensures some { AppendsSomeUnlimited B.asks result (octets_be 1 number) (B.content builder.old)
+        (B.content builder.new) }
     ensures borrows { B.borrows builder.new ≡ B.borrows builder.old }
 {
     put_few(builder, &number.to_be_bytes())
@@ -50,8 +51,9 @@ pub(crate) fn put_u8<B: OctetsBuilder>(builder: &mut B, number: u8) -> Result<()
 #[tactic(auto, using(octseq::proofs::Written::written_2))]
 pub(crate) fn put_u16<B: OctetsBuilder>(builder: &mut B, number: u16) -> Result<(), AllocError>
     requires { IsWithin B.limit (length (B.content builder.old) + length (octets_be 2 number)) }
-    ensures puts { Puts B.asks result (octets_be 2 number) (B.content builder.old) (B.content builder.new) }
-    ensures some { PutsSome B.asks result (octets_be 2 number) (B.content builder.old) (B.content builder.new) }
+    ensures puts { AppendsUnlimited B.asks result (octets_be 2 number) (B.content builder.old) (B.content builder.new) }
+    ensures some { AppendsSomeUnlimited B.asks result (octets_be 2 number) (B.content builder.old)
+        (B.content builder.new) }
     ensures borrows { B.borrows builder.new ≡ B.borrows builder.old }
 {
     put_few(builder, &number.to_be_bytes())
@@ -62,8 +64,9 @@ pub(crate) fn put_u16<B: OctetsBuilder>(builder: &mut B, number: u16) -> Result<
 #[tactic(auto, using(octseq::proofs::Written::written_4))]
 pub(crate) fn put_u32<B: OctetsBuilder>(builder: &mut B, number: u32) -> Result<(), AllocError>
     requires { IsWithin B.limit (length (B.content builder.old) + length (octets_be 4 number)) }
-    ensures puts { Puts B.asks result (octets_be 4 number) (B.content builder.old) (B.content builder.new) }
-    ensures some { PutsSome B.asks result (octets_be 4 number) (B.content builder.old) (B.content builder.new) }
+    ensures puts { AppendsUnlimited B.asks result (octets_be 4 number) (B.content builder.old) (B.content builder.new) }
+    ensures some { AppendsSomeUnlimited B.asks result (octets_be 4 number) (B.content builder.old)
+        (B.content builder.new) }
     ensures borrows { B.borrows builder.new ≡ B.borrows builder.old }
 {
     put_few(builder, &number.to_be_bytes())
@@ -74,8 +77,9 @@ pub(crate) fn put_u32<B: OctetsBuilder>(builder: &mut B, number: u32) -> Result<
 #[tactic(auto, using(octseq::proofs::Written::written_8))]
 pub(crate) fn put_u64<B: OctetsBuilder>(builder: &mut B, number: u64) -> Result<(), AllocError>
     requires { IsWithin B.limit (length (B.content builder.old) + length (octets_be 8 number)) }
-    ensures puts { Puts B.asks result (octets_be 8 number) (B.content builder.old) (B.content builder.new) }
-    ensures some { PutsSome B.asks result (octets_be 8 number) (B.content builder.old) (B.content builder.new) }
+    ensures puts { AppendsUnlimited B.asks result (octets_be 8 number) (B.content builder.old) (B.content builder.new) }
+    ensures some { AppendsSomeUnlimited B.asks result (octets_be 8 number) (B.content builder.old)
+        (B.content builder.new) }
     ensures borrows { B.borrows builder.new ≡ B.borrows builder.old }
 {
     put_few(builder, &number.to_be_bytes())

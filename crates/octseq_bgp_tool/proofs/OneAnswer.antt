@@ -6,7 +6,7 @@ use Rattle.octseq_bgp.specs.Stream.{IsFramed, IsMisframed}
 use Rattle.octseq_bgp.specs.declared.session.SessionConfig.{SessionConfig}
 use Rattle.octseq_bgp_tool.proofs.Ends.{none_at_messages_end, one_messages_end}
 use Rattle.octseq_bgp_tool.specs.Out.{as_they_are, MessagesOut, Out, RecordsOut}
-use Rattle.octseq_bgp_tool.specs.Records.{cut_text, IsRecordPiece, IsRecordsEnd}
+use Rattle.octseq_bgp_tool.specs.Records.{records_cut_text, IsRecordPiece, IsRecordsEnd}
 use Rattle.octseq_bgp_tool.specs.Shown.{IsMessagePiece}
 use Rattle.octseq_bgp_tool.specs.Streams.{IsMessagesEnd, IsPiece}
 use Rattle.octseq_bgp_tool.specs.Words.{session_of}
@@ -24,7 +24,7 @@ use Rattle.octseq_cli.specs.declared.status.Status.{Status}
 -- the rest of a file makes one piece
 pub one_records_end : (c : Records) (number : ℕ) (rest x y e f : List ℕ) (a b : Bool)
     → IsRecordsEnd c number rest a x e → IsRecordsEnd c number rest b y f → (a ≡ b) × (x ≡ y) × (e ≡ f)
-one_records_end c number = one_plain_end IsRecordCut (λ octets cut. cut.0) (cut_text c)
+one_records_end c number = one_plain_end IsRecordCut (λ octets cut. cut.0) (records_cut_text c)
 
 -- no record is at the front of no octets: it has at least four octets
 no_record : ¬ BeginsWithRecord []
@@ -38,7 +38,7 @@ pub none_at_records_end : (c : Records) (number : ℕ) (octets written note : Li
     (is_fine : Bool)
     → IsRecordsEnd c number octets is_fine written note → ¬ HasFront IsRecordOctets as_they_are octets
 none_at_records_end c number =
-    none_at_plain IsRecordCut IsRecordOctets as_they_are no_record (λ octets cut. cut.1) (cut_text c)
+    none_at_plain IsRecordCut IsRecordOctets as_they_are no_record (λ octets cut. cut.1) (records_cut_text c)
 
 -- octets that are apart are a code of themselves
 pub code_of : (Fits : List ℕ → Type 0) → ((a b x y : List ℕ) → Fits a → Fits b → a ++ x ≡ b ++ y → a ≡ b)

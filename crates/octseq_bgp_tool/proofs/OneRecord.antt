@@ -4,7 +4,7 @@ use Rattle.std.proofs.Common.{if◌then◌else◌}
 use Rattle.octseq.specs.Window.{Window, rest}
 use Rattle.octseq_bgp.specs.declared.session.SessionConfig.{SessionConfig}
 use Rattle.octseq_bgp_tool.specs.Records.{IsEventNote, IsRecordPiece, IsTakenEvent, IsTakenValue}
-use Rattle.octseq_bgp_tool.specs.Records.{IsValueNote, IsWritten}
+use Rattle.octseq_bgp_tool.specs.Records.{IsValueNote, IsRecordOutput}
 use Rattle.octseq_bgp_tool.specs.Shown.{IsNote, IsRead}
 use Rattle.octseq_bgp_tool.specs.declared.engine.records.Records.{Records}
 use Rattle.octseq_bgp_tool.specs.declared.engine.records.Records.TheVariants.{Shown, Taken}
@@ -50,8 +50,8 @@ module _ (one_note : (what : List ℕ) (s : SessionConfig) (number : ℕ) (octet
 -- by the law of texts
 module _ (one_text : (r : CommonHeader × Window) (text other : List ℕ) → IsRecordText r text → IsRecordText r other
     → text ≡ other) where
-  one_written : (c : Records) (r : CommonHeader × Window) (v : Value) (x y : List ℕ) → IsWritten c r v x
-      → IsWritten c r v y → x ≡ y
+  one_written : (c : Records) (r : CommonHeader × Window) (v : Value) (x y : List ℕ) → IsRecordOutput c r v x
+      → IsRecordOutput c r v y → x ≡ y
   one_written Shown r v x y (text, p, e) (other, q, f) =
       e ∙ ap (λ l. l ++ codes "\n") (one_text r text other p q) ∙ sym f
   one_written Taken r v x y p q = one_taken v x y p q
@@ -70,7 +70,7 @@ module _ (one_record : (octets : List ℕ) (a b : CommonHeader × Window) → Ar
       let same = one_record octets r q are also in
       let moved : IsValue q.0 q.1 v = subst (λ r. IsValue r.0 r.1 v) same says in
       let one = one_value q.0 q.1 v u moved say in
-      let written = subst (λ v. IsWritten c q v x) one (subst (λ r. IsWritten c r v x) same w) in (
+      let written = subst (λ v. IsRecordOutput c q v x) one (subst (λ r. IsRecordOutput c r v x) same w) in (
         fine ∙ sym all,
         one_written one_text c q u x y written z,
         one_value_note one_note number u e f (subst (λ v. IsValueNote number v e) one n) m,

@@ -1,7 +1,7 @@
 -- Names of commands: each command has its own.
 use Rattle.std.proofs.Common.{◌≡◌, ◌∙◌, ◌-◌, ℕ, Bool, true, false, List, drop, get_or, length, if◌then◌else◌}
 use Rattle.std.proofs.Common.{nat_eq, refl, sym, ap}
-use Rattle.octseq_bgp_tool.specs.Words.{name_of, words_of}
+use Rattle.octseq_bgp_tool.specs.Words.{command_name, words_of}
 use Rattle.octseq_bgp_tool.specs.declared.engine.Command.{Command}
 use Rattle.octseq_bgp_tool.specs.declared.engine.Command.TheVariants.{Message, Stream, Rewrite, Mrt, Messages}
 use Rattle.octseq_bgp_tool.specs.declared.options.Options.{Options}
@@ -51,7 +51,7 @@ command_reported word =
     else (if nat_eq (get_or word 1 0) 114 then Mrt
     else (if nat_eq (get_or word 7 0) 115 then Messages else Message (reported_by (drop 7 word)))))
 
-command_again : (c : Command) → command_reported (name_of c) ≡ c
+command_again : (c : Command) → command_reported (command_name c) ≡ c
 command_again Mrt = refl
 command_again Messages = refl
 command_again (Stream o) = ap Stream (reported_again o.two_octet o.add_path o.extended)
@@ -61,5 +61,5 @@ command_again (Message o) =
     ∙ ap Message (reported_again o.two_octet o.add_path o.extended)
 
 -- no two commands have one name
-pub same_name : (c d : Command) → name_of c ≡ name_of d → c ≡ d
+pub same_name : (c d : Command) → command_name c ≡ command_name d → c ≡ d
 same_name c d e = sym (command_again c) ∙ ap command_reported e ∙ command_again d

@@ -35,19 +35,19 @@ IsValueNote number (Value.bgp4mp b) note = IsEventNote number b.event note
 IsValueNote number _ note = note ≡ []
 
 -- the output for a record: its text and an empty line, or its message
-abbrev pub IsWritten : Records → CommonHeader × Window → Value → List ℕ → Type 0
-IsWritten Shown r v written = (text : List ℕ) × IsRecordText r text × (written ≡ text ++ codes "\n")
-IsWritten Taken r v written = IsTakenValue v written
+abbrev pub IsRecordOutput : Records → CommonHeader × Window → Value → List ℕ → Type 0
+IsRecordOutput Shown r v written = (text : List ℕ) × IsRecordText r text × (written ≡ text ++ codes "\n")
+IsRecordOutput Taken r v written = IsTakenValue v written
 
 -- what is made of a record
 abbrev pub IsRecordPiece : Records → ℕ → List ℕ → Bool → List ℕ → List ℕ → Type 0
 IsRecordPiece c number octets is_fine written note = (r : CommonHeader × Window) × (v : Value) × AreRecord octets r
-    × IsValue r.0 r.1 v × IsWritten c r v written × IsValueNote number v note × (is_fine ≡ true)
+    × IsValue r.0 r.1 v × IsRecordOutput c r v written × IsValueNote number v note × (is_fine ≡ true)
 
 -- the output if a file ends inside a record
-abbrev pub cut_text : Records → List ℕ
-cut_text Shown = codes "unexpected end of input\n"
-cut_text Taken = []
+abbrev pub records_cut_text : Records → List ℕ
+records_cut_text Shown = codes "unexpected end of input\n"
+records_cut_text Taken = []
 
 -- the rest of a file, by how it ends
 abbrev pub IsRecordsRest : Ending → List ℕ → Type 0
@@ -55,4 +55,4 @@ IsRecordsRest = IsPlainRest IsRecordCut
 
 -- what is made of the rest
 abbrev pub IsRecordsEnd : Records → ℕ → List ℕ → Bool → List ℕ → List ℕ → Type 0
-IsRecordsEnd c number = IsPlainEnd IsRecordCut (cut_text c)
+IsRecordsEnd c number = IsPlainEnd IsRecordCut (records_cut_text c)

@@ -13,18 +13,18 @@ pub record HasText (s : SessionConfig) (octets text : List ℕ) : Type 0 where
   pub is_text : IsMessageText message text
 
 -- octets aren't a message of the session
-abbrev pub IsMalformed : SessionConfig → List ℕ → Type 0
-IsMalformed s octets = (m : Message) → ¬ IsMessage s octets m
+abbrev pub IsMalformedMessage : SessionConfig → List ℕ → Type 0
+IsMalformedMessage s octets = (m : Message) → ¬ IsMessage s octets m
 
 -- whether octets are a message of the session
 abbrev pub IsRead : SessionConfig → List ℕ → Bool → Type 0
 IsRead s octets true = (m : Message) × IsMessage s octets m
-IsRead s octets false = IsMalformed s octets
+IsRead s octets false = IsMalformedMessage s octets
 
 -- what is shown of octets: the text of the message, if they are one, otherwise `malformed`
 abbrev pub IsShown : SessionConfig → List ℕ → Bool → List ℕ → Type 0
 IsShown s octets true shown = HasText s octets shown
-IsShown s octets false shown = IsMalformed s octets × (shown ≡ codes "malformed\n")
+IsShown s octets false shown = IsMalformedMessage s octets × (shown ≡ codes "malformed\n")
 
 -- the note about octets on standard error, by what they are and their number: if they aren't a message, the offset
 -- where reading stopped

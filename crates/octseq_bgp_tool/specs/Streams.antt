@@ -3,7 +3,7 @@ use Rattle.std.specs.Prelude.{◌≡◌, ◌⊎◌, ℕ, List, [], ◌++◌, cod
 use Rattle.octseq_bgp.specs.Rewritten.{IsRewritten}
 use Rattle.octseq_bgp.specs.Stream.{IsFrameCut, IsMisframed}
 use Rattle.octseq_bgp.specs.declared.session.SessionConfig.{SessionConfig}
-use Rattle.octseq_bgp_tool.specs.Shown.{IsMalformed, IsShown, IsNote}
+use Rattle.octseq_bgp_tool.specs.Shown.{IsMalformedMessage, IsShown, IsNote}
 use Rattle.octseq_bgp_tool.specs.declared.engine.messages.Output.{Output}
 use Rattle.octseq_bgp_tool.specs.declared.engine.messages.Output.TheVariants.{Text, Anew}
 use Rattle.octseq_cli.specs.Frames.{IsPlainEnd, IsPlainRest, stop_line}
@@ -21,7 +21,7 @@ abbrev pub IsAnew : SessionConfig → ℕ → List ℕ → Bool → List ℕ →
 IsAnew s number octets true written note =
     IsRewritten s octets written × IsNote (codes "message") s number octets true note
 IsAnew s number octets false written note =
-    IsMalformed s octets × (written ≡ []) × IsNote (codes "message") s number octets false note
+    IsMalformedMessage s octets × (written ≡ []) × IsNote (codes "message") s number octets false note
 
 -- what is made of the message of this number: whether it is fine, the output for it, and the note about it
 abbrev pub IsPiece : Output → SessionConfig → ℕ → List ℕ → Bool → List ℕ → List ℕ → Type 0
@@ -29,9 +29,9 @@ IsPiece Text s number octets is_fine written note = IsBlock s number octets is_f
 IsPiece Anew s number octets is_fine written note = IsAnew s number octets is_fine written note
 
 -- the output if a stream ends inside a message
-abbrev pub cut_text : Output → List ℕ
-cut_text Text = codes "unexpected end of input\n"
-cut_text Anew = []
+abbrev pub messages_cut_text : Output → List ℕ
+messages_cut_text Text = codes "unexpected end of input\n"
+messages_cut_text Anew = []
 
 -- the output for octets that aren't framed as a message
 abbrev pub misframed_text : Output → List ℕ
@@ -51,4 +51,5 @@ IsMessagesRest s ending rest = IsPlainRest (IsFrameCut s) ending rest
 -- what is made of the rest: it is empty or a part of a message, or isn't framed as one
 abbrev pub IsMessagesEnd : Output → SessionConfig → ℕ → List ℕ → Bool → List ℕ → List ℕ → Type 0
 IsMessagesEnd o s number rest is_fine ending note =
-    IsPlainEnd (IsFrameCut s) (cut_text o) rest is_fine ending note ⊎ IsMisframedEnd o s number rest is_fine ending note
+    IsPlainEnd (IsFrameCut s) (messages_cut_text o) rest is_fine ending note
+    ⊎ IsMisframedEnd o s number rest is_fine ending note

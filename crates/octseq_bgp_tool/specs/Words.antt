@@ -16,12 +16,12 @@ words_of o = option_word o.two_octet (codes ",two-octet") ++ option_word o.add_p
     ++ option_word o.extended (codes ",extended")
 
 -- the name of a command
-abbrev pub name_of : Command → List ℕ
-name_of (Message o) = codes "message" ++ words_of o
-name_of (Stream o) = codes "stream" ++ words_of o
-name_of (Rewrite o) = codes "rewrite" ++ words_of o
-name_of Mrt = codes "mrt"
-name_of Messages = codes "messages"
+abbrev pub command_name : Command → List ℕ
+command_name (Message o) = codes "message" ++ words_of o
+command_name (Stream o) = codes "stream" ++ words_of o
+command_name (Rewrite o) = codes "rewrite" ++ words_of o
+command_name Mrt = codes "mrt"
+command_name Messages = codes "messages"
 
 -- how messages are read by the options: with two-octet AS numbers, with path ids for all families, of up to 65,535
 -- octets

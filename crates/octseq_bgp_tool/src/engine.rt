@@ -1,7 +1,7 @@
 //! The commands of the program.
 ghost use Rattle.std.specs.Prelude.{◌≡◌, ◌≢◌, ◌++◌, ℕ, List, Option, codes, true, IfSome, IsNone};
 ghost use Rattle.octseq_bgp_tool.specs.Out.{Out};
-ghost use Rattle.octseq_bgp_tool.specs.Words.{name_of};
+ghost use Rattle.octseq_bgp_tool.specs.Words.{command_name};
 ghost use Rattle.octseq_bgp_tool.specs.declared.engine.Command.{Command};
 ghost use Rattle.octseq_cli.specs.Run.{IsNamed};
 ghost use Rattle.octseq_cli.specs.declared.status.Status.{Status};
@@ -84,7 +84,7 @@ pub enum Command {
 /// that a check proves it.
 pub fn one_answer()
     ensures command { (word : List ℕ) (c d : Option Command)
-        → IsNamed name_of word c → IsNamed name_of word d → c ≡ d }
+        → IsNamed command_name word c → IsNamed command_name word d → c ≡ d }
     ensures output { (c : Command) (input x y e f : List ℕ) (s t : Status)
         → Out c input x e s → Out c input y f t → (x ≡ y) × (e ≡ f) × (s ≡ t) }
 {
@@ -107,7 +107,7 @@ fn after<'a>(word: &'a str, front: &str) -> Option<&'a str>
 impl Commands for Command {
     ghost use Rattle.octseq_bgp_tool.specs.declared.engine.TheConstants.{HELP, USAGE};
 
-    ghost name_of = { name_of };
+    ghost name_of = { command_name };
 
     ghost default_word = { codes "message" };
 

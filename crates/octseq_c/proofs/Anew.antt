@@ -9,7 +9,7 @@ use Rattle.octseq_dns_compress.proofs.Fields.{entry_grows, headed_length}
 use Rattle.octseq_dns_compress.proofs.Steps.{grown_length}
 use Rattle.octseq_dns_message.specs.declared.header.Header.{Header}
 use Rattle.octseq_dns_message.specs.declared.header.HeaderCounts.{HeaderCounts}
-use Rattle.octseq_dns.specs.Contents.{Message, composed, octets_of, counts_of, header_octets}
+use Rattle.octseq_dns.specs.Contents.{Message, composed, message_octets, counts_of, header_octets}
 use Rattle.octseq_dns.specs.Writes.{SectionTakes, ComposesMessage, all_more}
 use Rattle.octseq_dns.proofs.HeaderRead.{header_length}
 use Rattle.octseq_dns.proofs.Pushed.{composed_more, twelve_first}
@@ -33,7 +33,7 @@ module _ {A : Type 0} {entry : A → Entry} {FitsOne : A → Type 0} {Reaches : 
     (takes : SectionTakes A entry FitsOne Reaches count counted more) where
   -- a message with one more entry has its octets and those of the entry
   pushed_length : (m : Message) (one : A) → Reaches (counts_of m)
-      → length (octets_of most (more m one)) ≡ length (with_entry most (composed most m) (entry one)).octets
+      → length (message_octets most (more m one)) ≡ length (with_entry most (composed most m) (entry one)).octets
   pushed_length m one reaches =
       let s = composed most m in
       let then = with_entry most s (entry one) in
@@ -45,7 +45,7 @@ module _ {A : Type 0} {entry : A → Entry} {FitsOne : A → Type 0} {Reaches : 
 
   -- so it doesn't have fewer octets with more entries
   pub all_longer : (m : Message) (rest : List A) → Reaches (counts_of m)
-      → length (octets_of most m) ≤ length (octets_of most (all_more more m rest))
+      → length (message_octets most m) ≤ length (message_octets most (all_more more m rest))
   all_longer m [] reaches = omega arith
   all_longer m (one ∷ rest) reaches =
       let s = composed most m in
@@ -140,12 +140,12 @@ module _ {A I : Type 0} {Of : I → A → Type 0} {labels : A → ℕ} {more : M
         {count : HeaderCounts → ℕ} {counted : HeaderCounts → ℕ → HeaderCounts} (limit : Option ℕ)
         → SectionTakes A entry FitsOne Reaches count counted more → Reaches counts
         → ExceedsLimit limit (length (with_entry most state (entry one)).octets)
-        → ExceedsLimit limit (length (octets_of most (all_more more m written)))
+        → ExceedsLimit limit (length (message_octets most (all_more more m written)))
     ahead_past {entry = entry} {Reaches = Reaches} {count = count} {counted = counted} limit takes reaches past =
         by_rest ahead.rest ahead.are ahead.same where
           by_rest : (rest : List A) → AllZip Of (i ∷ left) rest
               → all_more more m written ≡ all_more more ahead.now rest
-              → ExceedsLimit limit (length (octets_of most (all_more more m written)))
+              → ExceedsLimit limit (length (message_octets most (all_more more m written)))
           by_rest [] are same = absurd are
           by_rest (other ∷ rest) are same =
               let now = ahead.now in
@@ -157,8 +157,9 @@ module _ {A I : Type 0} {Of : I → A → Type 0} {labels : A → ℕ} {more : M
               here)
               in
               let longer = all_longer most takes (more now one) rest there in
-              let whole = ap (λ m. length (octets_of most m))
+              let whole = ap (λ m. length (message_octets most m))
               (same ∙ ap (λ one. all_more more (more now one) rest) (only other are.0)) in
               past_more limit (length (with_entry most state (entry one)).octets)
-              (length (octets_of most (all_more more m written))) (omega (arith, one_longer, state_is, longer, whole))
+              (length (message_octets most (all_more more m written)))
+              (omega (arith, one_longer, state_is, longer, whole))
               past

@@ -9,7 +9,7 @@ use Rattle.octseq_c.proofs.Anew.{all_longer}
 use Rattle.octseq_dns.proofs.HeaderRead.{header_length}
 use Rattle.octseq_dns.proofs.Pushed.{header_set, twelve_first}
 use Rattle.octseq_dns.proofs.Stages.{asked, of_sections}
-use Rattle.octseq_dns.specs.Contents.{Record, Message, octets_of, Question, composed, counts_of, header_octets}
+use Rattle.octseq_dns.specs.Contents.{Record, Message, message_octets, Question, composed, counts_of, header_octets}
 use Rattle.octseq_dns.specs.Sections.{takes_answers, takes_authorities, takes_additionals}
 use Rattle.octseq_dns.specs.State.{State}
 use Rattle.octseq_dns.specs.Writes.{
@@ -61,19 +61,19 @@ module _ (m : Message) where
   -- ---- a message is no shorter than its first sections
 
   module _ (most : ℕ) where
-    pub authorized_short : length (octets_of most (authorized m)) ≤ length (octets_of most m)
+    pub authorized_short : length (message_octets most (authorized m)) ≤ length (message_octets most m)
     authorized_short =
-        let same = ap (λ m. length (octets_of most m)) additionals_are in
+        let same = ap (λ m. length (message_octets most m)) additionals_are in
         omega (arith, all_longer most takes_additionals (authorized m) m.additionals tt, same)
 
-    pub answered_short : length (octets_of most (answered m)) ≤ length (octets_of most m)
+    pub answered_short : length (message_octets most (answered m)) ≤ length (message_octets most m)
     answered_short =
-        let same = ap (λ m. length (octets_of most m)) authorities_are in
+        let same = ap (λ m. length (message_octets most m)) authorities_are in
         omega (arith, all_longer most takes_authorities (answered m) m.authorities refl, same, authorized_short)
 
-    pub asked_short : length (octets_of most (asked m)) ≤ length (octets_of most m)
+    pub asked_short : length (message_octets most (asked m)) ≤ length (message_octets most m)
     asked_short =
-        let same = ap (λ m. length (octets_of most m)) answers_are in
+        let same = ap (λ m. length (message_octets most m)) answers_are in
         omega (arith, all_longer most takes_answers (asked m) m.answers (refl, refl), same, answered_short)
 
 -- what follows if a call returns `Ok`
@@ -98,7 +98,7 @@ past_unlimited push_limit limit n none most past =
 
 -- with another header there are as many octets
 same_long : (most : ℕ) (m : Message) (header : Header)
-    → length (octets_of most (record m { header = header })) ≡ length (octets_of most m)
+    → length (message_octets most (record m { header = header })) ≡ length (message_octets most m)
 same_long most m header =
     ap (λ s. length s.octets) (header_set most m header)
     ∙ headed_length (header_octets header (counts_of m)) (header_length header (counts_of m)) (composed most m)
@@ -106,12 +106,12 @@ same_long most m header =
 
 module _ (most : ℕ) (header : Header) (questions : List Question) (m : Message) (are : m.questions ≡ questions) where
   -- so an answer exceeds the limit if its questions do, whatever the header
-  pub begun_past : (limit : ℕ) → limit < length (octets_of most (of_sections header questions [] [] []))
-      → limit < length (octets_of most m)
+  pub begun_past : (limit : ℕ) → limit < length (message_octets most (of_sections header questions [] [] []))
+      → limit < length (message_octets most m)
   begun_past limit past =
       let other : Message = record m { header = header } in
       let same = same_long most m header in
-      let longer = subst (λ q. limit < length (octets_of most (of_sections header q [] [] []))) (sym are) past in
+      let longer = subst (λ q. limit < length (message_octets most (of_sections header q [] [] []))) (sym are) past in
       omega (arith, same, longer, asked_short other most)
 
   -- what was begun is the answer's header and questions

@@ -5,12 +5,12 @@ use Rattle.std.proofs.Math.Nat.{eq-or-lt_of_le}
 use Rattle.std.proofs.lemmas.Bool.{cases_order}
 use Rattle.std.proofs.lemmas.List.{length-take-le}
 use Rattle.std.specs.List.{AllByRecursion}
-use Rattle.octseq_dns.specs.Contents.{Message, octets_of}
+use Rattle.octseq_dns.specs.Contents.{Message, message_octets}
 use Rattle.octseq_dns.specs.Entry.{Question}
 use Rattle.octseq_dns_message.proofs.Messages.{said_once}
 use Rattle.octseq_dns_message.specs.declared.header.Header.{Header}
 use Rattle.octseq_c.specs.Made.{IsAnswerOf, offsets_kept}
-use Rattle.octseq_c.specs.Within.{FitsUpTo, IsAnswerUpTo, IsAnswerWithin, IsCutAt, IsPastUpTo, KeepsUpTo, flags_for}
+use Rattle.octseq_c.specs.Within.{FitsUpTo, IsAnswerUpTo, IsAnswerWithin, IsCutAt, IsPastUpTo, KeepsUpTo, answer_flags}
 use Rattle.octseq_c.specs.declared.rows.Row.{Row}
 use Rattle.octseq_c.proofs.OneAnswer.{one_contents}
 
@@ -66,13 +66,13 @@ module _ (asked : Header) (flags : ℕ) (questions : List Question) (source : Li
   answers_once : (a b : ℕ) → a ≡ b → (m n : Message) → IsAnswerUpTo asked flags questions source rows a m
       → IsAnswerUpTo asked flags questions source rows b n → m ≡ n
   answers_once a b same m n is other =
-      one_contents asked (flags_for b (length rows) flags) questions source (take b rows) m n
+      one_contents asked (answer_flags b (length rows) flags) questions source (take b rows) m n
       (subst (λ a. IsAnswerUpTo asked flags questions source rows a m) same is) other
 
 -- ---- what is measured of the answer with the first rows, whose flags are `bits`
 
 module _ (asked : Header) (flags : ℕ) (questions : List Question) (source : List ℕ) (rows : List Row) (limit : ℕ)
-    (count bits : ℕ) (same : bits ≡ flags_for count (length rows) flags) where
+    (count bits : ℕ) (same : bits ≡ answer_flags count (length rows) flags) where
   abbrev IsMade : Message → Type 0
   IsMade m = IsAnswerOf asked bits questions source (take count rows) m
 
@@ -80,24 +80,25 @@ module _ (asked : Header) (flags : ℕ) (questions : List Question) (source : Li
   is_up_to m is = subst (λ bits. IsAnswerOf asked bits questions source (take count rows) m) same is
 
   same_length : (m n : Message) → IsMade m → IsAnswerUpTo asked flags questions source rows count n
-      → length (octets_of offsets_kept m) ≡ length (octets_of offsets_kept n)
-  same_length m n is are = ap (λ m. length (octets_of offsets_kept m))
-      (one_contents asked (flags_for count (length rows) flags) questions source (take count rows) m n (is_up_to m is)
+      → length (message_octets offsets_kept m) ≡ length (message_octets offsets_kept n)
+  same_length m n is are = ap (λ m. length (message_octets offsets_kept m))
+      (one_contents asked (answer_flags count (length rows) flags) questions source (take count rows) m n
+      (is_up_to m is)
       are)
 
   -- it is within the limit
-  pub fits_measured : (m : Message) (n : ℕ) → IsMade m → n ≡ length (octets_of offsets_kept m) → n ≤ limit
+  pub fits_measured : (m : Message) (n : ℕ) → IsMade m → n ≡ length (message_octets offsets_kept m) → n ≤ limit
       → FitsUpTo asked flags questions source rows limit count
   fits_measured m n is long within = (m, is_up_to m is, omega (arith, long, within))
 
   -- or exceeds it
-  pub past_measured : (m : Message) (n : ℕ) → IsMade m → n ≡ length (octets_of offsets_kept m) → limit < n
+  pub past_measured : (m : Message) (n : ℕ) → IsMade m → n ≡ length (message_octets offsets_kept m) → limit < n
       → IsPastUpTo asked flags questions source rows limit count
   past_measured m n is long past other are = omega (arith, long, past, same_length m other is are)
 
   -- or is refused, since it would exceed 65,535 octets
   pub past_refused : ((m : Message) → IsMade m → length (take count rows) ≤ 65535
-      → 65535 < length (octets_of offsets_kept m)) → count ≤ length rows → length rows ≤ 65535 → limit ≤ 65535
+      → 65535 < length (message_octets offsets_kept m)) → count ≤ length rows → length rows ≤ 65535 → limit ≤ 65535
       → IsPastUpTo asked flags questions source rows limit count
   past_refused short within few most m are =
       let is = subst (λ bits. IsAnswerOf asked bits questions source (take count rows) m) (sym same) are in
@@ -106,7 +107,7 @@ module _ (asked : Header) (flags : ℕ) (questions : List Question) (source : Li
 
   -- what is composed is within the limit if the answer is
   pub made_fits : (m : Message) → IsMade m → FitsUpTo asked flags questions source rows limit count
-      → length (octets_of offsets_kept m) ≤ limit
+      → length (message_octets offsets_kept m) ≤ limit
   made_fits m is (n, are, within) = omega (arith, within, same_length m n is are)
 
   pub made_is : (m : Message) → IsMade m → IsAnswerUpTo asked flags questions source rows count m
@@ -147,6 +148,6 @@ one_within query flags source rows limit made other a b =
     subst (λ i. i) (λ i. IsAnswerUpTo (same.0 i) flags (same.1 i) source rows b.count b.contents) b.is in
     let count = kept_once a.asked flags a.questions source rows limit a.count b.count a.keeps keeps in
     a.made_is
-    ∙ ap (octets_of offsets_kept) (answers_once a.asked flags a.questions source rows limit a.count b.count count
+    ∙ ap (message_octets offsets_kept) (answers_once a.asked flags a.questions source rows limit a.count b.count count
     a.contents b.contents a.is is)
     ∙ sym b.made_is

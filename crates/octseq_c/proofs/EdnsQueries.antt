@@ -3,7 +3,7 @@ use Rattle.std.proofs.Common.{◌≡◌, ℕ, ◌+◌, List, [], ◌∷◌, ◌+
 use Rattle.std.proofs.lemmas.List.{length-append}
 use Rattle.octseq.specs.Integer.{octets_be}
 use Rattle.octseq_c.specs.Edns.{IsEdnsQuery, edns_header, opt_head, question_octets}
-use Rattle.octseq_c.specs.Texts.{Spells}
+use Rattle.octseq_c.specs.Texts.{SpellsNameText}
 use Rattle.octseq_c.proofs.OneTexts.{one_spelled}
 
 -- octets that were appended after others
@@ -38,7 +38,7 @@ front_is header question opt a b d e = e ∙ d ∙ ap (λ x. x ++ opt) (b ∙ ap
 
 -- the query that a text asks for has the name that it spells
 pub query_is : (id flags : ℕ) (text : List ℕ) (qtype qclass payload edns_flags : ℕ) (options made : List ℕ)
-    (labels : List (List ℕ)) → Spells text labels
+    (labels : List (List ℕ)) → SpellsNameText text labels
     → IsEdnsQuery id flags text qtype qclass payload edns_flags options made
     → made ≡ ((edns_header id flags ++ question_octets labels qtype qclass)
     ++ opt_head payload edns_flags (length options)) ++ options
@@ -48,7 +48,7 @@ query_is id flags text qtype qclass payload edns_flags options made labels spell
 
 -- so it has as many octets as both
 pub query_length : (id flags : ℕ) (text : List ℕ) (qtype qclass payload edns_flags : ℕ) (options made front : List ℕ)
-    (labels : List (List ℕ)) → Spells text labels
+    (labels : List (List ℕ)) → SpellsNameText text labels
     → front ≡ (edns_header id flags ++ question_octets labels qtype qclass)
     ++ opt_head payload edns_flags (length options)
     → IsEdnsQuery id flags text qtype qclass payload edns_flags options made

@@ -7,7 +7,7 @@ use Rattle.octseq.specs.Window.{Window, next, past, whole}
 use Rattle.octseq_bgp.specs.Parts.{IsNumber}
 use Rattle.octseq_format.specs.Pair.{◌then◌}
 use Rattle.octseq_mrt.specs.Header.{IsHeader}
-use Rattle.octseq_mrt.specs.OneFrame.{record_octets, record_long}
+use Rattle.octseq_mrt.specs.OneFrame.{whole_record, record_long}
 use Rattle.octseq_mrt.specs.Records.{BeginsWithRecord, record_length}
 use Rattle.octseq_mrt.specs.declared.header.CommonHeader.{CommonHeader}
 use Rattle.octseq_stream.proofs.Headers.{range_in_front, range_of_front}
@@ -54,7 +54,7 @@ begins octets room =
     ap be (range_of_front octets n 8 12 (omega arith) (omega arith) room) in (
       take n octets,
       drop n octets,
-      record_octets (take n octets) (omega (arith, size, same, room)),
+      whole_record (take n octets) (omega (arith, size, same, room)),
       sym (take-append-drop n octets),
     )
 

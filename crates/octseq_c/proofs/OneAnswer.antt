@@ -3,7 +3,7 @@ use Rattle.std.proofs.Common.{◌≡◌, ℕ, true, ◌<◌, List, [], ◌∷◌
 use Rattle.std.specs.List.{AllZip}
 use Rattle.octseq.specs.Integer.{octets_be}
 use Rattle.octseq.specs.Window.{at, nested, whole}
-use Rattle.octseq_dns.specs.Contents.{Message, Record, header_octets, octets_of}
+use Rattle.octseq_dns.specs.Contents.{Message, Record, header_octets, message_octets}
 use Rattle.octseq_dns.specs.Entry as entry
 use Rattle.octseq_dns.specs.Header.{IsHeader, flag_bits}
 use Rattle.octseq_dns.specs.Message.{IsMessage}
@@ -106,7 +106,7 @@ module _ (asked : Header) (flags : ℕ) (questions : List entry.Question) (sourc
   -- an answer to octets is an answer to the message that they are
   pub answer_of : (query : List ℕ) (answers authorities additionals : List entry.Record) (made : List ℕ)
       → IsMessage query asked questions answers authorities additionals → IsAnswer query flags source rows made
-      → (m : Message) × IsAnswerOf asked flags questions source rows m × (made ≡ octets_of offsets_kept m)
+      → (m : Message) × IsAnswerOf asked flags questions source rows m × (made ≡ message_octets offsets_kept m)
   answer_of query answers authorities additionals made is answered =
       let same = said_once query answered.asked asked answered.questions questions answered.answers
       answered.authorities answered.additionals answers authorities additionals answered.message is in (
@@ -124,5 +124,5 @@ one_answer query flags source rows made other a b =
     let m = answer_of a.asked flags a.questions source rows query a.answers a.authorities a.additionals other a.message
     b in
     a.made_is
-    ∙ ap (octets_of offsets_kept) (one_contents a.asked flags a.questions source rows a.contents m.0 a.is m.1)
+    ∙ ap (message_octets offsets_kept) (one_contents a.asked flags a.questions source rows a.contents m.0 a.is m.1)
     ∙ sym m.2

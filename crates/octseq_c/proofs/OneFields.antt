@@ -18,7 +18,7 @@ use Rattle.octseq_format.specs.Pair.{◌one_then◌}
 use Rattle.octseq_format.specs.Rest.{one_rest}
 use Rattle.octseq_format.specs.Row.{Moved, moving_moved, one_moved, one_to}
 use Rattle.octseq_c.specs.Fields.{AreFieldRows, AreFieldsIn, AreFieldsOf, AreKnownFields, AreLayoutRows}
-use Rattle.octseq_c.specs.Fields.{AreParameters, AreStrings, AreTailRows, AreTypedFields, IsAddressField}
+use Rattle.octseq_c.specs.Fields.{AreParameters, AreStringRows, AreTailRows, AreTypedFields, IsAddressField}
 use Rattle.octseq_c.specs.Fields.{IsCharacterString}
 use Rattle.octseq_c.specs.Fields.{IsField, IsNameField, IsNumberField, IsParameter, IsStringField}
 use Rattle.octseq_c.specs.Fields.{name_row, number_row, parameter_row, range_row}
@@ -81,7 +81,7 @@ one_fields (f ∷ fields) = record {
 
 -- ---- the last part
 
-one_strings : (w : Window) (rows others : List FieldRow) → AreStrings w rows → AreStrings w others → rows ≡ others
+one_strings : (w : Window) (rows others : List FieldRow) → AreStringRows w rows → AreStringRows w others → rows ≡ others
 one_strings w rows others (strings, u, is, shown) (same, v, it, told) =
     let one = one_to (Moved IsCharacterString) (one_moved one_character_string) (moving_moved IsCharacterString) in
     shown ∙ ap (map (range_row 3)) (one.same w strings same u v is it).0 ∙ sym told

@@ -1,7 +1,7 @@
 -- A message is composed anew in one way.
 use Rattle.std.proofs.Common.{◌≡◌, ℕ, List, [], ◌∷◌, ◌++◌, ◌⊎◌, inl, inr, refl, ap, sym, ◌∙◌, subst}
 use Rattle.octseq_dns.specs.Contents as contents
-use Rattle.octseq_dns.specs.Contents.{octets_of}
+use Rattle.octseq_dns.specs.Contents.{message_octets}
 use Rattle.octseq_dns.specs.Message.{IsMessage}
 use Rattle.octseq_dns.specs.Moved.{CanMove}
 use Rattle.octseq.specs.Refusal.{Is, Refusal}
@@ -29,7 +29,7 @@ one_rewriting octets made other a b =
     let same = said_once octets _ _ _ _ _ _ _ _ _ _ b.message a.message in
     let contents = one_contents _ _ _ _ _ a.contents b.contents a.same
     (moved_contents b.contents same.0 same.1 same.2 same.3 same.4 b.same) in
-    a.made_is ∙ ap (octets_of offsets_kept) contents ∙ sym b.made_is
+    a.made_is ∙ ap (message_octets offsets_kept) contents ∙ sym b.made_is
 
 -- data can't both be movable and not movable
 pub not_both : (octets made : List ℕ) → IsRewritten octets made → ¬ IsImmovable octets
@@ -48,7 +48,8 @@ stable (r ∷ records) nn =
 pub rewriting_of : {octets : List ℕ} {header : Header} {questions : List Question}
     {answers authorities additionals : List Record} → IsMessage octets header questions answers authorities additionals
     → ¬ ¬ CanMove (answers ++ (authorities ++ additionals)) → (m : contents.Message)
-    → IsMessageOf header questions answers authorities additionals m → IsRewritten octets (octets_of offsets_kept m)
+    → IsMessageOf header questions answers authorities additionals m
+    → IsRewritten octets (message_octets offsets_kept m)
 rewriting_of message can m same = record {
   header = _;
   questions = _;

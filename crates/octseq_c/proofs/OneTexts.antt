@@ -16,7 +16,8 @@ use Rattle.octseq_dns_name.specs.Text.{name_text}
 use Rattle.octseq_dns_name.specs.Wire.{wire}
 use Rattle.octseq_c.specs.Made.{IsQuery, query_header}
 use Rattle.octseq_c.specs.Rows.{AreRowsOf, rows_of}
-use Rattle.octseq_c.specs.Texts.{IsNameAt, IsNameText, IsNameWire, IsSpelledWire, Spells, IsDataText, IsTextOf}
+use Rattle.octseq_c.specs.Texts.{IsNameAt, IsNameText, IsNameWire, IsSpelledWire, SpellsNameText, IsDataTextAt}
+use Rattle.octseq_c.specs.Texts.{IsTextOf}
 use Rattle.octseq_c.specs.declared.rows.Row.{Row}
 
 pub one_at : {octets : List ℕ} {offset : ℕ} {labels others : List (List ℕ)} → IsNameAt octets offset labels
@@ -31,7 +32,8 @@ pub one_name_wire : (octets : List ℕ) (offset : ℕ) (made other : List ℕ) �
     → IsNameWire octets offset other → made ≡ other
 one_name_wire octets offset made other (labels, a, is) (others, b, it) = is ∙ ap wire (one_at a b) ∙ sym it
 
-pub one_spelled : {text : List ℕ} {labels others : List (List ℕ)} → Spells text labels → Spells text others
+pub one_spelled : {text : List ℕ} {labels others : List (List ℕ)} → SpellsNameText text labels
+    → SpellsNameText text others
     → labels ≡ others
 one_spelled a b = name_once _ _ _ a.labels_are b.labels_are a.spelled b.spelled
 
@@ -45,7 +47,7 @@ one_query id flags text qtype qclass made other a b =
     (one_spelled a.spelled b.spelled) ∙ sym b.made_is
 
 pub one_data_text : (octets : List ℕ) (offset n rtype class : ℕ) (text other : List ℕ)
-    → IsDataText octets offset n rtype class text → IsDataText octets offset n rtype class other → text ≡ other
+    → IsDataTextAt octets offset n rtype class text → IsDataTextAt octets offset n rtype class other → text ≡ other
 one_data_text octets offset n rtype class text other (rdata, a, is) (others, b, it) =
     is ∙ ap rdata_text (one_said _ _ _ _ _ _ a.says b.says) ∙ sym it
 

@@ -5,7 +5,7 @@ use Rattle.std.proofs.Common.{ap, ◌∙◌, subst, arith}
 use Rattle.std.proofs.lemmas.Bool.{ne_eqb}
 use Rattle.std.proofs.lemmas.List.{drop_all, drop_more}
 use Rattle.std.specs.Prelude.{nat_eq}
-use Rattle.octseq_dns.specs.Contents.{Message, Record, octets_of, record_entry}
+use Rattle.octseq_dns.specs.Contents.{Message, Record, message_octets, record_entry}
 use Rattle.octseq_dns.specs.State.{State, with_entry}
 use Rattle.octseq_dns.specs.Writes.{TakesRecords, ComposesMessage, all_more}
 use Rattle.octseq_c.proofs.Anew.{Ahead, ahead_next, ahead_none, ahead_past, all_longer}
@@ -79,6 +79,6 @@ module _ {Reaches : HeaderCounts → Type 0} {count : HeaderCounts → ℕ} {cou
 
   -- or the whole message exceeds the limit, as the message with it does
   pub left_past : (limit : ℕ) → limit < length (with_entry offsets_kept state (record_entry one)).octets
-      → limit < length (octets_of offsets_kept (all_more more m written))
+      → limit < length (message_octets offsets_kept (all_more more m written))
   left_past limit past = ahead_past offsets_kept m written row rows state header counts 0 0 first left one
       (λ other of. one_record source row other one of is) (Some limit) takes reaches past

@@ -1,7 +1,7 @@
 -- A text is one record, or one message.
 use Rattle.std.proofs.Common.{◌≡◌, ℕ, None, List, ◌++◌, length, refl, ap, sym, ◌∙◌, subst}
 use Rattle.octseq.specs.Integer.{octets_be}
-use Rattle.octseq_dns.specs.Contents.{octets_of}
+use Rattle.octseq_dns.specs.Contents.{message_octets}
 use Rattle.octseq_dns_compose.proofs.OneMessage.{message_once, record_once}
 use Rattle.octseq_dns_compose.specs.MessageText.{RecordLine}
 use Rattle.octseq_dns_compose.specs.RecordText.{IsRecordText}
@@ -25,4 +25,4 @@ one_record_wire text made other a b =
 
 pub one_text_wire : (text made other : List ℕ) → IsTextWire text made → IsTextWire text other → made ≡ other
 one_text_wire text made other a b =
-    a.made_is ∙ ap (octets_of offsets_kept) (message_once text a.message b.message a.is b.is) ∙ sym b.made_is
+    a.made_is ∙ ap (message_octets offsets_kept) (message_once text a.message b.message a.is b.is) ∙ sym b.made_is

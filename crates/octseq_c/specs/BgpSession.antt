@@ -26,7 +26,7 @@ weight_of true weight = weight
 weight_of false weight = 0
 
 -- the flags of a session
-abbrev pub flags_of : SessionConfig → ℕ
-flags_of s = weight_of (not s.four_octet_asn) 1 + (weight_of s.extended_message 2
+abbrev pub session_flags : SessionConfig → ℕ
+session_flags s = weight_of (not s.four_octet_asn) 1 + (weight_of s.extended_message 2
     + (weight_of s.add_path.ipv4_unicast 4 + (weight_of s.add_path.ipv4_multicast 8
     + (weight_of s.add_path.ipv6_unicast 16 + weight_of s.add_path.ipv6_multicast 32))))

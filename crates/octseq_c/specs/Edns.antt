@@ -5,7 +5,7 @@ use Rattle.octseq.specs.Window.{Window, whole}
 use Rattle.octseq_dns.specs.Wire.{wire}
 use Rattle.octseq_dns_message.specs.Opt.{EdnsOption, HasOption}
 use Rattle.octseq_format.specs.Row.{Row}
-use Rattle.octseq_c.specs.Texts.{Spells}
+use Rattle.octseq_c.specs.Texts.{SpellsNameText}
 
 -- Octets are options, as the data of an OPT record has them: one after another, each with its code, its length and its
 -- octets, up to the end.
@@ -34,11 +34,11 @@ opt_head payload flags n = (0 ∷ []) ++ (octets_be 2 41 ++ (octets_be 2 payload
 pub record IsEdnsQuery (id flags : ℕ) (text : List ℕ) (qtype qclass payload edns_flags : ℕ) (options made : List ℕ)
     : Type 0 where
   pub labels : List (List ℕ)
-  pub spelled : Spells text labels
+  pub spelled : SpellsNameText text labels
   pub options_are : AreOptions options
   pub made_is : made ≡ ((edns_header id flags ++ question_octets labels qtype qclass)
       ++ opt_head payload edns_flags (length options)) ++ options
 
 -- the text spells no name, or the octets are no options
 abbrev pub IsNoEdnsQuery : List ℕ → List ℕ → Type 0
-IsNoEdnsQuery text options = ((labels : List (List ℕ)) → ¬ Spells text labels) ⊎ (¬ AreOptions options)
+IsNoEdnsQuery text options = ((labels : List (List ℕ)) → ¬ SpellsNameText text labels) ⊎ (¬ AreOptions options)

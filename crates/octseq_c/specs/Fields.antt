@@ -80,8 +80,8 @@ AreFieldRows (f ∷ fields) w rows v = (row : FieldRow) × (more : List FieldRow
 -- ---- what comes after them
 
 -- character strings up to the end
-abbrev pub AreStrings : Window → List FieldRow → Type 0
-AreStrings w rows = (strings : List Window) × (v : Window) × RowTo (Moved IsCharacterString) w strings v
+abbrev pub AreStringRows : Window → List FieldRow → Type 0
+AreStringRows w rows = (strings : List Window) × (v : Window) × RowTo (Moved IsCharacterString) w strings v
     × (rows ≡ map (range_row 3) strings)
 
 -- a key of 2 octets, and octets after their length, which has 2 octets
@@ -97,7 +97,7 @@ abbrev pub AreTailRows : Tail → Window → List FieldRow → Type 0
 AreTailRows tail.Nothing w rows = rows ≡ []
 AreTailRows tail.Value w rows = rows ≡ range_row 4 w ∷ []
 AreTailRows tail.Target w rows = rows ≡ range_row 4 w ∷ []
-AreTailRows tail.Strings w rows = AreStrings w rows
+AreTailRows tail.Strings w rows = AreStringRows w rows
 AreTailRows tail.Hex w rows = rows ≡ range_row 4 w ∷ []
 AreTailRows tail.Base64 w rows = rows ≡ range_row 4 w ∷ []
 AreTailRows tail.Types w rows = rows ≡ range_row 5 w ∷ []

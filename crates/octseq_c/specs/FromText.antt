@@ -1,7 +1,7 @@
 -- Records and messages composed of their text: RFC 1035, 5.1.
 use Rattle.std.specs.Prelude.{◌≡◌, ℕ, ◌<◌, ◌≤◌, None, List, ◌++◌, length}
 use Rattle.octseq.specs.Integer.{octets_be}
-use Rattle.octseq_dns.specs.Contents.{Message, octets_of}
+use Rattle.octseq_dns.specs.Contents.{Message, message_octets}
 use Rattle.octseq_dns.specs.Wire.{wire}
 use Rattle.octseq_dns_compose.specs.MessageText.{IsTextOfMessage}
 use Rattle.octseq_dns_compose.specs.RecordText.{Head, IsAnyRecord, IsRecordText}
@@ -35,4 +35,4 @@ pub record IsLongRecord (text : List ℕ) : Type 0 where
 pub record IsTextWire (text made : List ℕ) : Type 0 where
   pub message : Message
   pub is : IsTextOfMessage text message
-  pub made_is : made ≡ octets_of offsets_kept message
+  pub made_is : made ≡ message_octets offsets_kept message

@@ -3,7 +3,7 @@ use Rattle.std.specs.Prelude.{◌≡◌, ℕ, ◌+◌, ◌<◌, ◌≤◌, true,
 use Rattle.std.specs.List.{AllZip}
 use Rattle.octseq.specs.Integer.{octets_be}
 use Rattle.octseq_dns.specs.Contents as contents
-use Rattle.octseq_dns.specs.Contents.{octets_of}
+use Rattle.octseq_dns.specs.Contents.{message_octets}
 use Rattle.octseq_dns.specs.Data.{ParsedRdata}
 use Rattle.octseq_dns.specs.Entry.{Question, Record}
 use Rattle.octseq_dns.specs.Header.{flag_bits}
@@ -15,7 +15,7 @@ use Rattle.octseq_dns.specs.Rewritten.{IsMessageOf}
 use Rattle.octseq_dns.specs.Wire.{wire}
 use Rattle.octseq_dns_message.specs.declared.header.Header.{Header}
 use Rattle.octseq_c.specs.declared.rows.Row.{Row}
-use Rattle.octseq_c.specs.Texts.{IsNameAt, IsDataAt, IsTypedAt, Spells}
+use Rattle.octseq_c.specs.Texts.{IsNameAt, IsDataAt, IsTypedAt, SpellsNameText}
 
 -- how many offsets of a message are kept for pointers to refer to
 abbrev pub offsets_kept : ℕ
@@ -34,7 +34,7 @@ pub record IsRewritten (octets made : List ℕ) : Type 0 where
   pub moved : CanMove (answers ++ (authorities ++ additionals))
   pub contents : contents.Message
   pub same : IsMessageOf header questions answers authorities additionals contents
-  pub made_is : made ≡ octets_of offsets_kept contents
+  pub made_is : made ≡ message_octets offsets_kept contents
 
 -- The octets are a message whose data can't be moved.
 pub record IsImmovable (octets : List ℕ) : Type 0 where
@@ -56,7 +56,7 @@ query_header id flags = octets_be 2 id ++ (octets_be 2 flags ++ (octets_be 2 1 +
 -- These are the octets of a query for the name that a text spells: a header, the name, a type and a class.
 pub record IsQuery (id flags : ℕ) (text : List ℕ) (qtype qclass : ℕ) (made : List ℕ) : Type 0 where
   pub labels : List (List ℕ)
-  pub spelled : Spells text labels
+  pub spelled : SpellsNameText text labels
   pub made_is : made ≡ query_header id flags ++ (wire labels ++ (octets_be 2 qtype ++ octets_be 2 qclass))
 
 -- ---- an answer
@@ -134,4 +134,4 @@ pub record IsAnswer (query : List ℕ) (flags : ℕ) (source : List ℕ) (rows :
   pub message : IsMessage query asked questions answers authorities additionals
   pub contents : contents.Message
   pub is : IsAnswerOf asked flags questions source rows contents
-  pub made_is : made ≡ octets_of offsets_kept contents
+  pub made_is : made ≡ message_octets offsets_kept contents

@@ -12,7 +12,7 @@ use Rattle.octseq_mrt.specs.Record.{AreRecord, IsValue, Value}
 use Rattle.octseq_mrt.specs.Rib.{Rib, RibEntry}
 use Rattle.octseq_mrt.specs.declared.header.CommonHeader.{CommonHeader}
 use Rattle.octseq_c.specs.BgpRows.{afi_of_address, row_of_attribute}
-use Rattle.octseq_c.specs.BgpSession.{flags_of}
+use Rattle.octseq_c.specs.BgpSession.{session_flags}
 use Rattle.octseq_c.specs.declared.bgp.rows.BgpRow.{BgpRow}
 use Rattle.octseq_c.specs.declared.mrt.header.MrtHeader.{MrtHeader}
 use Rattle.octseq_c.specs.declared.mrt.row.MrtRow.{MrtRow}
@@ -123,7 +123,7 @@ row_of_entry e = record no_row {
 
 -- a message with its session, or the two states of a state change
 abbrev pub with_event : Event → MrtRow
-with_event (Event.message session octets) = record (row_of_opaque octets) { kind = 5; session = flags_of session }
+with_event (Event.message session octets) = record (row_of_opaque octets) { kind = 5; session = session_flags session }
 with_event (Event.state_change states) = record no_row { kind = 6; old_state = states.0; new_state = states.1 }
 
 -- such an event with its microseconds, AS numbers, interface and addresses

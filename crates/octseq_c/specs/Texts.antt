@@ -38,7 +38,7 @@ abbrev pub IsNameWire : List ℕ → ℕ → List ℕ → Type 0
 IsNameWire octets offset made = (labels : List (List ℕ)) × IsNameAt octets offset labels × (made ≡ wire labels)
 
 -- A text spells a name, which has these labels.
-pub record Spells (text : List ℕ) (labels : List (List ℕ)) : Type 0 where
+pub record SpellsNameText (text : List ℕ) (labels : List (List ℕ)) : Type 0 where
   pub well_formed : IsWellFormed text
   pub labels_are : AreLabels labels
   pub short : wire_length labels ≤ 255
@@ -46,7 +46,7 @@ pub record Spells (text : List ℕ) (labels : List (List ℕ)) : Type 0 where
 
 -- the wire form of the name that a text spells
 abbrev pub IsSpelledWire : List ℕ → List ℕ → Type 0
-IsSpelledWire text made = (labels : List (List ℕ)) × Spells text labels × (made ≡ wire labels)
+IsSpelledWire text made = (labels : List (List ℕ)) × SpellsNameText text labels × (made ≡ wire labels)
 
 -- Data of a type and a class, of n octets, is at an offset of the octets, and says this.
 pub record IsDataAt (octets : List ℕ) (offset n rtype class : ℕ) (rdata : ParsedRdata) : Type 0 where
@@ -59,6 +59,6 @@ pub record IsTypedAt (octets : List ℕ) (offset n rtype class : ℕ) (rdata : P
   pub typed : IsTypedData rtype class (at offset (whole octets)) (nested n (at offset (whole octets))) rdata
 
 -- the text of data
-abbrev pub IsDataText : List ℕ → ℕ → ℕ → ℕ → ℕ → List ℕ → Type 0
-IsDataText octets offset n rtype class text =
+abbrev pub IsDataTextAt : List ℕ → ℕ → ℕ → ℕ → ℕ → List ℕ → Type 0
+IsDataTextAt octets offset n rtype class text =
     (rdata : ParsedRdata) × IsDataAt octets offset n rtype class rdata × (text ≡ rdata_text rdata)

@@ -3,7 +3,7 @@ ghost use Rattle.std.specs.Prelude.{◌≡◌, ◌≢◌, ◌↔◌, ◌⊎◌, 
 ghost use Rattle.std.specs.Prelude.{IfOk, OnErr, OnOk};
 ghost use Rattle.std.specs.List.{AllByRecursion, AllZip};
 ghost use Rattle.octseq_dns.specs.Contents as contents;
-ghost use Rattle.octseq_dns.specs.Contents.{octets_of, record_entry};
+ghost use Rattle.octseq_dns.specs.Contents.{message_octets, record_entry};
 ghost use Rattle.octseq_dns.specs.Parsed.{header_of, questions_of};
 ghost use Rattle.octseq_dns.specs.ReadBack.{bare};
 ghost use Rattle.octseq_dns.specs.State.{with_entry};
@@ -128,11 +128,11 @@ pub fn answer_to(
     requires { AllByRecursion (IsRow source.now) rows.now }
     ensures made { IfOk result (λ status. (m : contents.Message)
         × IsAnswerOf (header_of message.now) flags (questions_of message.now) source.now rows.now m
-        × (length (octets_of offsets_kept m) ≤ 65535)
-        × Copies (octets_of offsets_kept m) status out.old out.new written.new) }
+        × (length (message_octets offsets_kept m) ≤ 65535)
+        × Copies (message_octets offsets_kept m) status out.old out.new written.new) }
     ensures short { IsErr result → (m : contents.Message)
         → IsAnswerOf (header_of message.now) flags (questions_of message.now) source.now rows.now m
-        → (length rows.now ≤ 65535) → 65535 < length (octets_of offsets_kept m) }
+        → (length rows.now ≤ 65535) → 65535 < length (message_octets offsets_kept m) }
     ensures kept { OnErr result (out.new ≡ out.old) }
 {
     match answer_within::<FEW>(message, flags, source, rows, out, written) {
@@ -156,11 +156,11 @@ fn answer_within<const N: usize>(
     requires least { 12 ≤ N }
     ensures made { IfOk result (λ status. (m : contents.Message)
         × IsAnswerOf (header_of message.now) flags (questions_of message.now) source.now rows.now m
-        × (length (octets_of offsets_kept m) ≤ N)
-        × Copies (octets_of offsets_kept m) status out.old out.new written.new) }
+        × (length (message_octets offsets_kept m) ≤ N)
+        × Copies (message_octets offsets_kept m) status out.old out.new written.new) }
     ensures short { IsErr result → (m : contents.Message)
         → IsAnswerOf (header_of message.now) flags (questions_of message.now) source.now rows.now m
-        → (length rows.now ≤ 65535) → N < length (octets_of offsets_kept m) }
+        → (length rows.now ≤ 65535) → N < length (message_octets offsets_kept m) }
     ensures kept { OnErr result (out.new ≡ out.old) }
 {
     let mut room = Array::<N>::new();
@@ -189,10 +189,10 @@ fn answer<'a, const N: usize>(
     requires least { 12 ≤ N }
     ensures made { IfOk result (λ made. (m : contents.Message)
         × IsAnswerOf (header_of message.now) flags (questions_of message.now) source.now rows.now m
-        × (made.now.content ≡ octets_of offsets_kept m)) }
+        × (made.now.content ≡ message_octets offsets_kept m)) }
     ensures short { IsErr result → (m : contents.Message)
         → IsAnswerOf (header_of message.now) flags (questions_of message.now) source.now rows.now m
-        → (length rows.now ≤ 65535) → N < length (octets_of offsets_kept m) }
+        → (length rows.now ≤ 65535) → N < length (message_octets offsets_kept m) }
 {
     let begun = begin_answer(message, flags, room, table)?;
     let whole = push_sections(begun, source, rows)?;
@@ -214,7 +214,7 @@ fn begin_answer<'a, const N: usize>(
         → ComposesMessage offsets_kept (without_records m) b.state b.header b.counts) }
     ensures unlimited { IfOk result (λ b. b.push_limit ≡ None) }
     ensures short { IsErr result → (m : contents.Message)
-        → m.questions ≡ map bare (questions_of message.now) → N < length (octets_of offsets_kept m) }
+        → m.questions ≡ map bare (questions_of message.now) → N < length (message_octets offsets_kept m) }
 {
     let header = answer_header(&message.header(), flags);
     let begun = MessageBuilder::from_builder(room, table)?;
@@ -255,7 +255,7 @@ fn push_sections<'a, const N: usize>(
         → ComposesMessage offsets_kept m b.state b.header b.counts) }
     ensures short { IsErr result → (m : contents.Message) → HasRecordsOf source.now rows.now m
         → ComposesMessage offsets_kept (without_records m) answers.entry.state answers.entry.header answers.entry.counts
-        → (length rows.now ≤ 65535) → N < length (octets_of offsets_kept m) }
+        → (length rows.now ≤ 65535) → N < length (message_octets offsets_kept m) }
 {
     let answered = push_rows(answers, source, rows, 1)?;
     let authorized = push_rows(answered.authority(), source, rows, 2)?;
@@ -283,7 +283,7 @@ fn push_rows<'a, const N: usize, S: RecordSection>(
         → ComposesMessage offsets_kept m builder.entry.state builder.entry.header builder.entry.counts
         → AllZip (IsRecordAt source.now) (in_section section rows.now) written
         → (S.count builder.entry.counts + length rows.now ≤ 65535)
-        → N < length (octets_of offsets_kept (all_more S.more m written)) }
+        → N < length (message_octets offsets_kept (all_more S.more m written)) }
 {
     let mut message = builder;
     for row in rows {

@@ -7,7 +7,7 @@ ghost use Rattle.octseq_dns.specs.Data.{ParsedRdata};
 ghost use Rattle.octseq_dns.specs.Typed.{rdata_of};
 ghost use Rattle.octseq_c.specs.Puts.{Puts};
 ghost use Rattle.octseq_c.specs.Status.{status_ok, status_no_room, status_malformed, status_unshown};
-ghost use Rattle.octseq_c.specs.Texts.{IsDataAt, IsDataText, IsTypedAt};
+ghost use Rattle.octseq_c.specs.Texts.{IsDataAt, IsDataTextAt, IsTypedAt};
 
 use crate::shown::show;
 use crate::status::MALFORMED;
@@ -48,12 +48,12 @@ pub extern "C" fn octseq_dns_data_text(
     out: &mut [u8],
     written: &mut usize,
 ) -> u32
-    ensures puts { Puts (IsDataText octets.now data_at data_len rtype class) result out.old out.new written.new }
+    ensures puts { Puts (IsDataTextAt octets.now data_at data_len rtype class) result out.old out.new written.new }
     ensures malformed { (result ≡ status_malformed) ↔ (length octets.now < data_at + data_len) }
     ensures only { (result ≡ status_ok) ⊎ (result ≡ status_no_room) ⊎ (result ≡ status_malformed)
         ⊎ (result ≡ status_unshown) }
     ensures utf8 { result ≡ status_ok → (text : List ℕ)
-        → IsDataText octets.now data_at data_len rtype class text → IsWellFormed text }
+        → IsDataTextAt octets.now data_at data_len rtype class text → IsWellFormed text }
     ensures kept { result ≢ status_ok → result ≢ status_unshown → out.new ≡ out.old }
 {
     match data_of(octets, data_at, data_len, rtype, class) {

@@ -8,7 +8,8 @@ ghost use Rattle.octseq_dns_data.specs.Layout.{layout_value};
 ghost use Rattle.octseq_format.specs.Walk.{items_left};
 ghost use Rattle.octseq_c.specs.Fields.{AreFieldRows, AreFieldsIn, AreFieldsOf, AreKnownFields, AreLayoutRows};
 ghost use Rattle.octseq_c.specs.Fields.{AreParameters};
-ghost use Rattle.octseq_c.specs.Fields.{AreStrings, AreTailRows, AreTypedFields, IsAddressField, IsField, IsNameField};
+ghost use Rattle.octseq_c.specs.Fields.{AreStringRows, AreTailRows, AreTypedFields, IsAddressField, IsField};
+ghost use Rattle.octseq_c.specs.Fields.{IsNameField};
 ghost use Rattle.octseq_c.specs.Fields.{IsNumberField, IsStringField, name_row, number_row, parameter_row, range_row};
 ghost use Rattle.octseq_c.specs.Puts.{Copies, FillsPrefix, Puts};
 ghost use Rattle.octseq_c.specs.Status.{status_ok, status_no_room, status_malformed};
@@ -341,9 +342,9 @@ fn put_strings<R: AsOctets + Copy>(
 ) -> Option<u32>
     requires fields { length front.now ≤ 8 }
     requires few { left (window ahead) < 2 ^ 63 }
-    ensures some { IfSome result (λ status. (rows : List FieldRow) × AreStrings (window ahead) rows
+    ensures some { IfSome result (λ status. (rows : List FieldRow) × AreStringRows (window ahead) rows
         × Copies (front.now ++ rows) status out.old out.new count.new) }
-    ensures none { IsNone result → (rows : List FieldRow) → ¬ AreStrings (window ahead) rows }
+    ensures none { IsNone result → (rows : List FieldRow) → ¬ AreStringRows (window ahead) rows }
     ensures kept { IfNone result (out.new ≡ out.old) }
 {
     let mut parser = ahead;

@@ -8,7 +8,7 @@ ghost use Rattle.octseq_dns.specs.Read.{labels_of};
 ghost use Rattle.octseq_c.specs.Order.{IsOrder};
 ghost use Rattle.octseq_c.specs.Puts.{Puts};
 ghost use Rattle.octseq_c.specs.Status.{status_ok, status_no_room, status_malformed, status_unshown};
-ghost use Rattle.octseq_c.specs.Texts.{IsNameAt, IsNameText, IsNameWire, IsSpelledWire, Spells};
+ghost use Rattle.octseq_c.specs.Texts.{IsNameAt, IsNameText, IsNameWire, IsSpelledWire, SpellsNameText};
 
 use crate::room::put;
 use crate::shown::show;
@@ -72,7 +72,7 @@ pub extern "C" fn octseq_dns_name_wire(
 #[unsafe(no_mangle)]
 pub extern "C" fn octseq_dns_name_from_text(text: &[u8], out: &mut [u8], written: &mut usize) -> u32
     ensures puts { Puts (IsSpelledWire text.now) result out.old out.new written.new }
-    ensures malformed { (result ≡ status_malformed) ↔ ((labels : List (List ℕ)) → ¬ Spells text.now labels) }
+    ensures malformed { (result ≡ status_malformed) ↔ ((labels : List (List ℕ)) → ¬ SpellsNameText text.now labels) }
     ensures only { (result ≡ status_ok) ⊎ (result ≡ status_no_room) ⊎ (result ≡ status_malformed) }
     ensures kept { result ≢ status_ok → out.new ≡ out.old }
 {
@@ -150,8 +150,8 @@ fn wire_of(name: &ParsedName<&[u8]>) -> Array<255>
 
 /// Parses a name.
 pub fn spelled(text: &[u8]) -> Option<Name<Array<255>>>
-    ensures some { IfSome result (λ name. Spells text.now (owned_labels name)) }
-    ensures none { IfNone result ((labels : List (List ℕ)) → ¬ Spells text.now labels) }
+    ensures some { IfSome result (λ name. SpellsNameText text.now (owned_labels name)) }
+    ensures none { IfNone result ((labels : List (List ℕ)) → ¬ SpellsNameText text.now labels) }
 {
     let text = Str::from_utf8_slice(text).ok()?;
     match Name::from_text(text.as_str()) {

@@ -2,7 +2,7 @@
 ghost use Rattle.std.specs.Prelude.{◌≡◌, ◌≢◌, ◌↔◌, ◌⊎◌, ◌+◌, ◌<◌, ◌≤◌, ℕ, length, IfSome, IfNone, IsTrue};
 ghost use Rattle.std.specs.List.{AllByRecursion};
 ghost use Rattle.octseq_dns.specs.Contents as contents;
-ghost use Rattle.octseq_dns.specs.Contents.{octets_of};
+ghost use Rattle.octseq_dns.specs.Contents.{message_octets};
 ghost use Rattle.octseq_dns.specs.Parsed.{header_of, questions_of};
 ghost use Rattle.octseq_c.specs.Made.{CanMoveRow, IsRow, offsets_kept};
 ghost use Rattle.octseq_c.specs.Puts.{Copies, Puts};
@@ -10,7 +10,7 @@ ghost use Rattle.octseq_c.specs.Rows.{IsSomeMessage};
 ghost use Rattle.octseq_c.specs.Status.{status_ok, status_no_room, status_malformed, status_immovable};
 ghost use Rattle.octseq_c.specs.Status.{status_too_long, status_bad_row};
 ghost use Rattle.octseq_c.specs.Within.{FitsUpTo, IsAnswerUpTo, IsAnswerWithin, IsPastUpTo, IsTooLongWithin};
-ghost use Rattle.octseq_c.specs.Within.{KeepsUpTo, flags_for};
+ghost use Rattle.octseq_c.specs.Within.{KeepsUpTo, answer_flags};
 
 use crate::answer::{answer_to, are_rows, can_move_rows};
 use crate::message::message_of;
@@ -75,8 +75,8 @@ fn answer_kept(
     requires fits { FitsUpTo (header_of message.now) flags (questions_of message.now) source.now rows.now limit kept }
     ensures { (m : contents.Message)
         × IsAnswerUpTo (header_of message.now) flags (questions_of message.now) source.now rows.now kept m
-        × (length (octets_of offsets_kept m) ≤ limit)
-        × Copies (octets_of offsets_kept m) result out.old out.new written.new }
+        × (length (message_octets offsets_kept m) ≤ limit)
+        × Copies (message_octets offsets_kept m) result out.old out.new written.new }
 {
     let flags = flags_for(kept, rows.len(), flags);
     match answer_to(message, flags, source, &rows[..kept], out, written) {
@@ -167,7 +167,7 @@ fn fits(
 
 /// Returns the flags of an answer with `count` of `all` records.
 fn flags_for(count: usize, all: usize, flags: u16) -> u16
-    ensures { result ≡ flags_for count all flags }
+    ensures { result ≡ answer_flags count all flags }
 {
     let whole = flags / 1024 * 1024 + flags % 512;
     if count == all { whole } else { whole + 512 }

@@ -5,7 +5,7 @@ ghost use Rattle.std.specs.Prelude.{OnErr, Some};
 ghost use Rattle.octseq.specs.Integer.{octets_be};
 ghost use Rattle.octseq.specs.Limit.{ExceedsLimit, IsWithin};
 ghost use Rattle.octseq.specs.Refusal.{IsShort, IsMalformed};
-ghost use Rattle.octseq_dns.specs.Contents.{octets_of};
+ghost use Rattle.octseq_dns.specs.Contents.{message_octets};
 ghost use Rattle.octseq_dns.specs.Contents as contents;
 ghost use Rattle.octseq_dns.specs.Moved.{CanMove};
 ghost use Rattle.octseq_dns.specs.Owned.{owned_labels};
@@ -18,7 +18,7 @@ ghost use Rattle.octseq_c.specs.Puts.{Copies, Puts};
 ghost use Rattle.octseq_c.specs.Rows.{IsSomeMessage};
 ghost use Rattle.octseq_c.specs.Status.{status_ok, status_no_room, status_malformed, status_immovable};
 ghost use Rattle.octseq_c.specs.Status.{status_too_long};
-ghost use Rattle.octseq_c.specs.Texts.{Spells};
+ghost use Rattle.octseq_c.specs.Texts.{SpellsNameText};
 
 use crate::message::message_of;
 use crate::names::spelled;
@@ -69,11 +69,11 @@ fn rewrite_to(
     written: &mut usize,
 ) -> Result<u32, RewriteError>
     ensures made { IfOk result (λ status. (m : contents.Message) × IsContentsOf message.now m
-        × (length (octets_of offsets_kept m) ≤ 65535)
-        × Copies (octets_of offsets_kept m) status out.old out.new written.new) }
+        × (length (message_octets offsets_kept m) ≤ 65535)
+        × Copies (message_octets offsets_kept m) status out.old out.new written.new) }
     ensures immovable { IsMalformed rewrite_error result ↔ ¬ CanMove (records_of message.now) }
     ensures short { IsShort rewrite_error result → (m : contents.Message) → IsContentsOf message.now m
-        → 65535 < length (octets_of offsets_kept m) }
+        → 65535 < length (message_octets offsets_kept m) }
     ensures only { IsOk result ⊎ IsMalformed rewrite_error result ⊎ IsShort rewrite_error result }
     ensures kept { OnErr result (out.new ≡ out.old) }
 {
@@ -94,11 +94,11 @@ fn rewrite_within<const N: usize>(
 ) -> Result<u32, RewriteError>
     requires { N ≤ 65535 }
     ensures made { IfOk result (λ status. (m : contents.Message) × IsContentsOf message.now m
-        × IsWithin (message_limit (Some N)) (length (octets_of offsets_kept m))
-        × Copies (octets_of offsets_kept m) status out.old out.new written.new) }
+        × IsWithin (message_limit (Some N)) (length (message_octets offsets_kept m))
+        × Copies (message_octets offsets_kept m) status out.old out.new written.new) }
     ensures immovable { IsMalformed rewrite_error result ↔ ¬ CanMove (records_of message.now) }
     ensures short { IsShort rewrite_error result → (m : contents.Message) → IsContentsOf message.now m
-        → ExceedsLimit (message_limit (Some N)) (length (octets_of offsets_kept m)) }
+        → ExceedsLimit (message_limit (Some N)) (length (message_octets offsets_kept m)) }
     ensures only { IsOk result ⊎ IsMalformed rewrite_error result ⊎ IsShort rewrite_error result }
     ensures kept { OnErr result (out.new ≡ out.old) }
 {
@@ -125,7 +125,7 @@ pub extern "C" fn octseq_dns_query(
     written: &mut usize,
 ) -> u32
     ensures puts { Puts (IsQuery id flags name.now qtype qclass) result out.old out.new written.new }
-    ensures malformed { (result ≡ status_malformed) ↔ ((labels : List (List ℕ)) → ¬ Spells name.now labels) }
+    ensures malformed { (result ≡ status_malformed) ↔ ((labels : List (List ℕ)) → ¬ SpellsNameText name.now labels) }
     ensures only { (result ≡ status_ok) ⊎ (result ≡ status_no_room) ⊎ (result ≡ status_malformed) }
     ensures kept { result ≢ status_ok → out.new ≡ out.old }
 {

@@ -6,7 +6,7 @@ use Rattle.std.specs.Prelude.{◌&&◌}
 use Rattle.octseq_cli.proofs.Steps.{Done, Follows, IsTaken, Makes, last_step}
 use Rattle.octseq_cli.proofs.Taken.{IsOne, MakesPieces}
 use Rattle.octseq_cli.specs.Frames.{HavePieces, ends_as}
-use Rattle.octseq_cli.specs.Texts.{AreFeeds, AreTexts, EndsText, EndsWithLineFeed, IsNextText, IsText, IsTextsOut}
+use Rattle.octseq_cli.specs.Texts.{AreFeeds, AreTexts, EndsText, EndsWithLineFeed, IsNextText, IsLineText, IsTextsOut}
 use Rattle.octseq_cli.specs.Texts.{NoneDouble, last_of}
 use Rattle.octseq_cli.specs.declared.status.Status.{Status}
 
@@ -22,13 +22,13 @@ last_more before [] octet = refl
 last_more before (first ∷ text) octet = last_more first text octet
 
 -- a text goes on with an octet
-pub text_more : (text : List ℕ) (octet : ℕ) → IsText text → (EndsWithLineFeed text → ¬ (octet ≡ 10))
-    → IsText (text ++ octet ∷ [])
+pub text_more : (text : List ℕ) (octet : ℕ) → IsLineText text → (EndsWithLineFeed text → ¬ (octet ≡ 10))
+    → IsLineText (text ++ octet ∷ [])
 text_more [] octet is next = absurd (omega (arith, is.0))
 text_more (first ∷ text) octet is next = (omega arith, none_double_more 10 (first ∷ text) octet is.1 next)
 
 -- a text begins with an octet
-pub text_of_one : (octet : ℕ) → ¬ (octet ≡ 10) → IsText (octet ∷ []) × ¬ EndsWithLineFeed (octet ∷ [])
+pub text_of_one : (octet : ℕ) → ¬ (octet ≡ 10) → IsLineText (octet ∷ []) × ¬ EndsWithLineFeed (octet ∷ [])
 text_of_one octet other = ((omega arith, (λ _. other, tt)), other)
 
 -- ---- empty lines
@@ -38,7 +38,7 @@ feeds_more [] octet are is = (is, tt)
 feeds_more (first ∷ feeds) octet are is = (are.0, feeds_more feeds octet are.1 is)
 
 -- line feeds have no text among them
-no_text : (feeds text rest : List ℕ) → IsText text → ¬ AreFeeds (feeds ++ (text ++ rest))
+no_text : (feeds text rest : List ℕ) → IsLineText text → ¬ AreFeeds (feeds ++ (text ++ rest))
 no_text [] [] rest is are = omega (arith, is.0)
 no_text [] (octet ∷ text) rest is are = is.1.0 refl are.0
 no_text (first ∷ feeds) text rest is are = no_text feeds text rest is are.1
@@ -67,11 +67,12 @@ same_text before (o ∷ x) (u ∷ y) p q n m f g e =
     (cc (head, same.0), same.1)
 
 -- a text doesn't begin with a line feed
-no_feed : (text rest more : List ℕ) (octet : ℕ) → IsText text → octet ≡ 10 → text ++ rest ≡ octet ∷ more → ⊥
+no_feed : (text rest more : List ℕ) (octet : ℕ) → IsLineText text → octet ≡ 10 → text ++ rest ≡ octet ∷ more → ⊥
 no_feed [] rest more octet is feed e = omega (arith, is.0)
 no_feed (first ∷ text) rest more octet is feed e = let head : first ≡ octet = cc in is.1.0 refl (head ∙ feed)
 
-same_feeds : (f g x y p q : List ℕ) → AreFeeds f → AreFeeds g → IsText x → IsText y → f ++ (x ++ p) ≡ g ++ (y ++ q)
+same_feeds : (f g x y p q : List ℕ) → AreFeeds f → AreFeeds g → IsLineText x → IsLineText y
+    → f ++ (x ++ p) ≡ g ++ (y ++ q)
     → (f ≡ g) × (x ++ p ≡ y ++ q)
 same_feeds [] [] x y p q a b n m e = (refl, e)
 same_feeds [] (u ∷ g) x y p q a b n m e = absurd (no_feed x p (g ++ (y ++ q)) u n b.0 e)
@@ -82,7 +83,7 @@ same_feeds (o ∷ f) (u ∷ g) x y p q a b n m e =
     let same = same_feeds f g x y p q a.1 b.1 n m tail in
     (cc (head, same.0), same.1)
 
-one_front : (f g x y p q : List ℕ) → AreFeeds f → AreFeeds g → IsText x → IsText y → EndsText x p → EndsText y q
+one_front : (f g x y p q : List ℕ) → AreFeeds f → AreFeeds g → IsLineText x → IsLineText y → EndsText x p → EndsText y q
     → f ++ (x ++ p) ≡ g ++ (y ++ q) → (f ≡ g) × (x ≡ y) × (p ≡ q)
 one_front f g x y p q a b n m ends also e =
     let same = same_feeds f g x y p q a b n m e in
@@ -178,7 +179,7 @@ module _ {IsPiece : MakesPieces} (one : IsOne IsPiece) (number : ℕ) (before : 
       } in
       last_step is (λ x e s it. none_due feeds are it.texts it.are it.all x e s it.pieces it.status_is)
 
-  module _ (is_fine : Bool) (feeds text written note : List ℕ) (are : AreFeeds feeds) (is : IsText text)
+  module _ (is_fine : Bool) (feeds text written note : List ℕ) (are : AreFeeds feeds) (is : IsLineText text)
       (piece : IsPiece number text is_fine written note) where
     text_due : EndsWithLineFeed text → (more : List ℕ) (texts : List (List ℕ))
         → AreTexts texts (feeds ++ (text ++ 10 ∷ more))

@@ -22,22 +22,22 @@ IsReasoned action path None line = (source : List ℕ) × IsSource path source
     × (line ≡ codes "cannot " ++ action ++ codes " " ++ source ++ codes "\n")
 
 -- the line of a failure, by the path of the input; none of a pipe that its reader closed
-abbrev pub IsLine : Failure → Option (List ℕ) → List ℕ → Type 0
-IsLine Memory path line = line ≡ codes "out of memory\n"
-IsLine (Open error) path line = IsReasoned (codes "open") path (Some error) line
-IsLine (Read reason) path line = IsReasoned (codes "read") path reason line
-IsLine Write path line = line ≡ codes "cannot write the output\n"
-IsLine Closed path line = line ≡ []
-IsLine Note path line = line ≡ codes "cannot write to standard error\n"
+abbrev pub IsFailureLine : Failure → Option (List ℕ) → List ℕ → Type 0
+IsFailureLine Memory path line = line ≡ codes "out of memory\n"
+IsFailureLine (Open error) path line = IsReasoned (codes "open") path (Some error) line
+IsFailureLine (Read reason) path line = IsReasoned (codes "read") path reason line
+IsFailureLine Write path line = line ≡ codes "cannot write the output\n"
+IsFailureLine Closed path line = line ≡ []
+IsFailureLine Note path line = line ≡ codes "cannot write to standard error\n"
 
 -- the fault of a failure
-abbrev pub fault_of : Failure → ProgramFault
-fault_of Memory = faults.Memory
-fault_of (Open error) = faults.Read
-fault_of (Read reason) = faults.Read
-fault_of Write = faults.Write
-fault_of Closed = faults.Write
-fault_of Note = faults.Note
+abbrev pub program_fault : Failure → ProgramFault
+program_fault Memory = faults.Memory
+program_fault (Open error) = faults.Read
+program_fault (Read reason) = faults.Read
+program_fault Write = faults.Write
+program_fault Closed = faults.Write
+program_fault Note = faults.Note
 
 -- the failure of a fault, with the error of the last read that failed, and whether the output's reader closed its pipe
 abbrev pub failure_of : ProgramFault → Option Error → Bool → Failure
@@ -55,5 +55,5 @@ HasReason _ = ⊥
 
 -- the line of a failure was written, or a front of it
 abbrev pub IsErrorWritten : Failure → Option (List ℕ) → Bool → Option (List ℕ) → Option (List ℕ) → Type 0
-IsErrorWritten failure path is_whole before after = (line : List ℕ) × (part : List ℕ) × IsLine failure path line
+IsErrorWritten failure path is_whole before after = (line : List ℕ) × (part : List ℕ) × IsFailureLine failure path line
     × IsPartWritten is_whole part line × Appends before after part

@@ -37,7 +37,7 @@ IsRequest name_of word Unknown = ¬ IsCommand name_of word × ¬ StandsAlone wor
 
 -- What a program says of itself: its help text, and the end of the line about an unknown word, which says how it is
 -- used.
-pub record Said : Type 0 where
+pub record ProgramHelp : Type 0 where
   pub help : List ℕ
   pub usage : List ℕ
 
@@ -47,7 +47,7 @@ unknown_line usage word = codes "no command '" ++ (word ++ (codes "'; " ++ usage
 
 -- what is written, on standard output and on standard error, and how the program ends: `out` of a command and its
 -- input, or the help text, or the version, or the line about an unknown word
-abbrev pub Writes : {C : Type 0} → (C → List ℕ → List ℕ → List ℕ → Status → Type 0) → Said → List ℕ → Request C
+abbrev pub Writes : {C : Type 0} → (C → List ℕ → List ℕ → List ℕ → Status → Type 0) → ProgramHelp → List ℕ → Request C
     → List ℕ → List ℕ → List ℕ → Status → Type 0
 Writes out said word (Command command) input output errors status = out command input output errors status
 Writes out said word Help input output errors status = (output ≡ said.help) × (errors ≡ []) × (status ≡ Fine)
@@ -103,7 +103,7 @@ pub record Unnoted (out : List ℕ → List ℕ → List ℕ → Status → Type
   pub noted : Appends noted_before noted_after part
 
 -- A complete run for a word.
-pub record Ran {C : Type 0} (name_of : C → List ℕ) (said : Said)
+pub record Ran {C : Type 0} (name_of : C → List ℕ) (said : ProgramHelp)
     (out : C → List ℕ → List ℕ → List ℕ → Status → Type 0) (word : List ℕ)
     (given before after noted_before noted_after : Option (List ℕ)) (status : Status) : Type 0 where
   pub request : Request C
@@ -111,7 +111,7 @@ pub record Ran {C : Type 0} (name_of : C → List ℕ) (said : Said)
   pub answers : Answers (Writes out said word request) given before after noted_before noted_after status
 
 -- A run for a word, which failed.
-pub record Broke {C : Type 0} (name_of : C → List ℕ) (said : Said)
+pub record Broke {C : Type 0} (name_of : C → List ℕ) (said : ProgramHelp)
     (out : C → List ℕ → List ℕ → List ℕ → Status → Type 0) (word : List ℕ)
     (given left before after noted_before noted_after : Option (List ℕ)) : Type 0 where
   pub request : Request C

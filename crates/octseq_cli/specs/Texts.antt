@@ -19,12 +19,12 @@ last_of before [] = before
 last_of before (octet ∷ rest) = last_of octet rest
 
 -- lines, none of which is empty: as a line begins with them, no line feed comes first
-abbrev pub AreLines : List ℕ → Type 0
-AreLines = NoneDouble 10
+abbrev pub AreFilledLines : List ℕ → Type 0
+AreFilledLines = NoneDouble 10
 
 -- a text: one or more such lines
-abbrev pub IsText : List ℕ → Type 0
-IsText text = (1 ≤ length text) × AreLines text
+abbrev pub IsLineText : List ℕ → Type 0
+IsLineText text = (1 ≤ length text) × AreFilledLines text
 
 -- a line feed ends the last line of a text
 abbrev pub EndsWithLineFeed : List ℕ → Type 0
@@ -38,15 +38,16 @@ EndsText text (octet ∷ rest) = EndsWithLineFeed text × (octet ≡ 10)
 -- an input consists of texts, with any number of empty lines before and after them, and one at least between them
 abbrev pub AreTexts : List (List ℕ) → List ℕ → Type 0
 AreTexts [] input = AreFeeds input
-AreTexts (text ∷ texts) input = (feeds : List ℕ) × (rest : List ℕ) × AreFeeds feeds × IsText text × EndsText text rest
+AreTexts (text ∷ texts) input = (feeds : List ℕ) × (rest : List ℕ) × AreFeeds feeds × IsLineText text
+    × EndsText text rest
     × (input ≡ feeds ++ (text ++ rest)) × AreTexts texts rest
 
 -- What is read of an input up to the end of its next text: the empty lines before it, the text, and the empty line that
 -- ends it; or, where the input is over, the text that it ends with, or none.
 abbrev pub IsNextText : Bool → List ℕ → List ℕ → Type 0
-IsNextText false text read = (feeds : List ℕ) × AreFeeds feeds × IsText text × EndsWithLineFeed text
+IsNextText false text read = (feeds : List ℕ) × AreFeeds feeds × IsLineText text × EndsWithLineFeed text
     × (read ≡ feeds ++ (text ++ 10 ∷ []))
-IsNextText true text read = (feeds : List ℕ) × AreFeeds feeds × AreLines text × (read ≡ feeds ++ text)
+IsNextText true text read = (feeds : List ℕ) × AreFeeds feeds × AreFilledLines text × (read ≡ feeds ++ text)
 
 -- An input consists of texts. This is made of them, counted from 1.
 pub record IsTextsOut (IsPiece : ℕ → List ℕ → Bool → List ℕ → List ℕ → Type 0) (input output errors : List ℕ)

@@ -3,7 +3,7 @@ ghost use Rattle.std.specs.Prelude.{◌≡◌, ◌++◌, ℕ, List, [], codes, B
 ghost use Rattle.std.specs.Prelude.{Option, Err, IfOk, IfErr, OnOk, OnErr};
 ghost use Rattle.std.specs.Io.KnownBytes.{Appends, IsAtEnd};
 ghost use Rattle.octseq.specs.Parts.{StartsWith};
-ghost use Rattle.octseq_cli.specs.Run.{IsRequest, IsCommand, IsNamed, Said, Writes, unknown_line};
+ghost use Rattle.octseq_cli.specs.Run.{IsRequest, IsCommand, IsNamed, ProgramHelp, Writes, unknown_line};
 ghost use Rattle.octseq_cli.specs.Run.{Answers, BreaksOff, Ran, Broke, Unnoted};
 ghost use Rattle.octseq_cli.specs.declared.status.Status.{Status};
 
@@ -14,7 +14,7 @@ use std::alloc::Global;
 use std::io::{Read, Write};
 
 /// The version of the programs, the kit that proves them, and their licence.
-const VERSION: &str = "octseq 0.1.0, proved with rattle-kit-13b, BSD 3-Clause License\n";
+const VERSION: &str = "octseq 0.1.0, proved with rattle-kit-13f, BSD 3-Clause License\n";
 
 /// The commands of a program. `name_of` is the name of a command, `default_word` the word of a program without
 /// arguments, `said` what it says of itself, and `out` what is written for a command and an input, on standard output
@@ -24,7 +24,7 @@ pub trait Commands: Copy {
 
     ghost default_word: { List ℕ };
 
-    ghost said: { Said };
+    ghost said: { ProgramHelp };
 
     ghost out: { Self → List ℕ → List ℕ → List ℕ → Status → Type 0 };
 

@@ -1,7 +1,7 @@
 //! What standard error says of a failure.
 ghost use Rattle.std.specs.Prelude.{◌≡◌, ◌⊎◌, Bool, IfOk, OnErr, string_bytes};
 ghost use Rattle.std.specs.Option.{option_map};
-ghost use Rattle.octseq_cli.specs.Report.{HasReason, IsReasoned, IsSource, IsErrorWritten, fault_of};
+ghost use Rattle.octseq_cli.specs.Report.{HasReason, IsReasoned, IsSource, IsErrorWritten, program_fault};
 
 use crate::status::ProgramFault;
 use crate::streams::write_whole;
@@ -28,7 +28,7 @@ pub enum Failure {
 impl Failure {
     /// Returns the fault of this failure.
     pub fn fault(self) -> ProgramFault
-        ensures { result ≡ fault_of self }
+        ensures { result ≡ program_fault self }
     {
         match self {
             Failure::Memory => ProgramFault::Memory,
@@ -119,7 +119,7 @@ pub fn report<E: Write>(
 ) -> ProgramFault
     ensures { (told : Failure) × (is_whole : Bool) × ((told ≡ failure) ⊎ ((told ≡ Failure.Memory) × HasReason failure))
         × IsErrorWritten told (option_map (λ path. path.now) path.entry) is_whole (E.contents errors.old)
-        (E.contents errors.new) × (result ≡ fault_of told) }
+        (E.contents errors.new) × (result ≡ program_fault told) }
 {
     match write_error(alloc, errors, failure, path) {
         Ok(_) => failure.fault(),

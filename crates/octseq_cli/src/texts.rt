@@ -5,7 +5,8 @@ ghost use Rattle.std.specs.Prelude.{◌≡◌, ◌≢◌, ◌∷◌, ◌++◌, �
 ghost use Rattle.std.specs.Prelude.{Ok, Err};
 ghost use Rattle.std.specs.Io.KnownBytes.{Consumes, IsAtEnd};
 ghost use Rattle.octseq_cli.specs.Run.{Answers, BreaksOff, Unnoted};
-ghost use Rattle.octseq_cli.specs.Texts.{AreFeeds, AreLines, EndsWithLineFeed, IsNextText, IsText, IsTextsOut};
+ghost use Rattle.octseq_cli.specs.Texts.{AreFeeds, AreFilledLines, EndsWithLineFeed, IsNextText, IsLineText};
+ghost use Rattle.octseq_cli.specs.Texts.{IsTextsOut};
 ghost use Rattle.octseq_cli.specs.Texts.{last_of};
 
 use crate::frames::{FrameCommand, both, ended, write_piece};
@@ -104,9 +105,9 @@ fn read_first<R: Read>(reader: &mut R) -> Result<Option<u8>, ProgramFault>
 /// Reads up to the end of a text, of which the first octet was read, and appends its octets, but not the empty line
 /// that ends it. Returns whether the input is over.
 fn append_lines<R: Read>(reader: &mut R, text: &mut Vec<u8>) -> Result<bool, ProgramFault>
-    requires text { IsText text.old.items }
+    requires text { IsLineText text.old.items }
     requires line { ¬ EndsWithLineFeed text.old.items }
-    ensures text { OnOk result (IsText text.new.items) }
+    ensures text { OnOk result (IsLineText text.new.items) }
     ensures ended { result ≡ Ok Bool.false → EndsWithLineFeed text.new.items × (read : List ℕ)
         × (text.new.items ≡ text.old.items ++ read)
         × Consumes (R.remaining reader.old) (R.remaining reader.new) (read ++ 10 ∷ []) }

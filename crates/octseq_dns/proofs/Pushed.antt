@@ -20,7 +20,7 @@ use Rattle.octseq_dns_message.specs.declared.header.Header.{Header}
 use Rattle.octseq_dns_message.specs.declared.header.HeaderCounts.{HeaderCounts}
 use Rattle.octseq_dns.proofs.HeaderRead.{header_length}
 use Rattle.octseq_dns.specs.Blank.{blank_header, blank_message}
-use Rattle.octseq_dns.specs.Contents.{Message, FitsHeader, composed, octets_of, counts_of, entries_of}
+use Rattle.octseq_dns.specs.Contents.{Message, FitsHeader, composed, message_octets, counts_of, entries_of}
 use Rattle.octseq_dns.specs.Contents.{with_only_header, header_octets}
 use Rattle.octseq_dns.specs.Writes.{IsBuilt, SectionTakes, ComposesMessage}
 
@@ -34,10 +34,10 @@ headed_anew h k counts others =
     λ i. record { octets = octets i; names = empty }
 
 -- the octets of a message begin with its header
-pub twelve_first : (most : ℕ) (m : Message) → 12 ≤ length (octets_of most m)
+pub twelve_first : (most : ℕ) (m : Message) → 12 ≤ length (message_octets most m)
 twelve_first most m =
     let first = with_only_header m.header (counts_of m) in
-    let longer = grown_length first.octets (octets_of most m) (entries_grow most first (entries_of m)) in
+    let longer = grown_length first.octets (message_octets most m) (entries_grow most first (entries_of m)) in
     let long = header_length m.header (counts_of m) in
     omega (arith, longer, long)
 

@@ -12,14 +12,14 @@ use Rattle.octseq_dns_compress.proofs.LabelsThere.{all_of, all_grown, none_named
 use Rattle.octseq_dns_compress.proofs.Steps.{Grows, grown_length}
 use Rattle.octseq_format.specs.Laws.{Relation}
 use Rattle.octseq_dns.specs.Contents.{Message, MessageFits, counts_of, header_octets, with_only_header}
-use Rattle.octseq_dns.specs.Contents.{question_entry, record_entry, entries_of, composed, octets_of}
+use Rattle.octseq_dns.specs.Contents.{question_entry, record_entry, entries_of, composed, message_octets}
 use Rattle.octseq_dns.specs.ReadBack.{ReadsBack, bare}
 use Rattle.octseq_dns.proofs.EntriesRead.{IsRead, AreRead, question_is_read, record_is_read, rows_named}
 use Rattle.octseq_dns.proofs.EntriesRead.{rows_are_read}
 use Rattle.octseq_dns.proofs.HeaderRead.{header_length, header_is_read}
 
 -- a message takes no more octets than without compression
-pub never_longer : (most : ℕ) (m : Message) → length (octets_of most m) ≤ length (octets_of 0 m)
+pub never_longer : (most : ℕ) (m : Message) → length (message_octets most m) ≤ length (message_octets 0 m)
 never_longer most m = entries_never_longer most (with_only_header m.header (counts_of m)) (entries_of m)
 
 -- a list that has the image of each element of another is its image
@@ -71,20 +71,20 @@ composed_is most m =
 
 -- all the octets, as a message with its header
 all_is : (most : ℕ) (m : Message)
-    → all_of (header_octets m.header (counts_of m)) (with_additionals most m).octets [] ≡ octets_of most m
+    → all_of (header_octets m.header (counts_of m)) (with_additionals most m).octets [] ≡ message_octets most m
 all_is most m =
     let header = header_octets m.header (counts_of m) in
     let grows = entries_grow most (with_only_header m.header (counts_of m)) (entries_of m) in
     let twelve = header_length m.header (counts_of m) in
     ap (λ (s : State). all_of header s.octets []) (sym (composed_is most m))
-    ∙ ap (λ rest. header ++ rest) (append-nil (drop 12 (octets_of most m)) ∙ ap (drop 12) grows.1
+    ∙ ap (λ rest. header ++ rest) (append-nil (drop 12 (message_octets most m)) ∙ ap (drop 12) grows.1
     ∙ drop_at header grows.0 12 twelve)
     ∙ sym grows.1
 
 -- ---- it is read
 
 read_all : (most : ℕ) (m : Message) → MessageFits m → length (with_additionals most m).octets ≤ 65535
-    → length (octets_of most m) ≤ 65535
+    → length (message_octets most m) ≤ 65535
     → ReadsBack (all_of (header_octets m.header (counts_of m)) (with_additionals most m).octets []) m
 read_all most m fits few all_few =
     let counts = counts_of m in
@@ -149,8 +149,8 @@ read_all most m fits few all_few =
     }
 
 -- A message that was written is read back.
-pub is_read_back : (most : ℕ) (m : Message) → MessageFits m → length (octets_of most m) ≤ 65535
-    → ReadsBack (octets_of most m) m
+pub is_read_back : (most : ℕ) (m : Message) → MessageFits m → length (message_octets most m) ≤ 65535
+    → ReadsBack (message_octets most m) m
 is_read_back most m fits few =
     let ends = ap (λ (s : State). length s.octets) (composed_is most m) in
     subst (λ octets. ReadsBack octets m) (all_is most m) (read_all most m fits (omega (arith, ends, few)) few)

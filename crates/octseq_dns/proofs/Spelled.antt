@@ -19,7 +19,7 @@ use Rattle.octseq_dns_data.specs.Data.{HasString, HasStrings}
 use Rattle.octseq_dns_data.specs.Strings.{spelling}
 use Rattle.octseq_format.specs.Laws.{IsDelimited}
 use Rattle.octseq_format.specs.Row.{Row, row_next}
-use Rattle.octseq_dns.specs.TxtWritten.{AreStrings, cut_after, strings_of_text}
+use Rattle.octseq_dns.specs.TxtWritten.{AreTxtStrings, cut_after, strings_of_text}
 use Rattle.octseq.proofs.Limits.{past_more}
 
 -- a string that exceeds a limit exceeds it with those after it
@@ -58,7 +58,7 @@ left_first strings i default less =
 
 -- each string has at most 255 octets
 pub one_short : (strings : List (Bor (List ℕ))) (i : ℕ) (default : Bor (List ℕ)) → i < length strings
-    → AreStrings (contents strings) → length (get_or strings i default).now ≤ 255
+    → AreTxtStrings (contents strings) → length (get_or strings i default).now ≤ 255
 one_short strings i default less are =
     subst (λ (s : List ℕ). length s ≤ 255) (get_or-map (λ (s : Bor (List ℕ)). s.now) strings i default)
     (are.1 i default.now (subst (λ n. i < n) (sym (length-map strings (λ (s : Bor (List ℕ)). s.now))) less))
@@ -121,7 +121,7 @@ cut_some : (more : ℕ) (text : List ℕ) → 1 ≤ length (cut_after more text)
 cut_some zero text = omega arith
 cut_some (suc more) text = omega arith
 
-pub text_strings : (text : List ℕ) → AreStrings (strings_of_text text)
+pub text_strings : (text : List ℕ) → AreTxtStrings (strings_of_text text)
 text_strings text = (
   cut_some ((length text - 1) / 255) text,
   cut_short ((length text - 1) / 255) text (omega arith),
@@ -162,7 +162,7 @@ each_fits (string ∷ strings) fits = (
 )
 
 -- strings that were written are read
-pub strings_are_read : (strings : List (List ℕ)) → AreStrings strings
+pub strings_are_read : (strings : List (List ℕ)) → AreTxtStrings strings
     → (end : Window) × HasStrings (whole (spelling strings)) strings end × (end.position ≡ length (spelling strings))
 strings_are_read strings are =
     let octets = spelling strings in

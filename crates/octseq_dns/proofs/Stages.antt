@@ -8,7 +8,7 @@ use Rattle.octseq.proofs.Limits.{past_more}
 use Rattle.octseq_dns_message.specs.Entry as entry
 use Rattle.octseq_dns_message.specs.declared.header.Header.{Header}
 use Rattle.octseq_dns_message.specs.declared.header.HeaderCounts.{HeaderCounts}
-use Rattle.octseq_dns.specs.Contents.{Question, Record, Message, counts_of, octets_of, records_in}
+use Rattle.octseq_dns.specs.Contents.{Question, Record, Message, counts_of, message_octets, records_in}
 use Rattle.octseq_dns.specs.ReadBack.{bare}
 use Rattle.octseq_dns.specs.Rewritten.{IsMessageOf, IsQuestionOf, IsRecordOf}
 use Rattle.octseq_dns.specs.Writes.{Building, ComposesMessage}
@@ -27,8 +27,8 @@ asked m = of_sections m.header m.questions [] [] []
 -- ---- a message has its header
 
 pub past_twelve : (limit : Option ℕ) (most : ℕ) (m : Message) → ExceedsLimit limit 12
-    → ExceedsLimit limit (length (octets_of most m))
-past_twelve limit most m past = past_more limit 12 (length (octets_of most m)) (twelve_first most m) past
+    → ExceedsLimit limit (length (message_octets most m))
+past_twelve limit most m past = past_more limit 12 (length (message_octets most m)) (twelve_first most m) past
 
 -- ---- what is written for a message that was read
 

@@ -10,7 +10,7 @@ use Rattle.octseq_dns_message.specs.declared.header.Header.{Header}
 use Rattle.octseq_dns_message.specs.declared.header.HeaderCounts.{HeaderCounts}
 use Rattle.octseq_dns.specs.Contents.{FitsHeader, FitsQuestion, FitsRecord, Message, composed, counts_of}
 use Rattle.octseq_dns.specs.Contents.{with_only_header}
-use Rattle.octseq_dns.specs.Contents.{octets_of, question_entry, record_entry, records_in}
+use Rattle.octseq_dns.specs.Contents.{message_octets, question_entry, record_entry, records_in}
 use Rattle.octseq_dns.specs.Writes.{ComposesMessage}
 use Rattle.octseq_dns.proofs.Zips.{all_cut}
 
@@ -28,18 +28,18 @@ module _ (most : ℕ) {first : State} {header : Header} {counts : HeaderCounts} 
   -- it exceeds a limit if its questions do
   pub asked_past : (limit : Option ℕ)
       → ExceedsLimit limit (length (with_entries most first (map question_entry m.questions)).octets)
-      → ExceedsLimit limit (length (octets_of most m))
+      → ExceedsLimit limit (length (message_octets most m))
   asked_past limit past =
       let second = with_entries most first (map question_entry m.questions) in
       let longer = grown_length second.octets (with_entries most second (map record_entry (records_in m))).octets
       (entries_grow most second (map record_entry (records_in m))) in
       let same = ap (λ s. length s.octets) (whole_is refl) in
-      past_more limit (length second.octets) (length (octets_of most m)) (omega (arith, longer, same)) past
+      past_more limit (length second.octets) (length (message_octets most m)) (omega (arith, longer, same)) past
 
   pub whole_past : {second : State} (limit : Option ℕ)
       → second ≡ with_entries most first (map question_entry m.questions)
       → ExceedsLimit limit (length (with_entries most second (map record_entry (records_in m))).octets)
-      → ExceedsLimit limit (length (octets_of most m))
+      → ExceedsLimit limit (length (message_octets most m))
   whole_past limit asked past = subst (λ s. ExceedsLimit limit (length s.octets)) (whole_is asked) past
 
   pub whole_written : {second third : State} → second ≡ with_entries most first (map question_entry m.questions)

@@ -78,8 +78,8 @@ with_only_header h counts = record { octets = header_octets h counts; names = em
 abbrev pub composed : ℕ → Message → State
 composed most m = with_entries most (with_only_header m.header (counts_of m)) (entries_of m)
 
-abbrev pub octets_of : ℕ → Message → List ℕ
-octets_of most m = (composed most m).octets
+abbrev pub message_octets : ℕ → Message → List ℕ
+message_octets most m = (composed most m).octets
 
 -- ---- whether the values fit
 

@@ -9,7 +9,7 @@ reader_of it = read.reader_of it.frames
 
 -- the octets of the message that was read last
 abbrev pub frame_of : {R : Type 0} → FrameReader R → List ℕ
-frame_of it = read.octets_of it.frames
+frame_of it = read.held_octets it.frames
 
 -- whether the end or an error was reported, so that no frame follows
 abbrev pub is_over : {R : Type 0} → FrameReader R → Bool

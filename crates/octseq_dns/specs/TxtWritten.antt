@@ -3,8 +3,8 @@ use Rattle.std.specs.Prelude.{ℕ, ◌-◌, ◌/◌, ◌≤◌, zero, suc, List,
 use Rattle.std.specs.List.{All}
 
 -- TXT data is at least one string, and each has at most 255 octets
-abbrev pub AreStrings : List (List ℕ) → Type 0
-AreStrings strings = (1 ≤ length strings) × All (λ string. length string ≤ 255) strings
+abbrev pub AreTxtStrings : List (List ℕ) → Type 0
+AreTxtStrings strings = (1 ≤ length strings) × All (λ string. length string ≤ 255) strings
 
 -- this many strings of 255 octets, followed by one with the rest
 abbrev pub cut_after : ℕ → List ℕ → List (List ℕ)

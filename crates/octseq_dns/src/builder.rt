@@ -4,7 +4,7 @@
 //! builder type of its own, which turns into that of the next, so nothing can be pushed to an earlier section. Each
 //! push appends a whole entry or nothing, and the octets are a message at all times.
 ghost use Rattle.std.specs.Prelude.{◌≡◌, ◌≤◌, ℕ, length};
-ghost use Rattle.octseq_dns.specs.Contents.{MessageFits, Message, header_octets, octets_of};
+ghost use Rattle.octseq_dns.specs.Contents.{MessageFits, Message, header_octets, message_octets};
 ghost use Rattle.octseq_dns.specs.ReadBack.{ReadsBack};
 ghost use Rattle.octseq_dns.specs.Writes.{IsBuilt, ComposesMessage};
 ghost use Rattle.octseq_dns_compress.specs.State.{with_header};

@@ -5,7 +5,7 @@ ghost use Rattle.octseq_dns_data.specs.Data.{ParsedRdata};
 ghost use Rattle.octseq_dns_message.specs.RecordData.{IsDataOf};
 ghost use Rattle.octseq_dns_message.specs.Entry.{Question as Asked, Record as Entry};
 ghost use Rattle.octseq_dns_message.specs.declared.header.Header.{Header as Fields};
-ghost use Rattle.octseq_dns.specs.Contents.{Message, MessageFits, octets_of};
+ghost use Rattle.octseq_dns.specs.Contents.{Message, MessageFits, message_octets};
 ghost use Rattle.octseq_dns.specs.Rdata.{Rdata, FitsRdata, IsOfType, bare_rdata, rdata_fields};
 ghost use Rattle.octseq_dns.specs.ReadBack.{HasFields, ReadsBack};
 ghost use Rattle.octseq_dns.specs.Rewritten.{IsMessageOf};
@@ -13,13 +13,13 @@ ghost use Rattle.octseq_dns.specs.Rewritten.{IsMessageOf};
 /// A message that was written is read back: the octets are a message with that header, those questions and those
 /// records in their order, with their names octet for octet.
 pub fn a_written_message_is_read()
-    ensures { (most : ℕ) (m : Message) → MessageFits m → length (octets_of most m) ≤ 65535
-        → ReadsBack (octets_of most m) m }
+    ensures { (most : ℕ) (m : Message) → MessageFits m → length (message_octets most m) ≤ 65535
+        → ReadsBack (message_octets most m) m }
 {}
 
 /// A message takes no more octets than without compression.
 pub fn never_longer_than_uncompressed()
-    ensures { (most : ℕ) (m : Message) → length (octets_of most m) ≤ length (octets_of 0 m) }
+    ensures { (most : ℕ) (m : Message) → length (message_octets most m) ≤ length (message_octets 0 m) }
 {}
 
 /// Data that was written is read as that data, if its record has the type and the class of the data:

@@ -4,7 +4,7 @@ ghost use Rattle.octseq.specs.Limit.{ExceedsLimit};
 ghost use Rattle.octseq.specs.Refusal.{IsShort, IsMemory, IsMalformed};
 ghost use Rattle.octseq_dns_compress.specs.Composed.{message_limit};
 ghost use Rattle.octseq_dns_message.specs.Parsed.{records_of};
-ghost use Rattle.octseq_dns.specs.Contents.{Message as Contents, octets_of};
+ghost use Rattle.octseq_dns.specs.Contents.{Message as Contents, message_octets};
 ghost use Rattle.octseq_dns.specs.Labels.{labels_in};
 ghost use Rattle.octseq_dns.specs.Moved.{CanMove};
 ghost use Rattle.octseq_dns.specs.Rewritten.{IsContentsOf, IsRewritten, rewrite_error};
@@ -96,7 +96,7 @@ pub fn rewrite<B: OctetsBuilder + Truncate + AsOctetsMut, T: Compressor, R: AsOc
     ensures rewritten { IfOk result (λ b. IsRewritten T.most (message_limit B.limit) message.now b) }
     ensures immovable { IsMalformed rewrite_error result ↔ ¬ CanMove (records_of message.now) }
     ensures short { IsShort rewrite_error result → (m : Contents) → IsContentsOf message.now m
-        → ExceedsLimit (message_limit B.limit) (length (octets_of T.most m)) }
+        → ExceedsLimit (message_limit B.limit) (length (message_octets T.most m)) }
     ensures memory { IsMemory rewrite_error result → (B.asks ≡ true) ⊎ (T.asks ≡ true) }
     ensures borrows { IfOk result (λ b. B.borrows b.octets ≡ B.borrows octets) }
 {
@@ -123,7 +123,7 @@ pub fn rewrite_counted<
     ensures rewritten { IfOk result (λ b. IsRewritten T.most (message_limit B.limit) message.now b) }
     ensures immovable { IsMalformed rewrite_error result ↔ ¬ CanMove (records_of message.now) }
     ensures short { IsShort rewrite_error result → (m : Contents) → IsContentsOf message.now m
-        → ExceedsLimit (message_limit B.limit) (length (octets_of T.most m)) }
+        → ExceedsLimit (message_limit B.limit) (length (message_octets T.most m)) }
     ensures memory { IsMemory rewrite_error result → (B.asks ≡ true) ⊎ (T.asks ≡ true) }
     ensures borrows { IfOk result (λ b. B.borrows b.octets ≡ B.borrows octets) }
     ensures on { turns.old ≤ turns.new }

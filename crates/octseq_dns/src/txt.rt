@@ -7,7 +7,7 @@ ghost use Rattle.octseq.specs.Refusal.{IsMalformed, IsMemory, IsShort, append_er
 ghost use Rattle.octseq.specs.Window.{Window, whole};
 ghost use Rattle.octseq_dns_data.specs.Data.{HasStrings};
 ghost use Rattle.octseq_dns_data.specs.Strings.{spelling};
-ghost use Rattle.octseq_dns.specs.TxtWritten.{AreStrings, strings_of_text};
+ghost use Rattle.octseq_dns.specs.TxtWritten.{AreTxtStrings, strings_of_text};
 
 use octseq::compose::{ComposeError, append_part_u8};
 use octseq::error::WriteError;
@@ -42,7 +42,7 @@ pub fn append_strings<B: OctetsBuilder + Truncate>(
     ensures err { OnErr result (B.content octets.new ≡ B.content octets.old) }
     ensures fits { OnOk result (¬ ExceedsLimit B.limit
         (length (B.content octets.old) + length (spelling (map (λ string. string.now) strings.now)))) }
-    ensures malformed { IsMalformed write_error result ↔ ¬ AreStrings (map (λ string. string.now) strings.now) }
+    ensures malformed { IsMalformed write_error result ↔ ¬ AreTxtStrings (map (λ string. string.now) strings.now) }
     ensures short { IsShort write_error result → ExceedsLimit B.limit
         (length (B.content octets.old) + length (spelling (map (λ string. string.now) strings.now))) }
     ensures memory { IsMemory write_error result → B.asks ≡ true }
@@ -86,7 +86,7 @@ pub fn append_text<B: OctetsBuilder + Truncate>(
     ensures err { OnErr result (B.content octets.new ≡ B.content octets.old) }
     ensures fits { OnOk result (¬ ExceedsLimit B.limit
         (length (B.content octets.old) + length (spelling (strings_of_text text.now)))) }
-    ensures strings { AreStrings (strings_of_text text.now) }
+    ensures strings { AreTxtStrings (strings_of_text text.now) }
     ensures short { IsShort append_error result → ExceedsLimit B.limit
         (length (B.content octets.old) + length (spelling (strings_of_text text.now))) }
     ensures memory { IsMemory append_error result → B.asks ≡ true }
@@ -113,13 +113,13 @@ pub fn append_text<B: OctetsBuilder + Truncate>(
 ///
 /// It does nothing. Calling it brings the law into the caller's proof.
 pub fn strings_are_read_as_written()
-    ensures { (strings : List (List ℕ)) → AreStrings strings → (end : Window)
+    ensures { (strings : List (List ℕ)) → AreTxtStrings strings → (end : Window)
         × HasStrings (whole (spelling strings)) strings end × (end.position ≡ length (spelling strings)) }
 {}
 
 /// Whether strings are TXT data.
 fn are_strings(strings: &[&[u8]]) -> bool
-    ensures { IsTrue result ↔ AreStrings (map (λ string. string.now) strings.now) }
+    ensures { IsTrue result ↔ AreTxtStrings (map (λ string. string.now) strings.now) }
 {
     if strings.is_empty() {
         return false;
@@ -137,7 +137,7 @@ fn append_each<B: OctetsBuilder + Truncate>(
     octets: &mut B,
     strings: &[&[u8]],
 ) -> Result<(), AppendError>
-    requires { AreStrings (map (λ string. string.now) strings.now) }
+    requires { AreTxtStrings (map (λ string. string.now) strings.now) }
     ensures ok { OnOk result (B.content octets.new
         ≡ B.content octets.old ++ spelling (map (λ string. string.now) strings.now)) }
     ensures err { OnErr result (B.content octets.new ≡ B.content octets.old) }

@@ -14,7 +14,7 @@ use Rattle.octseq_dns_message.specs.Entry as read
 use Rattle.octseq_dns_message.specs.Entry.{IsRecord}
 use Rattle.octseq_dns_message.specs.MessageText as shown
 use Rattle.octseq_dns_message.specs.RecordData.{IsDataOf}
-use Rattle.octseq_format.specs.Canonical.{IsSound, sound_on}
+use Rattle.octseq_format.specs.Canonical.{IsSoundWindow, sound_on}
 use Rattle.octseq_format.specs.Row.{Row}
 use Rattle.octseq_dns_compose.specs.MessageShown.{IsSaidOf, header_said, said_of}
 use Rattle.octseq_dns_compose.proofs.PlainData.{says_alone}
@@ -172,7 +172,7 @@ messages_of text header questions answers authorities additionals m says = (ther
 
 -- ---- a message that was read
 
-record_again : (w : Window) (r : read.Record) (v : Window) (rdata : ParsedRdata) → IsSound w → IsRecord w r v
+record_again : (w : Window) (r : read.Record) (v : Window) (rdata : ParsedRdata) → IsSoundWindow w → IsRecord w r v
     → IsDataOf r rdata → IsRecordOfLine (said_of r rdata) (record_of_parsed r rdata)
 record_again w r v rdata sound is says =
     let (u, fit) = record_fit w r v sound is in
@@ -189,7 +189,8 @@ record_again w r v rdata sound is says =
       };
     }
 
-records_again : (w v : Window) (records : List read.Record) (said : List RecordLine) (written : List Record) → IsSound w
+records_again : (w v : Window) (records : List read.Record) (said : List RecordLine) (written : List Record)
+    → IsSoundWindow w
     → Row IsRecord w records v → AllZip IsSaidOf records said
     → AllZip rewritten.IsRecordOf records written → AllZip IsRecordOfLine said written
 records_again w v [] [] [] sound row are others = tt

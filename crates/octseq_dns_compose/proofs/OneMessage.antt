@@ -26,7 +26,7 @@ use Rattle.octseq_dns_compose.specs.MessageText.{
 }
 use Rattle.octseq_dns_compose.specs.MessageText.{IsWithAll, RecordLine, SayEntries, headed_message, section_of}
 use Rattle.octseq_dns_compose.specs.QuestionText.{IsQuestionText}
-use Rattle.octseq_dns_compose.specs.RecordText.{IsClassWord, IsNameWord, IsRecordText, IsRtypeWord, IsTtlWord}
+use Rattle.octseq_dns_compose.specs.RecordText.{IsClassWord, IsOwnerWord, IsRecordText, IsRecordTypeWord, IsTtlWord}
 use Rattle.octseq_dns_compose.specs.RecordText.{TtlAndClass}
 use Rattle.octseq_dns_compose.specs.Take.{IsUpTo, Then}
 use Rattle.octseq_dns_compose.specs.TextLines.{AreLines}
@@ -112,8 +112,8 @@ header_once h k (a ∷ b ∷ c ∷ d ∷ e ∷ f ∷ g ∷ words) (p, (x, (q, (y
 
 -- ---- questions and records
 
-owner_once : (labels others : List (List ℕ)) (word : List ℕ) → IsNameWord None labels word
-    → IsNameWord None others word → labels ≡ others
+owner_once : (labels others : List (List ℕ)) (word : List ℕ) → IsOwnerWord None labels word
+    → IsOwnerWord None others word → labels ≡ others
 owner_once labels others word (are, short, spells) (too, few, also) = name_once labels others word are too spells also
 
 question_once : (q p : Question) (words : Line) → IsQuestionText q.labels q.qclass q.qtype words
@@ -149,7 +149,7 @@ either_parts ttl class Rest a b more (inr (is, (time, rest))) = (inr (is, time),
 -- what follows the owner, and what follows the TTL and the class
 abbrev IsAfterOrder : RecordLine → Line → Type 0
 IsAfterOrder said =
-    Then (IsRtypeWord said.head.rtype) (λ more. IsDataText None said.head.rtype said.head.class more said.octets)
+    Then (IsRecordTypeWord said.head.rtype) (λ more. IsDataText None said.head.rtype said.head.class more said.octets)
 
 abbrev IsAfterOwner : RecordLine → Line → Type 0
 IsAfterOwner said = TtlAndClass said.head.ttl said.head.class (IsAfterOrder said)

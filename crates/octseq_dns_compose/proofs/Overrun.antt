@@ -6,7 +6,7 @@ use Rattle.octseq.specs.Integer.{octets_be}
 use Rattle.octseq.specs.Limit.{ExceedsLimit}
 use Rattle.octseq.proofs.Written.{length_be}
 use Rattle.octseq_dns.specs.Contents.{Message, Question, Record, composed, counts_of, entries_of, header_octets}
-use Rattle.octseq_dns.specs.Contents.{with_only_header, octets_of, question_entry, record_entry, records_in}
+use Rattle.octseq_dns.specs.Contents.{with_only_header, message_octets, question_entry, record_entry, records_in}
 use Rattle.octseq_dns.specs.Writes.{SectionTakes, ComposesMessage}
 use Rattle.octseq_dns.proofs.HeaderRead.{header_length}
 use Rattle.octseq_dns.proofs.Pushed.{composed_more, twelve_first}
@@ -58,7 +58,7 @@ each_long most entry long s (one ∷ all) =
     omega (arith, here, more)
 
 -- a message has more octets than entries
-entries_long : (most : ℕ) (m : Message) → length (entries_of m) ≤ length (octets_of most m)
+entries_long : (most : ℕ) (m : Message) → length (entries_of m) ≤ length (message_octets most m)
 entries_long most m =
     let first = with_only_header m.header (counts_of m) in
     let asked = with_entries most first (map question_entry m.questions) in
@@ -74,7 +74,7 @@ entries_long most m =
 -- so a section with too many entries makes it exceed any limit of a message
 pub past_limit : (most : ℕ) (limit : Option ℕ) (count : HeaderCounts → ℕ) (m : Message)
     → count (counts_of m) ≤ length (entries_of m) → Exceeds most (message_limit limit) count m
-    → ExceedsLimit (message_limit limit) (length (octets_of most m))
+    → ExceedsLimit (message_limit limit) (length (message_octets most m))
 past_limit most limit count m less (inl past) = past
 past_limit most limit count m less (inr many) =
     let size = entries_long most m in
@@ -104,7 +104,7 @@ counts_most m =
 -- ---- what a push refuses
 
 pub header_past : (most : ℕ) (limit : Option ℕ) (m : Message) → ExceedsLimit limit 12
-    → ExceedsLimit (message_limit limit) (length (octets_of most m))
+    → ExceedsLimit (message_limit limit) (length (message_octets most m))
 header_past most None m past = absurd past
 header_past most (Some limit) m past = let first = twelve_first most m in omega (arith, first, past)
 
@@ -113,8 +113,8 @@ module _ {A : Type 0} {entry : A → Entry} {FitsOne : A → Type 0} {Reaches : 
     (takes : SectionTakes A entry FitsOne Reaches count counted more) (most : ℕ) where
   -- a message has the octets of an entry more
   entry_past : (m : Message) (one : A) → Reaches (counts_of m)
-      → (length (octets_of most m) ≤ length (with_entry most (composed most m) (entry one)).octets)
-      × (length (octets_of most (more m one)) ≡ length (with_entry most (composed most m) (entry one)).octets)
+      → (length (message_octets most m) ≤ length (with_entry most (composed most m) (entry one)).octets)
+      × (length (message_octets most (more m one)) ≡ length (with_entry most (composed most m) (entry one)).octets)
   entry_past m one before =
       let wanted = with_entry most (composed most m) (entry one) in
       let long = header_length m.header (counts_of (more m one)) in
@@ -127,7 +127,7 @@ module _ {A : Type 0} {entry : A → Entry} {FitsOne : A → Type 0} {Reaches : 
       )
 
   pub push_grows : (m : Message) (one : A) → Reaches (counts_of m)
-      → length (octets_of most m) ≤ length (octets_of most (more m one))
+      → length (message_octets most m) ≤ length (message_octets most (more m one))
   push_grows m one before =
       let both = entry_past m one before in
       let grown = both.0 in

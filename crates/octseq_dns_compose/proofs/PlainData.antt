@@ -29,7 +29,7 @@ use Rattle.octseq_dns_text.specs.DataShown.{rdata_octets}
 use Rattle.octseq_dns_compose.proofs.PlainReadings.{plain_octets_are, plain_of}
 use Rattle.octseq_dns_compose.proofs.ShownRecords.{HasItsData}
 use Rattle.octseq_dns_compose.specs.Alone.{IsTypedAlone, SaysAlone}
-use Rattle.octseq_format.specs.Canonical.{IsSound, many_next}
+use Rattle.octseq_format.specs.Canonical.{IsSoundWindow, many_next}
 use Rattle.octseq_format.specs.Pair.{both_octets, both_say, past_both}
 use Rattle.octseq_format.specs.Row.{Row}
 
@@ -124,14 +124,14 @@ fields_plain rdata = append-nil _
 
 -- ---- data that was read fits
 
-strings_fit : (w v : Window) (strings : List (List ℕ)) → IsSound w → Row HasString w strings v
+strings_fit : (w v : Window) (strings : List (List ℕ)) → IsSoundWindow w → Row HasString w strings v
     → AllByRecursion (λ string. length string ≤ 255) strings
 strings_fit w v [] sound row = tt
 strings_fit w v (string ∷ strings) sound (u, is, row) =
     let at = string_at w u string sound is in
     (at.1, strings_fit u v strings at.2 row)
 
-typed_fits : (rtype class : ℕ) (w inside : Window) (rdata : ParsedRdata) → IsSound w → IsSound inside
+typed_fits : (rtype class : ℕ) (w inside : Window) (rdata : ParsedRdata) → IsSoundWindow w → IsSoundWindow inside
     → IsTypedData rtype class w inside rdata → FitsRdata (bare_rdata rdata)
 unfolding both_say
 typed_fits rtype class w inside (ParsedRdata.a octets) sound in_it is =
@@ -203,7 +203,8 @@ is_typed r parsed known (inl is) = is
 is_typed r parsed known (inr (same, none)) = absurd (subst (λ p. IsKnown (bare_rdata p)) same known)
 
 -- octets of data in plain form have its form wherever they are
-form_there : (r : read.Record) (w inside : Window) (rdata : ParsedRdata) → HasItsData r → IsSound w → IsSound inside
+form_there : (r : read.Record) (w inside : Window) (rdata : ParsedRdata) → HasItsData r → IsSoundWindow w
+    → IsSoundWindow inside
     → IsTypedData r.rtype r.class w inside rdata → rdata_octets rdata ≡ rest r.rdata → IsTypedAs r (bare_rdata rdata)
 form_there r w inside rdata its sound in_it is all =
     let said = bare_rdata rdata in
@@ -220,7 +221,7 @@ abbrev IsReadAlone : ℕ → ℕ → ParsedRdata → Type 0
 IsReadAlone rtype class rdata = (parsed : ParsedRdata) × (bare_rdata parsed ≡ bare_rdata rdata)
     × SaysAlone rtype class (rdata_octets rdata) parsed
 
-typed_alone : (rtype class : ℕ) (w inside : Window) (rdata : ParsedRdata) → IsSound w → IsSound inside
+typed_alone : (rtype class : ℕ) (w inside : Window) (rdata : ParsedRdata) → IsSoundWindow w → IsSoundWindow inside
     → IsTypedData rtype class w inside rdata → IsReadAlone rtype class rdata
 typed_alone rtype class w inside rdata sound in_it is =
     let octets = rdata_octets rdata in
@@ -235,18 +236,20 @@ typed_alone rtype class w inside rdata sound in_it is =
     (parsed, same, inl (form, plain))
 
 -- if the octets of a record's data have a form by themselves, the data has it in the message too
-none_alone : (r : read.Record) → HasItsData r → IsSound r.rdata → ((other : ParsedRdata) → ¬ IsDataTyped r other)
+none_alone : (r : read.Record) → HasItsData r → IsSoundWindow r.rdata → ((other : ParsedRdata) → ¬ IsDataTyped r other)
     → (other : ParsedRdata) → ¬ IsTypedAlone r.rtype r.class (rest r.rdata) other
 none_alone r its in_it none other (form, plain) =
     let octets = rest r.rdata in
     let w = whole octets in
-    let sound : IsSound w = record { each = each_rest r.rdata in_it; ordered = omega arith; within = omega arith } in
+    let sound : IsSoundWindow w = record
+    { each = each_rest r.rdata in_it; ordered = omega arith; within = omega arith } in
     let all = plain_octets_are r.rtype r.class w other sound form plain ∙ rest_whole octets in
     let (parsed, same, there) = form_there r w w other its sound sound form all in
     none parsed there
 
-pub says_alone : (r : read.Record) (rdata : ParsedRdata) → HasItsData r → IsSound (at r.rdata.position r.owner.place)
-    → IsSound r.rdata → IsDataOf r rdata → IsReadAlone r.rtype r.class rdata
+pub says_alone : (r : read.Record) (rdata : ParsedRdata) → HasItsData r
+    → IsSoundWindow (at r.rdata.position r.owner.place)
+    → IsSoundWindow r.rdata → IsDataOf r rdata → IsReadAlone r.rtype r.class rdata
 says_alone r rdata its sound in_it (inl is) =
     typed_alone r.rtype r.class (at r.rdata.position r.owner.place) r.rdata rdata sound in_it is
 says_alone r rdata its sound in_it (inr (same, none)) =

@@ -25,7 +25,7 @@ use Rattle.octseq_dns_text.proofs.ShownForms.{a_plain_name, a_string, four_octet
 use Rattle.octseq_dns_text.proofs.ShownForms.{◌shown_before◌}
 use Rattle.octseq_dns_text.proofs.ShownTypes.{local_same}
 use Rattle.octseq_dns_text.specs.DataShown.{rdata_octets}
-use Rattle.octseq_format.specs.Canonical.{IsSound, many_next, sound_past}
+use Rattle.octseq_format.specs.Canonical.{IsSoundWindow, many_next, sound_past}
 use Rattle.octseq_format.specs.Counted.{onward_counted}
 use Rattle.octseq_format.specs.Fixed.{canonical_fixed, onward_fixed}
 use Rattle.octseq_format.specs.Integers.{are_be}
@@ -60,13 +60,14 @@ octets_span n w v octets (few, is, moved) = (
   ap (λ (x : Window). x.end) moved,
 )
 
-name_spans : (w v : Window) (name : Name) → IsSound w → HasName w name v → IsPlain name → Spans w (wire name.labels) v
+name_spans : (w v : Window) (name : Name) → IsSoundWindow w → HasName w name v → IsPlain name
+    → Spans w (wire name.labels) v
 name_spans w v name sound is plain = (
   a_plain_name.written refl w name v sound (name_plain w v name is plain),
   (onward_name.on w name v sound.ordered is).1,
 )
 
-string_spans : (w v : Window) (string : List ℕ) → IsSound w → HasString w string v → Spans w (part_of 1 string) v
+string_spans : (w v : Window) (string : List ℕ) → IsSoundWindow w → HasString w string v → Spans w (part_of 1 string) v
 string_spans w v string sound (has, is, moved) =
     let n = part_length 1 w in
     let u = past 1 w in
@@ -79,7 +80,7 @@ string_spans w v string sound (has, is, moved) =
       ap (λ (x : Window). x.end) moved,
     )
 
-strings_span : (w v : Window) (strings : List (List ℕ)) → IsSound w → Row HasString w strings v
+strings_span : (w v : Window) (strings : List (List ℕ)) → IsSoundWindow w → Row HasString w strings v
     → Spans w (flat_map (part_of 1) strings) v
 strings_span w v [] sound row = (ap rest (sym row), ap (λ (x : Window). x.end) row)
 strings_span w v (string ∷ strings) sound (u, is, row) =
@@ -90,7 +91,7 @@ strings_span w v (string ∷ strings) sound (u, is, row) =
       others.1 ∙ first.1,
     )
 
-pub plain_octets_are : (rtype class : ℕ) (w : Window) (rdata : ParsedRdata) → IsSound w
+pub plain_octets_are : (rtype class : ℕ) (w : Window) (rdata : ParsedRdata) → IsSoundWindow w
     → IsTypedData rtype class w w rdata → ArePlain rdata → rdata_octets rdata ≡ rest w
 plain_octets_are rtype class w (ParsedRdata.a octets) sound is plain =
     span_all w is.end octets is.ends (octets_span 4 w is.end octets is.rdata_is.2)

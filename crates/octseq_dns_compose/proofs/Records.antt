@@ -7,7 +7,7 @@ use Rattle.octseq_dns_text.specs.DataText.{IsDataText, ends_in_list}
 use Rattle.octseq_dns_text.specs.Layouts.{layout_of}
 use Rattle.octseq_dns_text.proofs.ReadTexts.{words_more}
 use Rattle.octseq_dns_text.specs.Scans.{BeginsWithWords, Goes, IsWordFault}
-use Rattle.octseq_dns_compose.specs.RecordText.{Head, IsNameWord, IsTtlWord, IsClassWord, IsRtypeWord}
+use Rattle.octseq_dns_compose.specs.RecordText.{Head, IsOwnerWord, IsTtlWord, IsClassWord, IsRecordTypeWord}
 use Rattle.octseq_dns_compose.specs.RecordText.{BeginsWithList, TtlAndClass, IsRecordText, IsAnyRecord}
 use Rattle.octseq_dns_compose.specs.Take.{Then}
 use Rattle.octseq_dns_compose.specs.TakeOrder.{NoneNext, IsNoOrder}
@@ -20,11 +20,11 @@ use Rattle.octseq_dns_compose.proofs.Samples.{data_sample}
 
 abbrev pub AfterClass : Option (List (List ℕ)) → ℕ → List (List ℕ) → List ℕ → Type 0
 AfterClass origin class words octets =
-    (rtype : ℕ) × Then (IsRtypeWord rtype) (λ more. IsDataText origin rtype class more octets) words
+    (rtype : ℕ) × Then (IsRecordTypeWord rtype) (λ more. IsDataText origin rtype class more octets) words
 
 abbrev pub OfHead : Option (List (List ℕ)) → ℕ → ℕ → ℕ → List (List ℕ) → List ℕ → Type 0
 OfHead origin ttl class rtype words octets =
-    TtlAndClass ttl class (Then (IsRtypeWord rtype) (λ more. IsDataText origin rtype class more octets)) words
+    TtlAndClass ttl class (Then (IsRecordTypeWord rtype) (λ more. IsDataText origin rtype class more octets)) words
 
 abbrev pub AfterOwner : Option (List (List ℕ)) → List (List ℕ) → List ℕ → Type 0
 AfterOwner origin words octets = (ttl class rtype : ℕ) × OfHead origin ttl class rtype words octets
@@ -52,7 +52,8 @@ record_goes origin =
 
 -- ---- from the whole to what follows
 
-owner_leads : (origin : Option (List (List ℕ))) (labels : List (List ℕ)) (word : List ℕ) → IsNameWord origin labels word
+owner_leads : (origin : Option (List (List ℕ))) (labels : List (List ℕ)) (word : List ℕ)
+    → IsOwnerWord origin labels word
     → Leads (IsAnyRecord origin) (AfterOwner origin) (word ∷ [])
 owner_leads origin labels word is = record {
   into = λ words octets rest.
@@ -66,7 +67,7 @@ ttl_out : (origin : Option (List (List ℕ))) (n class : ℕ) (first second : Li
     → AfterOwner origin (first ∷ second ∷ words) octets → AfterClass origin class words octets
 ttl_out origin n class first second is_ttl is_class words octets (ttl, other, rtype, inl (a, (b, rest))) =
     let same = one_class second other class b is_class in
-    (rtype, subst (λ k. Then (IsRtypeWord rtype) (λ more. IsDataText origin rtype k more octets) words) same rest)
+    (rtype, subst (λ k. Then (IsRecordTypeWord rtype) (λ more. IsDataText origin rtype k more octets) words) same rest)
 ttl_out origin n class first second is_ttl is_class words octets (ttl, other, rtype, inr (a, rest)) =
     absurd (no_number first other a is_ttl.0)
 
@@ -77,7 +78,7 @@ class_out origin n class first second is_class is_ttl words octets (ttl, other, 
     absurd (no_number first class is_class a.0)
 class_out origin n class first second is_class is_ttl words octets (ttl, other, rtype, inr (a, (b, rest))) =
     let same = one_class first other class a is_class in
-    (rtype, subst (λ k. Then (IsRtypeWord rtype) (λ more. IsDataText origin rtype k more octets) words) same rest)
+    (rtype, subst (λ k. Then (IsRecordTypeWord rtype) (λ more. IsDataText origin rtype k more octets) words) same rest)
 
 order_leads : (origin : Option (List (List ℕ))) (ttl class : ℕ) (first second : List ℕ)
     → (IsTtlWord ttl first × IsClassWord class second) ⊎ (IsClassWord class first × IsTtlWord ttl second)
@@ -91,7 +92,7 @@ order_leads origin ttl class first second (inr is) = record {
   out = λ words octets all. (octets, class_out origin ttl class first second is.0 is.1 words octets all);
 }
 
-rtype_leads : (origin : Option (List (List ℕ))) (class rtype : ℕ) (word : List ℕ) → IsRtypeWord rtype word
+rtype_leads : (origin : Option (List (List ℕ))) (class rtype : ℕ) (word : List ℕ) → IsRecordTypeWord rtype word
     → Leads (AfterClass origin class) (IsDataText origin rtype class) (word ∷ [])
 rtype_leads origin class rtype word is = record {
   into = λ words octets rest. (octets, (rtype, (is, rest)));
@@ -104,14 +105,14 @@ rtype_leads origin class rtype word is = record {
 
 -- at the owner
 pub fault_at_owner : (origin : Option (List (List ℕ))) (ahead : List ℕ) (start : ℕ)
-    → ((word rest : List ℕ) (labels : List (List ℕ)) → TakesWord word ahead rest → ¬ IsNameWord origin labels word)
+    → ((word rest : List ℕ) (labels : List (List ℕ)) → TakesWord word ahead rest → ¬ IsOwnerWord origin labels word)
     → IsWordFault (IsAnyRecord origin) ahead start start
 fault_at_owner origin ahead start none =
     first_fault (IsAnyRecord origin) ahead start (record_goes origin)
     (λ word left taken goes. none word left goes.2.0.labels taken goes.2.1.0) (λ over octets is. is.1)
 
 pub past_owner : {text mid : List ℕ} {start next : ℕ} (origin : Option (List (List ℕ))) (labels : List (List ℕ))
-    → ((word : List ℕ) × TakesWord word text mid × IsNameWord origin labels word)
+    → ((word : List ℕ) × TakesWord word text mid × IsOwnerWord origin labels word)
     → next + length mid ≡ start + length text → Reached (IsAnyRecord origin) (AfterOwner origin) text start mid next
 past_owner origin labels taken place =
     past_words (taken.0 ∷ []) at_front (owner_leads origin labels taken.0 taken.2) (_, taken.1, refl) place
@@ -190,14 +191,14 @@ past_order origin ttl class so_far taken place =
 
 -- at the type
 pub fault_at_rtype : (origin : Option (List (List ℕ))) (class : ℕ) (ahead : List ℕ) (start : ℕ)
-    → NoneNext IsRtypeWord ahead → IsWordFault (AfterClass origin class) ahead start start
+    → NoneNext IsRecordTypeWord ahead → IsWordFault (AfterClass origin class) ahead start start
 fault_at_rtype origin class ahead start none =
     first_fault (AfterClass origin class) ahead start (class_goes origin class)
     (λ word left taken goes. none word left goes.2.0 taken goes.2.1.0) (λ over octets is. is.1)
 
 pub past_rtype : {text ahead mid : List ℕ} {start next then : ℕ} (origin : Option (List (List ℕ))) (class rtype : ℕ)
     → Reached (IsAnyRecord origin) (AfterClass origin class) text start ahead next
-    → ((word : List ℕ) × TakesWord word ahead mid × IsRtypeWord rtype word)
+    → ((word : List ℕ) × TakesWord word ahead mid × IsRecordTypeWord rtype word)
     → then + length mid ≡ next + length ahead
     → Reached (IsAnyRecord origin) (IsDataText origin rtype class) text start mid then
 past_rtype origin class rtype so_far taken place =
@@ -218,16 +219,16 @@ pub record HeadRead (origin : Option (List (List ℕ))) (ahead after : List ℕ)
   pub second : List ℕ
   pub kind : List ℕ
   pub begins : BeginsWithWords (owner ∷ first ∷ second ∷ kind ∷ []) ahead after
-  pub is_name : IsNameWord origin head.labels owner
+  pub is_name : IsOwnerWord origin head.labels owner
   pub is_order : (IsTtlWord head.ttl first × IsClassWord head.class second)
       ⊎ (IsClassWord head.class first × IsTtlWord head.ttl second)
-  pub is_rtype : IsRtypeWord head.rtype kind
+  pub is_rtype : IsRecordTypeWord head.rtype kind
 
 pub head_read : {ahead a b after : List ℕ} (origin : Option (List (List ℕ))) (labels : List (List ℕ))
-    (ttl class rtype : ℕ) → ((word : List ℕ) × TakesWord word ahead a × IsNameWord origin labels word)
+    (ttl class rtype : ℕ) → ((word : List ℕ) × TakesWord word ahead a × IsOwnerWord origin labels word)
     → ((first second mid : List ℕ) × TakesWord first a mid × TakesWord second mid b
     × ((IsTtlWord ttl first × IsClassWord class second) ⊎ (IsClassWord class first × IsTtlWord ttl second)))
-    → ((word : List ℕ) × TakesWord word b after × IsRtypeWord rtype word)
+    → ((word : List ℕ) × TakesWord word b after × IsRecordTypeWord rtype word)
     → HeadRead origin ahead after (record { labels = labels; ttl = ttl; class = class; rtype = rtype })
 head_read origin labels ttl class rtype owner order kind = record {
   owner = owner.0;
@@ -250,7 +251,7 @@ record_words origin head read words octets are is = (
   (
     read.is_name,
     order_text head.ttl head.class
-        (Then (IsRtypeWord head.rtype) (λ more. IsDataText origin head.rtype head.class more octets)) read.first
+        (Then (IsRecordTypeWord head.rtype) (λ more. IsDataText origin head.rtype head.class more octets)) read.first
         read.second (read.kind ∷ words) read.is_order (read.is_rtype, is),
   ),
 )
@@ -277,7 +278,7 @@ head_asks {ahead = ahead} {after = after} origin head asks read memory =
       begins = read.begins;
       is = (
         read.is_name,
-        order_text head.ttl head.class (Then (IsRtypeWord head.rtype) (λ more. more ≡ [])) read.first read.second
+        order_text head.ttl head.class (Then (IsRecordTypeWord head.rtype) (λ more. more ≡ [])) read.first read.second
             (read.kind ∷ []) read.is_order (read.is_rtype, refl),
       );
       list = list;

@@ -3,7 +3,7 @@ use Rattle.std.proofs.Common.{◌≡◌, ℕ, Option, Some, None, List, [], ◌�
 use Rattle.octseq_dns_data.specs.Mnemonic.{ReadsClass, ReadsRtype, class_names}
 use Rattle.octseq_dns_data.proofs.Mnemonics.{one_number, classes_unambiguous}
 use Rattle.octseq_dns_text.specs.DataText.{IsDataText}
-use Rattle.octseq_dns_compose.specs.RecordText.{IsNameWord, IsTtlWord}
+use Rattle.octseq_dns_compose.specs.RecordText.{IsOwnerWord, IsTtlWord}
 
 pub one_class : (text : List ℕ) (a b : ℕ) → ReadsClass text a → ReadsClass text b → a ≡ b
 unfolding ReadsClass
@@ -20,7 +20,7 @@ rtype_sample = inl (record { name = codes "A"; named = (0, (omega arith, refl));
 pub ttl_sample : IsTtlWord 0 (codes "0")
 ttl_sample = ((omega arith, (omega arith, tt)), omega arith, refl, omega arith)
 
-pub name_sample : (origin : Option (List (List ℕ))) → IsNameWord origin [] (codes ".")
+pub name_sample : (origin : Option (List (List ℕ))) → IsOwnerWord origin [] (codes ".")
 name_sample None = (tt, omega arith, refl)
 name_sample (Some origin) = (tt, omega arith, inl refl)
 

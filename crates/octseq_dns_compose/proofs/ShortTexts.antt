@@ -3,7 +3,7 @@ use Rattle.std.proofs.Common.{◌≡◌, ℕ, ◌<◌, ◌≤◌, Option, Some, 
 use Rattle.std.proofs.Common.{append_assoc, refl, sym, ap, ◌∙◌, subst, inl, inr, arith}
 use Rattle.std.specs.List.{AllByRecursion}
 use Rattle.octseq.specs.Limit.{ExceedsLimit}
-use Rattle.octseq_dns.specs.Contents.{Message, Record, octets_of}
+use Rattle.octseq_dns.specs.Contents.{Message, Record, message_octets}
 use Rattle.octseq_dns.specs.Sections.{takes_additionals, takes_answers, takes_authorities, takes_questions}
 use Rattle.octseq_dns.specs.Writes.{Building}
 use Rattle.octseq_dns_compress.specs.Composed.{message_limit}
@@ -38,7 +38,7 @@ EndsBy section m = (section ≤ 0 → length m.answers ≡ 0) × (section ≤ 1 
 -- one more entry, of that section or a later one
 record GrowsWith (most : ℕ) (entry : EntryLine) (m more : Message) : Type 0 where
   ends : EndsBy (section_of entry) more
-  grows : length (octets_of most m) ≤ length (octets_of most more)
+  grows : length (message_octets most m) ≤ length (message_octets most more)
 
 with_grows : (most from : ℕ) (entry : EntryLine) (m more : Message) → from ≤ section_of entry → EndsBy from m
     → IsWith m entry more → GrowsWith most entry m more
@@ -69,9 +69,9 @@ with_grows most from (EntryLine.additional said) m more less ends (r, record_is,
 
 all_grow : (most from : ℕ) (lines : List Line) (m all : Message) (entries : List EntryLine)
     → AreEntries from entries lines → IsWithAll m entries all → EndsBy from m
-    → length (octets_of most m) ≤ length (octets_of most all)
+    → length (message_octets most m) ≤ length (message_octets most all)
 all_grow most from [] m all entries are is ends =
-    let same = ap (λ x. length (octets_of most x)) (subst (λ l. IsWithAll m l all) are is) in
+    let same = ap (λ x. length (message_octets most x)) (subst (λ l. IsWithAll m l all) are is) in
     omega (arith, same)
 all_grow most from (words ∷ lines) m all entries (entry, more, e, less, line, are) is ends =
     let (next, with, rest) = subst (λ l. IsWithAll m l all) e is in
@@ -82,9 +82,9 @@ all_grow most from (words ∷ lines) m all entries (entry, more, e, less, line, 
 
 entries_grow : (most from : ℕ) (lines more : List Line) (m one two : Message) (entries others : List EntryLine)
     → AreEntries from entries lines → AreEntries from others (lines ++ more) → IsWithAll m entries one
-    → IsWithAll m others two → EndsBy from m → length (octets_of most one) ≤ length (octets_of most two)
+    → IsWithAll m others two → EndsBy from m → length (message_octets most one) ≤ length (message_octets most two)
 entries_grow most from [] more m one two entries others are also is too ends =
-    let same = ap (λ x. length (octets_of most x)) (subst (λ l. IsWithAll m l one) are is) in
+    let same = ap (λ x. length (message_octets most x)) (subst (λ l. IsWithAll m l one) are is) in
     let grown = all_grow most from more m two others also too ends in
     omega (arith, same, grown)
 entries_grow most from (words ∷ lines) more m one two entries others (entry, rest, e, less, line, are)
@@ -109,7 +109,7 @@ others_are lines more header other entries others one two =
 say_grows : (most : ℕ) (lines more : List Line) (header other : Header) (entries others : List EntryLine)
     (m n : Message) → SayEntries lines header entries → SayEntries (lines ++ more) other others
     → IsWithAll (headed_message header) entries m → IsWithAll (headed_message other) others n
-    → length (octets_of most m) ≤ length (octets_of most n)
+    → length (message_octets most m) ≤ length (message_octets most n)
 say_grows most lines more header other entries others m n one two is too =
     let same = others_are lines more header other entries others one two in
     let head = header_once header other one.first one.header_is

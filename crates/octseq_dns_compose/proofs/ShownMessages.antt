@@ -24,7 +24,7 @@ use Rattle.octseq_dns_text.proofs.PlainNames.{are_plain, plain_from}
 use Rattle.octseq_dns_text.proofs.OrdinaryTexts.{plain_first}
 use Rattle.octseq_dns_text.proofs.SpacedWords.{IsFeedless, IsLineWord, spaced, spaced_feedless, spaced_words}
 use Rattle.octseq_dns_text.proofs.SpacedWords.{words_before}
-use Rattle.octseq_format.specs.Canonical.{IsSound, sound_on}
+use Rattle.octseq_format.specs.Canonical.{IsSoundWindow, sound_on}
 use Rattle.octseq_format.specs.Laws.{Relation}
 use Rattle.octseq_format.specs.Row.{Row, onward_row}
 use Rattle.octseq_dns_compose.specs.HeaderLine.{IsHeaderLine, flag_word, flag_words}
@@ -61,7 +61,7 @@ record IsShownSection {A S : Type 0} (Is : A → S → Type 0) (IsText : S → L
   read : AllZip IsText said lines
 
 records_shown : (section : List ℕ) → IsLineWord section → (w v : Window) (records : List read.Record)
-    (text rest : List ℕ) → IsSound w → Row IsRecord w records v → IsRecordsText section records text
+    (text rest : List ℕ) → IsSoundWindow w → Row IsRecord w records v → IsRecordsText section records text
     → IsShownSection IsSaidOf (IsRecordLine section) records text rest
 records_shown section word w v [] text rest sound row is =
     record { said = []; are = tt; lines = []; begins = ap (λ t. t ++ rest) is; read = tt }
@@ -85,7 +85,7 @@ abbrev IsQuestionOf : read.Question → Question → Type 0
 IsQuestionOf q said = said ≡ bare q
 
 questions_shown : IsLineWord (codes "question") → (w v : Window) (questions : List read.Question) (rest : List ℕ)
-    → IsSound w → Row IsQuestion w questions v
+    → IsSoundWindow w → Row IsQuestion w questions v
     → (lines : List Line) × BeginsWithLines lines (questions_text questions ++ rest) rest
     × AllZip IsQuestionLine (map bare questions) lines
 questions_shown word w v [] rest sound row = ([], refl, tt)
@@ -208,7 +208,7 @@ header_shown h small few less =
 pub record IsRow {A : Type 0} (Is : Relation A) (row : List A) : Type 0 where
   pub start : Window
   pub end : Window
-  pub sound : IsSound start
+  pub sound : IsSoundWindow start
   pub are : Row Is start row end
 
 -- The sections of a message are rows.
@@ -228,7 +228,7 @@ pub rows_of : (octets : List ℕ) (header : Header) (questions : List read.Quest
     → AreRows header questions answers authorities additionals
 rows_of octets header questions answers authorities additionals each is =
     let w = whole octets in
-    let sound : IsSound w = record { each = each; ordered = omega arith; within = omega arith } in
+    let sound : IsSoundWindow w = record { each = each; ordered = omega arith; within = omega arith } in
     let numbers = is.header_is.numbers in
     let past = is.past_header in
     let s1 = sound_on (onward_row (IsNumber 2) onward_number) w (header_numbers header is.counts) past sound numbers in

@@ -27,17 +27,17 @@ use Rattle.octseq_dns_text.proofs.NameWords.{name_first}
 use Rattle.octseq_dns_text.proofs.OrdinaryTexts.{class_first, decimal_first, rtype_first}
 use Rattle.octseq_dns_text.proofs.ShownData.{says_shown}
 use Rattle.octseq_dns_text.proofs.SpacedWords.{IsFeedless, feedless_both, words_before}
-use Rattle.octseq_format.specs.Canonical.{IsSound, many_rest, sound_nested, sound_on, sound_past}
+use Rattle.octseq_format.specs.Canonical.{IsSoundWindow, many_rest, sound_nested, sound_on, sound_past}
 use Rattle.octseq_format.specs.Fixed.{canonical_fixed}
 use Rattle.octseq_format.specs.Integers.{are_be}
 use Rattle.octseq_dns_compose.specs.MessageShown.{AreRecordWords, ShowsWords, said_of}
 use Rattle.octseq_dns_compose.specs.QuestionText.{IsQuestionText}
-use Rattle.octseq_dns_compose.specs.RecordText.{IsClassWord, IsNameWord, IsRtypeWord, IsTtlWord}
+use Rattle.octseq_dns_compose.specs.RecordText.{IsClassWord, IsOwnerWord, IsRecordTypeWord, IsTtlWord}
 
 -- ---- words
 
-name_read : (w : Window) (name : Name) (v : Window) → IsSound w → HasName w name v
-    → IsNameWord None name.labels (name_text name.labels)
+name_read : (w : Window) (name : Name) (v : Window) → IsSoundWindow w → HasName w name v
+    → IsOwnerWord None name.labels (name_text name.labels)
 name_read w name v sound is =
     let labels : Named w = (name.labels, ∣ (v, is.1) ∣₁) in (
       named_labels w labels sound.within,
@@ -54,7 +54,7 @@ class_read : (class : ℕ) → class < 65536 → IsClassWord class (class_text c
 unfolding ReadsClass class_text
 class_read class few = reads_shown _ _ class few
 
-rtype_read : (rtype : ℕ) → rtype < 65536 → IsRtypeWord rtype (rtype_text rtype)
+rtype_read : (rtype : ℕ) → rtype < 65536 → IsRecordTypeWord rtype (rtype_text rtype)
 unfolding ReadsRtype rtype_text
 rtype_read rtype few = reads_shown _ _ rtype few
 
@@ -64,10 +64,10 @@ before_feedless word text one two = feedless_both word (32 ∷ text) one (λ sam
 
 -- ---- numbers at a place
 
-pub fixed_fits : (k n : ℕ) (w v : Window) → IsSound w → IsNumber k w n v → n < 256 ^ k
+pub fixed_fits : (k n : ℕ) (w v : Window) → IsSoundWindow w → IsNumber k w n v → n < 256 ^ k
 fixed_fits k n w v sound is = ((canonical_fixed (are_be k)).written w n v sound is).0
 
-fixed_on : (k n : ℕ) (w v : Window) → IsSound w → IsNumber k w n v → IsSound v
+fixed_on : (k n : ℕ) (w v : Window) → IsSoundWindow w → IsNumber k w n v → IsSoundWindow v
 fixed_on k n w v sound is = (canonical_fixed (are_be k)).on w n v sound is
 
 fixed_octets : (k n : ℕ) (w v : Window) → IsNumber k w n v → v.octets ≡ w.octets
@@ -78,7 +78,7 @@ fixed_end k n w v is = ap (λ (x : Window). x.end) is.2
 
 -- ---- questions
 
-pub question_shown : (w : Window) (q : Question) (v : Window) → IsSound w → IsQuestion w q v
+pub question_shown : (w : Window) (q : Question) (v : Window) → IsSoundWindow w → IsQuestion w q v
     → ShowsWords (IsQuestionText q.qname.labels q.qclass q.qtype) (question_text q)
 question_shown w q v sound (u, named, (a, rtype, class)) =
     let on = sound_on onward_name w q.qname u sound named in
@@ -111,7 +111,8 @@ pub record HasItsData (r : Record) : Type 0 where
   pub there : rest (at r.rdata.position r.owner.place) ≡ rest r.rdata ++ more
   pub long : r.rdata.position + length (rest r.rdata) ≡ r.rdata.end
 
-has_its_data : (r : Record) → IsSound r.rdata → r.rdata.octets ≡ r.owner.place.octets → r.rdata.end ≤ r.owner.place.end
+has_its_data : (r : Record) → IsSoundWindow r.rdata → r.rdata.octets ≡ r.owner.place.octets
+    → r.rdata.end ≤ r.owner.place.end
     → HasItsData r
 has_its_data r sound same within =
     let n = left r.rdata in
@@ -134,12 +135,12 @@ pub record IsFit (w u : Window) (r : Record) : Type 0 where
   pub rtype : r.rtype < 65536
   pub class : r.class < 65536
   pub ttl : r.ttl < 4294967296
-  pub place : IsSound (at r.rdata.position r.owner.place)
-  pub inside : IsSound r.rdata
+  pub place : IsSoundWindow (at r.rdata.position r.owner.place)
+  pub inside : IsSoundWindow r.rdata
   pub few : left r.rdata ≤ 65535
   pub own : HasItsData r
 
-pub record_fit : (w : Window) (r : Record) (v : Window) → IsSound w → IsRecord w r v → (u : Window) × IsFit w u r
+pub record_fit : (w : Window) (r : Record) (v : Window) → IsSoundWindow w → IsRecord w r v → (u : Window) × IsFit w u r
 record_fit w r v sound (u, named, (a, rtype, (b, class, (c, ttl, (has, is, moved))))) =
     let s0 = sound_on onward_name w r.owner u sound named in
     let s1 = fixed_on 2 r.rtype u a s0 rtype in
@@ -156,12 +157,12 @@ record_fit w r v sound (u, named, (a, rtype, (b, class, (c, ttl, (has, is, moved
     let end_a = fixed_end 2 r.rtype u a rtype in
     let end_b = fixed_end 2 r.class a b class in
     let end_c = fixed_end 4 r.ttl b c ttl in
-    let here : IsSound (at r.rdata.position w) = record {
+    let here : IsSoundWindow (at r.rdata.position w) = record {
       each = sound.each;
       ordered = omega (arith, place, s4.ordered, end, end_a, end_b, end_c);
       within = sound.within;
     } in
-    let fit : IsSound r.rdata = subst IsSound (sym is) inside in
+    let fit : IsSoundWindow r.rdata = subst IsSoundWindow (sym is) inside in
     let same : r.rdata.octets ≡ r.owner.place.octets = ap (λ (x : Window). x.octets) is ∙ fixed_octets 4 r.ttl b c ttl
     ∙ fixed_octets 2 r.class a b class ∙ fixed_octets 2 r.rtype u a rtype ∙ on.0
     ∙ ap (λ (x : Window). x.octets) (sym named.0) in
@@ -173,14 +174,14 @@ record_fit w r v sound (u, named, (a, rtype, (b, class, (c, ttl, (has, is, moved
         rtype = fixed_fits 2 r.rtype u a s0 rtype;
         class = fixed_fits 2 r.class a b s1 class;
         ttl = fixed_fits 4 r.ttl b c s2 ttl;
-        place = subst (λ p. IsSound (at r.rdata.position p)) (sym named.0) here;
+        place = subst (λ p. IsSoundWindow (at r.rdata.position p)) (sym named.0) here;
         inside = fit;
         few = omega (arith, many, few);
         own = has_its_data r fit same (omega (arith, whole, owner, end, end_a, end_b, end_c, has.0, has.1));
       },
     )
 
-pub record_shown : (w : Window) (r : Record) (v : Window) (rdata : ParsedRdata) → IsSound w → IsRecord w r v
+pub record_shown : (w : Window) (r : Record) (v : Window) (rdata : ParsedRdata) → IsSoundWindow w → IsRecord w r v
     → IsDataOf r rdata
     → ShowsWords (AreRecordWords (said_of r rdata)) (record_text r rdata)
 record_shown w r v rdata sound is says =

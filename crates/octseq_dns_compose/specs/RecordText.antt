@@ -23,8 +23,8 @@ abbrev pub SpellsOwner : Option (List (List ℕ)) → List (List ℕ) → List �
 SpellsOwner None labels word = SpellsName labels word
 SpellsOwner (Some origin) labels word = SpellsWithOrigin origin labels word
 
-abbrev pub IsNameWord : Option (List (List ℕ)) → List (List ℕ) → List ℕ → Type 0
-IsNameWord origin labels word = AreLabels labels × (wire_length labels ≤ 255) × SpellsOwner origin labels word
+abbrev pub IsOwnerWord : Option (List (List ℕ)) → List (List ℕ) → List ℕ → Type 0
+IsOwnerWord origin labels word = AreLabels labels × (wire_length labels ≤ 255) × SpellsOwner origin labels word
 
 -- a TTL has one to ten digits
 abbrev pub IsTtlWord : ℕ → List ℕ → Type 0
@@ -33,8 +33,8 @@ IsTtlWord ttl word = IsNumeral 10 word × (length word ≤ 10) × (digits_value 
 abbrev pub IsClassWord : ℕ → List ℕ → Type 0
 IsClassWord class word = ReadsClass word class
 
-abbrev pub IsRtypeWord : ℕ → List ℕ → Type 0
-IsRtypeWord rtype word = ReadsRtype word rtype
+abbrev pub IsRecordTypeWord : ℕ → List ℕ → Type 0
+IsRecordTypeWord rtype word = ReadsRtype word rtype
 
 -- a TTL and a class, in either order
 abbrev pub TtlAndClass : ℕ → ℕ → (List (List ℕ) → Type 0) → List (List ℕ) → Type 0
@@ -44,8 +44,8 @@ TtlAndClass ttl class Rest words =
 
 -- Words are the text of a record: its owner, its TTL and its class, its type, and data of these octets.
 abbrev pub IsRecordText : Option (List (List ℕ)) → Head → List (List ℕ) → List ℕ → Type 0
-IsRecordText origin head words octets = Then (IsNameWord origin head.labels) (TtlAndClass head.ttl head.class
-    (Then (IsRtypeWord head.rtype) (λ more. IsDataText origin head.rtype head.class more octets))) words
+IsRecordText origin head words octets = Then (IsOwnerWord origin head.labels) (TtlAndClass head.ttl head.class
+    (Then (IsRecordTypeWord head.rtype) (λ more. IsDataText origin head.rtype head.class more octets))) words
 
 -- of any record
 abbrev pub IsAnyRecord : Option (List (List ℕ)) → List (List ℕ) → List ℕ → Type 0
@@ -55,8 +55,8 @@ IsAnyRecord origin words octets = (head : Head) × IsRecordText origin head word
 
 -- words are those of a record before its data
 abbrev pub IsHeadText : Option (List (List ℕ)) → Head → List (List ℕ) → Type 0
-IsHeadText origin head = Then (IsNameWord origin head.labels) (TtlAndClass head.ttl head.class
-    (Then (IsRtypeWord head.rtype) (λ more. more ≡ [])))
+IsHeadText origin head = Then (IsOwnerWord origin head.labels) (TtlAndClass head.ttl head.class
+    (Then (IsRecordTypeWord head.rtype) (λ more. more ≡ [])))
 
 -- A text begins with these words of a record whose data ends in a list: of types, or of parameters.
 pub record BeginsWithList (origin : Option (List (List ℕ))) (text : List ℕ) : Type 0 where

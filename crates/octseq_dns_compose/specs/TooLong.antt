@@ -1,7 +1,7 @@
 -- Texts of messages that exceed a limit, and texts for which the allocator is asked.
 use Rattle.std.specs.Prelude.{◌≡◌, ◌⊎◌, ℕ, ◌<◌, Option, None, List, [], ◌∷◌, ◌++◌, length, codes}
 use Rattle.octseq.specs.Limit.{ExceedsLimit}
-use Rattle.octseq_dns.specs.Contents.{Message, counts_of, octets_of}
+use Rattle.octseq_dns.specs.Contents.{Message, counts_of, message_octets}
 use Rattle.octseq_dns_message.specs.declared.header.Header.{Header}
 use Rattle.octseq_dns_message.specs.declared.header.HeaderCounts.{HeaderCounts}
 use Rattle.octseq_dns_scan.specs.Word.{AreWords, TakesWord}
@@ -26,7 +26,7 @@ pub record HasLongMessage (most : ℕ) (limit : Option ℕ) (text : List ℕ) : 
   pub front : BeginsWithEntries text ahead
   pub m : Message
   pub message_is : IsWithAll (headed_message front.header) front.entries m
-  pub past : ExceedsLimit limit (length (octets_of most m))
+  pub past : ExceedsLimit limit (length (message_octets most m))
 
 -- the octets of the data that the line of an entry says
 abbrev pub data_octets : EntryLine → List ℕ
@@ -77,4 +77,4 @@ pub record HasListLine (text : List ℕ) : Type 0 where
 
 -- a message has more octets than a limit, or more entries in a section than its count can express
 abbrev pub Exceeds : ℕ → Option ℕ → (HeaderCounts → ℕ) → Message → Type 0
-Exceeds most limit count m = ExceedsLimit limit (length (octets_of most m)) ⊎ (65535 < count (counts_of m))
+Exceeds most limit count m = ExceedsLimit limit (length (message_octets most m)) ⊎ (65535 < count (counts_of m))

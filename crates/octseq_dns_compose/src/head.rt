@@ -6,7 +6,7 @@ ghost use Rattle.octseq_dns_name.specs.Name.{wire_length};
 ghost use Rattle.octseq_dns_name.specs.Wire.{AreLabels};
 ghost use Rattle.octseq_dns_scan.specs.Word.{TakesWord};
 ghost use Rattle.octseq_dns_scan.specs.Words.{ahead_of, offset_of};
-ghost use Rattle.octseq_dns_compose.specs.RecordText.{IsClassWord, IsNameWord, IsRtypeWord, IsTtlWord};
+ghost use Rattle.octseq_dns_compose.specs.RecordText.{IsClassWord, IsOwnerWord, IsRecordTypeWord, IsTtlWord};
 ghost use Rattle.octseq_dns_compose.specs.Take.{TakesNextWord};
 ghost use Rattle.octseq_dns_compose.specs.TakeOrder.{TakesOrder};
 
@@ -24,10 +24,10 @@ pub(crate) fn take_owner<R: AsOctets + Copy>(
     origin: Option<&ParsedName<R>>,
 ) -> Option<Name<Array<255>>>
     ensures some { IfSome result (λ name. (word : List ℕ) × TakesWord word (ahead_of words.old) (ahead_of words.new)
-        × IsNameWord (option_map (λ name. labels_of name.now) origin.entry) (owned_labels name) word) }
+        × IsOwnerWord (option_map (λ name. labels_of name.now) origin.entry) (owned_labels name) word) }
     ensures none { IsNone result → (word rest : List ℕ) (labels : List (List ℕ))
         → TakesWord word (ahead_of words.old) rest
-        → ¬ IsNameWord (option_map (λ name. labels_of name.now) origin.entry) labels word }
+        → ¬ IsOwnerWord (option_map (λ name. labels_of name.now) origin.entry) labels word }
     ensures kept { IsNone result → ahead_of words.new ≡ ahead_of words.old }
     ensures end { offset_of words.new + length (ahead_of words.new)
         ≡ offset_of words.old + length (ahead_of words.old) }
@@ -49,9 +49,9 @@ fn scan_name<R: AsOctets + Copy>(
     origin: Option<&ParsedName<R>>,
 ) -> Option<Name<Array<255>>>
     ensures some { IfSome result (λ name.
-        IsNameWord (option_map (λ name. labels_of name.now) origin.entry) (owned_labels name) word.now) }
+        IsOwnerWord (option_map (λ name. labels_of name.now) origin.entry) (owned_labels name) word.now) }
     ensures none { IsNone result → (labels : List (List ℕ))
-        → ¬ IsNameWord (option_map (λ name. labels_of name.now) origin.entry) labels word.now }
+        → ¬ IsOwnerWord (option_map (λ name. labels_of name.now) origin.entry) labels word.now }
 {
     match origin {
         Some(origin) => match Name::from_text_octets_with_origin(word, origin) {
@@ -135,7 +135,7 @@ pub(crate) fn take_class(words: &mut Words) -> Option<Class>
 
 /// Takes a type.
 pub(crate) fn take_rtype(words: &mut Words) -> Option<Rtype>
-    ensures taken { TakesNextWord IsRtypeWord result (ahead_of words.old) (ahead_of words.new) }
+    ensures taken { TakesNextWord IsRecordTypeWord result (ahead_of words.old) (ahead_of words.new) }
     ensures end { offset_of words.new + length (ahead_of words.new)
         ≡ offset_of words.old + length (ahead_of words.old) }
 {

@@ -12,7 +12,7 @@ ghost use Rattle.octseq_dns_message.specs.MessageText as shown;
 ghost use Rattle.octseq_dns_message.specs.MessageText.{record_text};
 ghost use Rattle.octseq_dns_message.specs.RecordData.{IsDataOf};
 ghost use Rattle.octseq_dns_message.specs.declared.header.Header.{Header};
-ghost use Rattle.octseq_format.specs.Canonical.{IsSound};
+ghost use Rattle.octseq_format.specs.Canonical.{IsSoundWindow};
 ghost use Rattle.octseq_dns_compose.specs.MessageShown.{
   IsMessageOfLines,
   AreRecordWords,
@@ -36,9 +36,9 @@ pub fn a_text_is_of_one_message()
 ///
 /// It does nothing. Calling it brings the law into the caller's proof.
 pub fn records_are_read_as_shown()
-    ensures record { (w : Window) (r : Record) (v : Window) (rdata : ParsedRdata) → IsSound w → IsRecord w r v
+    ensures record { (w : Window) (r : Record) (v : Window) (rdata : ParsedRdata) → IsSoundWindow w → IsRecord w r v
         → IsDataOf r rdata → ShowsWords (AreRecordWords (said_of r rdata)) (record_text r rdata) }
-    ensures question { (w : Window) (q : Question) (v : Window) → IsSound w → IsQuestion w q v
+    ensures question { (w : Window) (q : Question) (v : Window) → IsSoundWindow w → IsQuestion w q v
         → ShowsWords (IsQuestionText q.qname.labels q.qclass q.qtype) (question_text q) }
 {}
 

@@ -23,7 +23,8 @@ use Rattle.octseq_dns_compress.proofs.Words.{
 }
 use Rattle.octseq_dns_compress.proofs.Words.{AreTargets, IsPosition, AppendsName, Names, Place, ended, labels_wire}
 use Rattle.octseq_dns_compress.proofs.Words.{name_octets, label_no, names_with, prefixed, MessageWithTargets, state_of}
-use Rattle.octseq_dns_compress.proofs.Words.{composed, message_once, with_name, State, Field, with_octets, with_fields, IsSoundMessage}
+use Rattle.octseq_dns_compress.proofs.Words.{composed_of, message_once, with_name, State, Field, with_octets}
+use Rattle.octseq_dns_compress.proofs.Words.{with_fields, IsSoundMessage}
 use Rattle.octseq_dns_compress.proofs.Words.{AreLabelsWritten, SuffixMatch, Target}
 use Rattle.octseq_dns_compress.proofs.Fields.{one_state, fields_grow}
 use Rattle.octseq_dns_compress.proofs.Grown.{agrees_grown, key_stays}
@@ -187,7 +188,8 @@ module _ {limit : Option ℕ} {asks : Bool} {most : ℕ} {octets more new : List
 
   pub composes_appended : {B T : Type 0} {b c : B} {t u : T} (is : IsSoundMessage most new held entry_start data_start)
       → OnOk result (IsWithin limit (length new))
-      → Composes limit (asks ≡ true) result (with_octets (state_of was.now) more) (composed b t was) (composed c u is)
+      → Composes limit (asks ≡ true) result (with_octets (state_of was.now) more) (composed_of b t was)
+      (composed_of c u is)
   composes_appended is within = record {
     ok = ok_appended is.now;
     within = on_ok_both result (subst (λ o. IsWithin limit (length o))) appends.ok within;
@@ -219,7 +221,8 @@ module _ {limit : Option ℕ} {most : ℕ} {labels : List (List ℕ)} {octets ne
     err_named = on_err_weaker result (λ err. same ∙ err) named.err
 
     pub composes_named : {B T Asks : Type 0} {b c : B} {t u : T} → (IsMemory append_error result → Asks)
-        → Composes limit Asks result (with_name most (state_of was.now) labels) (composed b t was) (composed c u is)
+        → Composes limit Asks result (with_name most (state_of was.now) labels) (composed_of b t was)
+        (composed_of c u is)
     composes_named memory = record {
       ok = on_ok_weaker result (λ ok. same ∙ ok) named.ok;
       within = on_ok_both result (λ ok. subst (λ s. IsWithin limit (length s.octets)) ok) named.ok named.within;

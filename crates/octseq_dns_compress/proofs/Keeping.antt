@@ -7,7 +7,7 @@ use Rattle.std.proofs.lemmas.List.Elements.{filter-append}
 use Rattle.std.specs.FinMap.{get, insert as put}
 use Rattle.octseq_dns_compress.proofs.Words.{
   TableMatches,
-  place_of,
+  name_offset,
   IsSuffixMatch,
   place_there,
   digest_of,
@@ -104,7 +104,7 @@ module _ (most : ℕ) {octets : List ℕ} {held : List Target} {names : Names} {
       (λ near few room there. omega (arith, few, many))))
 
   -- the names that were there are before it
-  before_start : (others : List (List ℕ)) → IsTrue (is_there names others) → place_of names others < start
+  before_start : (others : List (List ℕ)) → IsTrue (is_there names others) → name_offset names others < start
   before_start [] there =
       omega (arith, ap at_or_zero agrees.root, written.after_header)
   before_start (label ∷ others) there =

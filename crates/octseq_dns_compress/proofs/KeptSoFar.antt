@@ -11,7 +11,7 @@ use Rattle.std.specs.Cmp.Lexicographic.{slice_cmp}
 use Rattle.std.specs.FinMap.{get, insert as put}
 use Rattle.std.specs.Ordering.{ordering_then}
 use Rattle.std.specs.declared.cmp.Ordering.{Ordering}
-use Rattle.octseq_dns_compress.proofs.Words.{TableMatches, place_of, get_new, put_cases, label_at, digest_of}
+use Rattle.octseq_dns_compress.proofs.Words.{TableMatches, name_offset, get_new, put_cases, label_at, digest_of}
 use Rattle.octseq_dns_compress.proofs.Words.{with_digest}
 use Rattle.octseq_dns_compress.proofs.Words.{key, key_cmp, IsWholeLabel, IsPosition, Names, Place, is_there, label_no}
 use Rattle.octseq_dns_compress.proofs.Words.{prefixed, labels_wire, AreLabelsWritten, Target}
@@ -102,7 +102,7 @@ pub record KeptSoFar (octets : List ℕ) (held : List Target) (now : Names) (lab
     (start end older left next position : ℕ) : Type 0 where
   pub agrees : TableMatches octets held now
   pub there : IsTrue (is_there now (drop left labels))
-  pub next_is : next ≡ place_of now (drop left labels)
+  pub next_is : next ≡ name_offset now (drop left labels)
   pub apart : (others : List (List ℕ)) (place : Place) → get now others ≡ Some place → start ≤ place.at → end ≤ place.at
   pub here : 0 < left → IsPosition octets held (key next (prefixed (label_no labels (left - 1)))) position
   pub phase : IsFirst held start older next position

@@ -10,7 +10,7 @@ use Rattle.std.proofs.lemmas.List.Kept.{AllPairs-cons}
 use Rattle.std.specs.Ordering.{ordering_reverse}
 use Rattle.std.specs.declared.cmp.Ordering.{Ordering}
 use Rattle.octseq_dns_compress.proofs.Words.{label_at, digest_of, key_of, key_cmp, IsWholeLabel, AreTargets, IsPosition}
-use Rattle.octseq_dns_compress.proofs.Words.{HasNoKey, key, Target, TableMatches, IsOfName, HasTarget, place_of}
+use Rattle.octseq_dns_compress.proofs.Words.{HasNoKey, key, Target, TableMatches, IsOfName, HasTarget, name_offset}
 use Rattle.octseq_dns_compress.proofs.Words.{target_of}
 use Rattle.octseq_dns_compress.proofs.Words.{labels_total, get_new, get_other, alike_there, some_or_none, place_there}
 use Rattle.octseq_dns_compress.proofs.Words.{put_cases, name_key, found, Names, Place, at_or_zero, is_there, prefixed}
@@ -131,7 +131,7 @@ module _ (octets : List ℕ) (targets : List Target) (names : Names) (agrees : T
   target = target_of names label rest place
 
   key_is : key_of octets target ≡ name_key names label rest
-  key_is = ap (key (place_of names rest)) may.label_is
+  key_is = ap (key (name_offset names rest)) may.label_is
 
   -- no target has its key
   none : HasNoKey octets targets (name_key names label rest)

@@ -8,7 +8,7 @@ use Rattle.std.proofs.lemmas.Slice.{drop-append-drop}
 use Rattle.std.proofs.Math.Logic.{∥∥₁_elim}
 use Rattle.std.specs.Coded.{le_prop}
 use Rattle.octseq_dns_compress.proofs.Words.{before, Composed, label_at, IsWholeLabel, Target, MessageWithTargets}
-use Rattle.octseq_dns_compress.proofs.Words.{composed, state_of, with_header, IsSoundMessage}
+use Rattle.octseq_dns_compress.proofs.Words.{composed_of, state_of, with_header, IsSoundMessage}
 use Rattle.octseq_dns_compress.proofs.Grown.{IsAlike, alike_stays, octet_stays}
 use Rattle.octseq_dns_compress.proofs.Messages.{message_alike, message_same, none_apart, sound_from, state_is}
 
@@ -144,7 +144,8 @@ module _ {most : ℕ} {octets new : List ℕ} {held : List Target} {entry_start 
 
 -- data begins after its length, which is after where the entry begins
 pub count_late : {B T : Type 0} {b : B} {t : T} {view : Composed B T} {most : ℕ} {octets : List ℕ}
-    {held : List Target} {entry_start data_start : ℕ} (was : IsSoundMessage most octets held entry_start data_start) → composed b t was ≡ view
+    {held : List Target} {entry_start data_start : ℕ} (was : IsSoundMessage most octets held entry_start data_start)
+    → composed_of b t was ≡ view
     → length view.begun.octets + 2 ≤ view.data_start → entry_start + 2 ≤ data_start
 count_late {octets = octets} {entry_start = entry_start} was is late =
     let begun = ap (λ v. length v.begun.octets) is in

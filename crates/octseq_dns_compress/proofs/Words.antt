@@ -1,5 +1,5 @@
 -- The names of the specs that most proofs cite, passed on from one place.
-pub use Rattle.octseq_dns_compress.specs.TableMatches.{TableMatches, HasTarget, IsOfName, place_of, target_of}
+pub use Rattle.octseq_dns_compress.specs.TableMatches.{TableMatches, HasTarget, IsOfName, name_offset, target_of}
 pub use Rattle.octseq_dns_compress.specs.Apart.{AreTargetsApart, IsApart}
 pub use Rattle.octseq_dns_compress.specs.Composed.{Composed, Composes, before}
 pub use Rattle.octseq_dns_compress.specs.SuffixMatch.{IsSuffixAt, IsSuffixMatch}
@@ -18,7 +18,7 @@ pub use Rattle.octseq_dns_compress.specs.Names.{label_no, labels_cmp, last_place
 pub use Rattle.octseq_dns_compress.specs.Names.{pointers_from, prefixed, labels_wire, with_labels}
 pub use Rattle.octseq_dns_compress.specs.LabelOffsets.{AreWhole, label_of, labels_at}
 pub use Rattle.octseq_dns_compress.specs.PlainNames.{plain_labels}
-pub use Rattle.octseq_dns_compress.specs.Sound.{IsSoundMessage, MessageWithTargets, composed, message_once, state_of}
+pub use Rattle.octseq_dns_compress.specs.Sound.{IsSoundMessage, MessageWithTargets, composed_of, message_once, state_of}
 pub use Rattle.octseq_dns_compress.specs.State.{Entry, Field, State, with_counted, with_data, with_entries, with_entry}
 pub use Rattle.octseq_dns_compress.specs.State.{with_field, with_fields, with_header, with_name, with_octets}
 pub use Rattle.octseq_dns_compress.specs.Written.{AreLabelsWritten}

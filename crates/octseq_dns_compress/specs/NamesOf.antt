@@ -5,7 +5,7 @@ use Rattle.std.proofs.Math.Logic.{∥∥₁_prop, ∥∥₁_elim}
 use Rattle.std.specs.Coded.{Coded, Coded-set, coded_list, coded_ℕ, coded×, code_by}
 use Rattle.std.specs.FinMap.{get, code, same_map}
 use mathlib.Core.HLevel.{Σ_prop_path}
-use Rattle.octseq_dns_compress.specs.TableMatches.{TableMatches, HasTarget, place_of, target_of}
+use Rattle.octseq_dns_compress.specs.TableMatches.{TableMatches, HasTarget, name_offset, target_of}
 use Rattle.octseq_dns_compress.specs.FoundNames.{labels_total, labels_alike, alike_there, place_there, found_alike}
 use Rattle.octseq_dns_compress.specs.FoundNames.{none_found}
 use Rattle.octseq_dns_compress.specs.Key.{key, key_of, HasKeyAt, HasNoKey}
@@ -14,7 +14,7 @@ use Rattle.octseq_dns_compress.specs.declared.table.Target.{Target}
 
 -- the key of a name: the offset of what follows its first label, and that label with its length octet
 abbrev pub name_key : Names → List ℕ → List (List ℕ) → List ℕ
-name_key names label rest = key (place_of names rest) (prefixed label)
+name_key names label rest = key (name_offset names rest) (prefixed label)
 
 -- the names that targets belong to
 abbrev pub NamesOf : List ℕ → List Target → Type 0
@@ -28,13 +28,13 @@ pub key_there : (octets : List ℕ) (targets : List Target) (names : Names) (lab
     → HasKeyAt octets targets (name_key names label rest) has.index
 key_there octets targets names label rest place has = record {
   within = has.within;
-  is = λ d. ap (key_of octets) (has.target_is d) ∙ ap (key (place_of names rest)) has.label_is;
+  is = λ d. ap (key_of octets) (has.target_is d) ∙ ap (key (name_offset names rest)) has.label_is;
 }
 
 module _ {octets : List ℕ} {targets : List Target} {names : Names} (agrees : TableMatches octets targets names) where
   -- the root isn't at the offset of a name
   root_apart : (label : List ℕ) (labels : List (List ℕ)) → IsTrue (is_there names (label ∷ labels))
-      → ¬ (place_of names [] ≡ place_of names (label ∷ labels))
+      → ¬ (name_offset names [] ≡ name_offset names (label ∷ labels))
   root_apart label labels there same =
       let place = place_there names label labels there in
       let after = (agrees.all label labels place.0 place.1).after_header in
@@ -42,7 +42,7 @@ module _ {octets : List ℕ} {targets : List Target} {names : Names} (agrees : T
 
   -- names that are there at one offset, or the root, are equal
   one_rest : (labels others : List (List ℕ)) → IsTrue (is_there names labels) → IsTrue (is_there names others)
-      → place_of names labels ≡ place_of names others → labels ≡ others
+      → name_offset names labels ≡ name_offset names others → labels ≡ others
   one_rest [] [] there here same = refl
   one_rest [] (label ∷ others) there here same = absurd (root_apart label others here same)
   one_rest (label ∷ labels) [] there here same = absurd (root_apart label labels there (sym same))
@@ -61,7 +61,7 @@ module _ {octets : List ℕ} {targets : List Target} {names : Names} (agrees : T
       let held = agrees.held index d has.within in
       let mine = agrees.all held.label held.rest held.place held.there in
       let same : name_key names held.label held.rest ≡ name_key names label rest =
-      sym (ap (key_of octets) held.target_is ∙ ap (key (place_of names held.rest)) mine.label_is) ∙ has.is d in
+      sym (ap (key_of octets) held.target_is ∙ ap (key (name_offset names held.rest)) mine.label_is) ∙ has.is d in
       let same_label : held.label ≡ label = ap (drop 3) same in
       let same_rest : held.rest ≡ rest =
       one_rest held.rest rest mine.more there (ap (λ xs. slice_index_or xs 0 0) same) in (

@@ -28,9 +28,9 @@ pub record IsSoundMessage (most : ℕ) (octets : List ℕ) (held : List Target) 
   pub apart : AreTargetsApart octets data_start held
 
 -- what contracts see of it
-abbrev pub composed : {B T : Type 0} {most : ℕ} {octets : List ℕ} {held : List Target} {entry_start data_start : ℕ}
+abbrev pub composed_of : {B T : Type 0} {most : ℕ} {octets : List ℕ} {held : List Target} {entry_start data_start : ℕ}
     → B → T → IsSoundMessage most octets held entry_start data_start → Composed B T
-composed {data_start = data_start} builder table sound = record {
+composed_of {data_start = data_start} builder table sound = record {
   octets = builder;
   table = table;
   state = state_of sound.now;

@@ -1,7 +1,7 @@
 -- How a name ends among names that are kept.
 use Rattle.std.specs.Prelude.{◌≡◌, ℕ, ◌-◌, ◌<◌, None, List, take, drop, IsTrue}
 use Rattle.std.specs.FinMap.{get}
-use Rattle.octseq_dns_compress.specs.TableMatches.{place_of}
+use Rattle.octseq_dns_compress.specs.TableMatches.{name_offset}
 use Rattle.octseq_dns_compress.specs.Key.{key, IsPosition}
 use Rattle.octseq_dns_compress.specs.Names.{Names, is_there, first_labels, label_no, last_place, pointers_from}
 use Rattle.octseq_dns_compress.specs.Names.{prefixed}
@@ -12,7 +12,7 @@ use Rattle.octseq_dns_compress.specs.declared.table.Target.{Target}
 -- them.
 pub record IsSuffixAt (names : Names) (labels : List (List ℕ)) (next pointers : ℕ) : Type 0 where
   pub there : IsTrue (is_there names labels)
-  pub next_is : next ≡ place_of names labels
+  pub next_is : next ≡ name_offset names labels
   pub pointers_are : pointers ≡ pointers_from (get names labels)
 
 -- The labels that are written are those before the ones that are there. They aren't there, and the target of the last

@@ -6,14 +6,14 @@ use Rattle.octseq_dns_compress.specs.Names.{Names, Place, at_or_zero, is_there, 
 use Rattle.octseq_dns_compress.specs.declared.table.Target.{Target}
 
 -- the offset of labels, or 0 if they are the root or have no place
-abbrev pub place_of : Names → List (List ℕ) → ℕ
-place_of names labels = at_or_zero (get names labels)
+abbrev pub name_offset : Names → List (List ℕ) → ℕ
+name_offset names labels = at_or_zero (get names labels)
 
 -- the target of a label at a place, followed by `rest`
 abbrev pub target_of : Names → List ℕ → List (List ℕ) → Place → Target
 target_of names label rest place = record {
   at = place.at;
-  next = place_of names rest;
+  next = name_offset names rest;
   pointers = place.pointers;
   digest = digest_of (prefixed label);
 }

@@ -34,13 +34,13 @@ impl<B: AsOctets, T: Compressor> Model for Composer<B, T> {
     ghost use Rattle.std.specs.Coded.{codes};
     ghost use Rattle.octseq_dns_compress.specs.Composed.{Composed};
     ghost use Rattle.octseq_dns_compress.specs.NamesOf.{names_code};
-    ghost use Rattle.octseq_dns_compress.specs.Sound.{composed};
+    ghost use Rattle.octseq_dns_compress.specs.Sound.{composed_of};
 
     ghost Value = { Composed B T };
 
     ghost coded = { Prim.hlevel (codes, names_code) };
 
-    ghost view = { λ c. composed c.octets c.table c.sound };
+    ghost view = { λ c. composed_of c.octets c.table c.sound };
 }
 
 impl<B: OctetsBuilder, T: Compressor> Composer<B, T> {

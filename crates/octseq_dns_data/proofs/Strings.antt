@@ -14,7 +14,7 @@ use Rattle.octseq.proofs.WrittenBack.{small_be}
 use Rattle.octseq_dns_data.specs.Strings.{HasString}
 use Rattle.octseq_dns_data.specs.OneRow.{row_on, string_item}
 use Rattle.octseq_dns_data.specs.Strings.{spelling}
-use Rattle.octseq_format.specs.Canonical.{IsSound, many_rest, many_next, each_next}
+use Rattle.octseq_format.specs.Canonical.{IsSoundWindow, many_rest, many_next, each_next}
 use Rattle.octseq_format.specs.Counted.{Counted, CountFits, counted_octets, onward_counted, canonical_counted}
 use Rattle.octseq_format.specs.Laws.{Relation, NoneAt}
 use Rattle.octseq_format.specs.Rest.{IsRest, canonical_rest}
@@ -130,12 +130,12 @@ pub record Taken (w : Window) (end : ℕ) (strings : List (List ℕ)) : Type 0 w
   pub spelled : slice_range w.octets w.position end ≡ spelling strings
   pub short : All (λ string. length string ≤ 255) strings
 
-pub taken : (w : Window) (end : ℕ) (found : List Window) (v : Window) → IsSound w → w.position ≤ end → end ≤ w.end
+pub taken : (w : Window) (end : ℕ) (found : List Window) (v : Window) → IsSoundWindow w → w.position ≤ end → end ≤ w.end
     → RowTo IsFound (up_to end w) found v → Taken w end (map rest found)
 taken w end found v sound ordered within is =
     let u = up_to end w in
     let said = map rest found in
-    let inside : IsSound u =
+    let inside : IsSoundWindow u =
     record { each = sound.each; ordered = ordered; within = omega (arith, within, sound.within) } in
     let on = (onward_row IsFound (onward_moved (onward_counted 1 0 IsRest))).on u found v ordered is.0 in
     let canonical = canonical_moved (canonical_counted {k = 1} {extra = 0} canonical_rest) in
@@ -164,7 +164,7 @@ none_found w v found none is =
     ap left (sym here) ∙ is.1
 
 -- a string is as short as its length can say
-pub short_string : (w inside v : Window) → IsSound w → Counted 1 0 IsRest w inside v → left inside ≤ 255
+pub short_string : (w inside v : Window) → IsSoundWindow w → Counted 1 0 IsRest w inside v → left inside ≤ 255
 short_string w inside v sound is =
     let small = small_be (next 1 w) (each_next 1 w sound) in
     let number = is.2 in

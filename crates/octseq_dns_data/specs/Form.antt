@@ -186,8 +186,8 @@ string HasForm text read_as = record {
 }
 
 -- all octets up to the end, which have a form, with their text and what it is read as
-abbrev pub octets_of : (List ℕ → Type 0) → (List ℕ → List ℕ) → Tail → Form
-octets_of HasForm text read_as = record {
+abbrev pub formed_rest : (List ℕ → Type 0) → (List ℕ → List ℕ) → Tail → Form
+formed_rest HasForm text read_as = record {
   Found = Window;
   Said = List ℕ;
   Is = IsFormed HasForm;
@@ -202,8 +202,8 @@ octets_of HasForm text read_as = record {
 }
 
 -- all octets up to the end, whatever they are, with their text and what it is read as
-abbrev pub all_octets : (List ℕ → List ℕ) → Tail → Form
-all_octets text read_as = record {
+abbrev pub rest_form : (List ℕ → List ℕ) → Tail → Form
+rest_form text read_as = record {
   Found = Window;
   Said = List ℕ;
   Is = IsRest;

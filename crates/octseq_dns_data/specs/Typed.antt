@@ -7,7 +7,7 @@ use Rattle.octseq.specs.OctetsText.{hex_text, string_text}
 use Rattle.octseq.specs.Parser.{window}
 use Rattle.octseq.specs.Window.{Window, rest}
 use Rattle.octseq_dns_data.specs.Form.{FormPart, Form, ◌and_then◌, ◌followed_by◌, ◌then_each◌, alone, no_form, number}
-use Rattle.octseq_dns_data.specs.Form.{domain_name, plain_name, string, octets_of, all_octets}
+use Rattle.octseq_dns_data.specs.Form.{domain_name, plain_name, string, formed_rest, rest_form}
 use Rattle.octseq_dns_data.specs.Formed.{IsString, IsSome, IsSomeString}
 use Rattle.octseq_dns_data.specs.Layout.{TextLayout, layout_value}
 use Rattle.octseq_dns_data.specs.Mnemonic.{rtype_text}
@@ -82,20 +82,20 @@ time = record (number 4) { fields = field.Time ∷ [] }
 
 -- one or more octets, in hexadecimal and in base 64
 abbrev pub some_hexadecimal : Form
-some_hexadecimal = octets_of IsSome hexadecimal tail.Hex
+some_hexadecimal = formed_rest IsSome hexadecimal tail.Hex
 
 abbrev pub some_base64 : Form
-some_base64 = octets_of IsSome base64_text tail.Base64
+some_base64 = formed_rest IsSome base64_text tail.Base64
 
 -- the types of a bitmap; reading it takes a turn for each window block
 abbrev pub bitmap : Form
-bitmap = record (octets_of IsRtypeBitmap (λ octets. rtypes_text (types_of octets)) tail.Types) {
+bitmap = record (formed_rest IsRtypeBitmap (λ octets. rtypes_text (types_of octets)) tail.Types) {
   turns = λ place. bitmap_turns (rest place);
 }
 
 -- service parameters
 abbrev pub svc_params : Form
-svc_params = record (octets_of IsSvcParams svc_params_text tail.Params) { turns = λ place. params_turns (rest place) }
+svc_params = record (formed_rest IsSvcParams svc_params_text tail.Params) { turns = λ place. params_turns (rest place) }
 
 -- ---- types whose names may have pointers: what was found of each, and its parts
 
@@ -293,7 +293,7 @@ csync_of csync = (csync.serial, (csync.flags, bitmap_place csync.types))
 
 -- Who may issue certificates: the flags, the tag, which is shown as it is, the value (RFC 8659, 4.1).
 abbrev pub caa_form : Form
-caa_form = number 1 followed_by string IsCaaTag (λ tag. tag) field.Tag followed_by all_octets string_text tail.Value
+caa_form = number 1 followed_by string IsCaaTag (λ tag. tag) field.Tag followed_by rest_form string_text tail.Value
 
 abbrev pub caa_of : {R : Type 0} {g : Ghosts R} → Caa R g → caa_form.Found
 caa_of caa = (caa.flags, (tag_place caa.tag, window caa.value))
@@ -307,7 +307,7 @@ svcb_of svcb = (svcb.priority, (name_of svcb.target, params_place svcb.params))
 
 -- The location of a service: the priority, the weight, the URI (RFC 7553, 4).
 abbrev pub uri_form : Form
-uri_form = number 2 followed_by number 2 followed_by octets_of IsSome string_text tail.Target
+uri_form = number 2 followed_by number 2 followed_by formed_rest IsSome string_text tail.Target
 
 abbrev pub uri_of : {R : Type 0} {g : Ghosts R} → Uri R g → uri_form.Found
 uri_of uri = (uri.priority, (uri.weight, some_place uri.target))

@@ -10,7 +10,7 @@ use Rattle.octseq_dns_name.specs.NameFormat.{has_labels_takes}
 use Rattle.octseq_dns_name.specs.OneName.{at_label, at_pointer, one_has_labels, one_labels, one_name, Named, Ahead}
 use Rattle.octseq_dns_name.specs.OneName.{ahead_once}
 use Rattle.octseq_dns_name.specs.Pass.{LeadsTo, NameReading}
-use Rattle.octseq_dns_name.specs.Piece.{Piece, HasPiece, end_of}
+use Rattle.octseq_dns_name.specs.Piece.{Piece, HasPiece, end_of_name}
 
 -- ---- what is ahead
 
@@ -43,7 +43,7 @@ pub leads_past_label : (first : ℕ) (w : Window) (start : ℕ) (v u : Window) (
     → LeadsTo first w start v labels pointers after → HasLabel v l u
     → LeadsTo first w start u (labels ++ l ∷ []) pointers after
 leads_past_label first w start v u labels pointers l after so_far has = record {
-  forward = λ more fewer x has_labels. subst (λ all. HasLabels first w all (pointers + fewer) (end_of after x))
+  forward = λ more fewer x has_labels. subst (λ all. HasLabels first w all (pointers + fewer) (end_of_name after x))
       (sym (append_assoc labels (l ∷ []) more))
       (so_far.forward (l ∷ more) fewer x (HasLabels.label has has_labels));
   backward = λ all count x has_labels.
@@ -64,11 +64,11 @@ leads_past_label first w start v u labels pointers l after so_far has = record {
 pub leads_past_pointer : (first : ℕ) (w : Window) (start : ℕ) (v u : Window) (labels : List (List ℕ)) (pointers : ℕ)
     (to : ℕ) (after : Option Window)
     → LeadsTo first w start v labels pointers after → HasPointer start v to u
-    → LeadsTo first w to (at to v) labels (pointers + 1) (Some (end_of after u))
+    → LeadsTo first w to (at to v) labels (pointers + 1) (Some (end_of_name after u))
 leads_past_pointer first w start v u labels pointers to after so_far has = record {
   forward = λ more fewer x has_labels.
       let same : pointers + suc fewer ≡ pointers + 1 + fewer = omega arith in
-      subst (λ n. HasLabels first w (labels ++ more) n (end_of after u)) same
+      subst (λ n. HasLabels first w (labels ++ more) n (end_of_name after u)) same
       (so_far.forward more (suc fewer) u (HasLabels.pointer has has_labels));
   backward = λ all count x has_labels.
       let before = so_far.backward all count x has_labels in
@@ -82,18 +82,19 @@ leads_past_pointer first w start v u labels pointers to after so_far has = recor
         has_labels = on.4;
         labels_are = before.labels_are;
         pointers_are = omega (arith, fewer, counted);
-        end_is = before.end_is ∙ ap (end_of after) on.3;
+        end_is = before.end_is ∙ ap (end_of_name after) on.3;
       };
 }
 
 -- it ends at the root
 pub leads_to_root : (first : ℕ) (w : Window) (start : ℕ) (v u : Window) (labels : List (List ℕ)) (pointers : ℕ)
     (after : Option Window)
-    → LeadsTo first w start v labels pointers after → HasRoot v u → HasLabels first w labels pointers (end_of after u)
+    → LeadsTo first w start v labels pointers after → HasRoot v u
+    → HasLabels first w labels pointers (end_of_name after u)
 leads_to_root first w start v u labels pointers after so_far has =
     let same : pointers + 0 ≡ pointers = omega arith in
-    subst (λ n. HasLabels first w labels n (end_of after u)) same
-    (subst (λ all. HasLabels first w all (pointers + 0) (end_of after u)) (append-nil labels)
+    subst (λ n. HasLabels first w labels n (end_of_name after u)) same
+    (subst (λ all. HasLabels first w all (pointers + 0) (end_of_name after u)) (append-nil labels)
     (so_far.forward [] 0 u (HasLabels.root has)))
 
 -- ---- lengths
@@ -141,7 +142,7 @@ with_label w start v u size made pointers after l old before new so_far has is t
 pub with_pointer : (w : Window) (start : ℕ) (v u : Window) (size pointers : ℕ) (after : Option Window) (to : ℕ)
     (old before new : ℕ) → NameReading w start v size pointers after old before
     → HasPointer start v to u → new ≡ before + 1
-    → NameReading w to (at to v) size (pointers + 1) (Some (end_of after u)) old new
+    → NameReading w to (at to v) size (pointers + 1) (Some (end_of_name after u)) old new
 with_pointer w start v u size pointers after to old before new so_far has tick = record {
   labels = so_far.labels;
   read = leads_past_pointer w.position w start v u so_far.labels pointers to after so_far.read has;

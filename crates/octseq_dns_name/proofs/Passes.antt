@@ -22,7 +22,7 @@ use Rattle.octseq_dns_name.specs.Pass.{
   Rests,
   NameEnds,
 }
-use Rattle.octseq_dns_name.specs.Piece.{Piece, HasPiece, end_of}
+use Rattle.octseq_dns_name.specs.Piece.{Piece, HasPiece, end_of_name}
 use Rattle.octseq_dns_name.proofs.Names.{begun, no_piece, leads_past_pointer, leads_to_root, with_label}
 use Rattle.octseq_dns_name.proofs.Names.{with_pointer, wire_append, wire_some}
 
@@ -255,9 +255,9 @@ module _ (octets : List ℕ) (on end start to before len pointers old between : 
     rests_pointer next new some has tick =
         let u = window_at octets (to + 2) end in
         let same : pointers - 1 + 1 ≡ pointers + 1 - 1 = omega (arith, some) in (
-          Some (end_of so_far.0 u),
+          Some (end_of_name so_far.0 u),
           subst (λ n. NameReading (window_at octets on end) next (window_at octets next end)
-              (len + 1 - before) n (Some (end_of so_far.0 u)) old new) same
+              (len + 1 - before) n (Some (end_of_name so_far.0 u)) old new) same
               (with_pointer (window_at octets on end) start (window_at octets to end) u (len + 1 - before)
               (pointers - 1)
               so_far.0 next old between new so_far.1 has tick),
@@ -290,7 +290,7 @@ module _ (octets : List ℕ) (on end start to before len pointers old between : 
           record {
             labels = read.labels;
             pointers = pointers - 1;
-            end = end_of so_far.0 u;
+            end = end_of_name so_far.0 u;
             has_labels = leads_to_root on (window_at octets on end) start (window_at octets to end) u read.labels
                 (pointers - 1) so_far.0 read.read (root_at octets to end size within room is none);
             size = omega (arith, made, fewer);

@@ -3,7 +3,7 @@ use Rattle.std.specs.Prelude.{◌≡◌, ℕ, ◌+◌, ◌-◌, ◌*◌, ◌<◌
 use Rattle.octseq.specs.Window.{Window, at}
 use Rattle.octseq_dns_name.specs.Name.{IsName, HasLabels, octet, wire_length}
 use Rattle.octseq_dns_name.specs.NameTurns.{name_turns}
-use Rattle.octseq_dns_name.specs.Piece.{end_of}
+use Rattle.octseq_dns_name.specs.Piece.{end_of_name}
 
 -- the window of octets at a place, with an end
 abbrev pub window_at : List ℕ → ℕ → ℕ → Window
@@ -26,14 +26,14 @@ pub record GoesOn (start : ℕ) (v : Window) (labels : List (List ℕ)) (pointer
   pub has_labels : HasLabels start v more fewer u
   pub labels_are : all ≡ labels ++ more
   pub pointers_are : count ≡ pointers + fewer
-  pub end_is : x ≡ end_of after u
+  pub end_is : x ≡ end_of_name after u
 
 -- These labels and pointers lead from a first window to a second one: a name is at the first if and only if the rest of
 -- it is at the second.
 pub record LeadsTo (first : ℕ) (w : Window) (start : ℕ) (v : Window) (labels : List (List ℕ)) (pointers : ℕ)
     (after : Option Window) : Type 0 where
   pub forward : (more : List (List ℕ)) (fewer : ℕ) (u : Window) → HasLabels start v more fewer u
-      → HasLabels first w (labels ++ more) (pointers + fewer) (end_of after u)
+      → HasLabels first w (labels ++ more) (pointers + fewer) (end_of_name after u)
   pub backward : (all : List (List ℕ)) (count : ℕ) (x : Window) → HasLabels first w all count x
       → GoesOn start v labels pointers after all count x
 

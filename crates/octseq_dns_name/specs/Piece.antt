@@ -42,6 +42,6 @@ IsPlaced w (step.Label l) = window l ≡ part 1 w
 IsPlaced w _ = Unit {0}
 
 -- where a name ends: after its first pointer, if there was one
-abbrev pub end_of : Option Window → Window → Window
-end_of None u = u
-end_of (Some v) u = v
+abbrev pub end_of_name : Option Window → Window → Window
+end_of_name None u = u
+end_of_name (Some v) u = v

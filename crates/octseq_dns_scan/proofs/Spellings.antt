@@ -4,7 +4,7 @@ use Rattle.std.proofs.Common.{refl, sym, ap, ◌∙◌, subst, append_assoc, ari
 use Rattle.std.proofs.Math.Bool.{true≢false}
 use Rattle.std.proofs.lemmas.List.{length-append, append-nil, append_cancel_right}
 use Rattle.std.specs.Char.{is_ascii_digit}
-use Rattle.octseq_dns_scan.specs.Spelled.{is_special_in_string, SpellsOctet, SpellsOctets, SpellsString}
+use Rattle.octseq_dns_scan.specs.Spelled.{is_special_in_string, SpellsOctetBut, SpellsOctets, SpellsString}
 use Rattle.octseq_dns_scan.proofs.Mades.{head, tail}
 
 -- ---- octets
@@ -25,41 +25,41 @@ quote true = refl
 quote false = refl
 
 -- a spelling of an octet determines it, and what follows it
-octet_once : (special : ℕ → Bool) → special 92 ≡ true → (a b : ℕ) (s t xs ys : List ℕ) → SpellsOctet special a s
-    → SpellsOctet special b t → s ++ xs ≡ t ++ ys → (a ≡ b) × (xs ≡ ys)
-octet_once special is a b s t xs ys (SpellsOctet.plain bare) (SpellsOctet.plain other_bare) same =
+octet_once : (special : ℕ → Bool) → special 92 ≡ true → (a b : ℕ) (s t xs ys : List ℕ) → SpellsOctetBut special a s
+    → SpellsOctetBut special b t → s ++ xs ≡ t ++ ys → (a ≡ b) × (xs ≡ ys)
+octet_once special is a b s t xs ys (SpellsOctetBut.plain bare) (SpellsOctetBut.plain other_bare) same =
     (head same, tail same)
-octet_once special is a b s t xs ys (SpellsOctet.plain bare) (SpellsOctet.escaped letter) same =
+octet_once special is a b s t xs ys (SpellsOctetBut.plain bare) (SpellsOctetBut.escaped letter) same =
     absurd (true≢false (sym is ∙ ap special (sym (head same)) ∙ bare))
-octet_once special is a b s t xs ys (SpellsOctet.plain bare) (SpellsOctet.numbered few) same =
+octet_once special is a b s t xs ys (SpellsOctetBut.plain bare) (SpellsOctetBut.numbered few) same =
     absurd (true≢false (sym is ∙ ap special (sym (head same)) ∙ bare))
-octet_once special is a b s t xs ys (SpellsOctet.escaped letter) (SpellsOctet.plain bare) same =
+octet_once special is a b s t xs ys (SpellsOctetBut.escaped letter) (SpellsOctetBut.plain bare) same =
     absurd (true≢false (sym is ∙ ap special (head same) ∙ bare))
-octet_once special is a b s t xs ys (SpellsOctet.escaped letter) (SpellsOctet.escaped other_letter) same =
+octet_once special is a b s t xs ys (SpellsOctetBut.escaped letter) (SpellsOctetBut.escaped other_letter) same =
     (head (tail same), tail (tail same))
-octet_once special is a b s t xs ys (SpellsOctet.escaped letter) (SpellsOctet.numbered few) same =
+octet_once special is a b s t xs ys (SpellsOctetBut.escaped letter) (SpellsOctetBut.numbered few) same =
     absurd (true≢false (sym (digit_is b few) ∙ ap is_ascii_digit (sym (head (tail same))) ∙ letter))
-octet_once special is a b s t xs ys (SpellsOctet.numbered few) (SpellsOctet.plain bare) same =
+octet_once special is a b s t xs ys (SpellsOctetBut.numbered few) (SpellsOctetBut.plain bare) same =
     absurd (true≢false (sym is ∙ ap special (head same) ∙ bare))
-octet_once special is a b s t xs ys (SpellsOctet.numbered few) (SpellsOctet.escaped letter) same =
+octet_once special is a b s t xs ys (SpellsOctetBut.numbered few) (SpellsOctetBut.escaped letter) same =
     absurd (true≢false (sym (digit_is a few) ∙ ap is_ascii_digit (head (tail same)) ∙ letter))
-octet_once special is a b s t xs ys (SpellsOctet.numbered few) (SpellsOctet.numbered other_few) same =
+octet_once special is a b s t xs ys (SpellsOctetBut.numbered few) (SpellsOctetBut.numbered other_few) same =
     let second = tail same in let third = tail second in let fourth = tail third in
     (numbers a b (head second) (head third) (head fourth), tail fourth)
 
 -- a spelling of an octet isn't empty
-pub octet_some : (special : ℕ → Bool) (a : ℕ) (s : List ℕ) → SpellsOctet special a s → 1 ≤ length s
-octet_some special a s (SpellsOctet.plain bare) = omega arith
-octet_some special a s (SpellsOctet.escaped letter) = omega arith
-octet_some special a s (SpellsOctet.numbered few) = omega arith
+pub octet_some : (special : ℕ → Bool) (a : ℕ) (s : List ℕ) → SpellsOctetBut special a s → 1 ≤ length s
+octet_some special a s (SpellsOctetBut.plain bare) = omega arith
+octet_some special a s (SpellsOctetBut.escaped letter) = omega arith
+octet_some special a s (SpellsOctetBut.numbered few) = omega arith
 
 -- and begins with no quotation mark
-octet_apart : (special : ℕ → Bool) → special 34 ≡ true → (a : ℕ) (s xs ys : List ℕ) → SpellsOctet special a s
+octet_apart : (special : ℕ → Bool) → special 34 ≡ true → (a : ℕ) (s xs ys : List ℕ) → SpellsOctetBut special a s
     → ¬ (s ++ xs ≡ 34 ∷ ys)
-octet_apart special is a s xs ys (SpellsOctet.plain bare) same =
+octet_apart special is a s xs ys (SpellsOctetBut.plain bare) same =
     true≢false (sym is ∙ ap special (sym (head same)) ∙ bare)
-octet_apart special is a s xs ys (SpellsOctet.escaped letter) same = let e = head same in absurd (omega (arith, e))
-octet_apart special is a s xs ys (SpellsOctet.numbered few) same = let e = head same in absurd (omega (arith, e))
+octet_apart special is a s xs ys (SpellsOctetBut.escaped letter) same = let e = head same in absurd (omega (arith, e))
+octet_apart special is a s xs ys (SpellsOctetBut.numbered few) same = let e = head same in absurd (omega (arith, e))
 
 -- ---- octets, one after another
 
@@ -74,7 +74,7 @@ reads_none special text = record { to = λ octets spells. spells; from = λ octe
 
 -- the first octet of a text is the one that it begins with
 octet_first : (special : ℕ → Bool) → special 92 ≡ true → (octet : ℕ) (octets text first rest : List ℕ)
-    → text ≡ first ++ rest → SpellsOctet special octet first → SpellsOctets special octets text
+    → text ≡ first ++ rest → SpellsOctetBut special octet first → SpellsOctets special octets text
     → (more : List ℕ) × (octets ≡ octet ∷ more) × SpellsOctets special more rest
 octet_first special is octet [] text first rest same one spells =
     let some = octet_some special octet first one in
@@ -87,7 +87,7 @@ octet_first special is octet (other ∷ octets) text first rest same one spells 
 
 -- one more octet
 pub reads_more : (special : ℕ → Bool) → special 92 ≡ true → (done text ahead first rest : List ℕ) (octet : ℕ)
-    → Reads special done text ahead → ahead ≡ first ++ rest → SpellsOctet special octet first
+    → Reads special done text ahead → ahead ≡ first ++ rest → SpellsOctetBut special octet first
     → Reads special (done ++ octet ∷ []) text rest
 reads_more special is done text ahead first rest octet so_far same one = record {
   to = λ octets spells.
@@ -109,14 +109,14 @@ reads_all special done text ahead so_far end =
     subst (λ l. SpellsOctets special l text) (append-nil done) (so_far.to [] end)
 
 not_ahead : (special : ℕ → Bool) (ahead more : List ℕ) → ¬ (ahead ≡ [])
-    → ((octet : ℕ) (first rest : List ℕ) → ahead ≡ first ++ rest → ¬ SpellsOctet special octet first)
+    → ((octet : ℕ) (first rest : List ℕ) → ahead ≡ first ++ rest → ¬ SpellsOctetBut special octet first)
     → ¬ SpellsOctets special more ahead
 not_ahead special ahead [] some none spells = some spells
 not_ahead special ahead (octet ∷ more) some none spells = none octet spells.0 spells.1 spells.2 spells.3
 
 -- where no octet comes, nothing is spelled
 pub reads_fails : (special : ℕ → Bool) (done text ahead : List ℕ) → Reads special done text ahead → ¬ (ahead ≡ [])
-    → ((octet : ℕ) (first rest : List ℕ) → ahead ≡ first ++ rest → ¬ SpellsOctet special octet first)
+    → ((octet : ℕ) (first rest : List ℕ) → ahead ≡ first ++ rest → ¬ SpellsOctetBut special octet first)
     → (octets : List ℕ) → ¬ SpellsOctets special octets text
 reads_fails special done text ahead so_far some none octets spells =
     let left = so_far.from octets spells in not_ahead special ahead left.0 some none left.2

@@ -7,8 +7,8 @@ use Rattle.std.specs.Char.{is_ascii_digit, is_ascii_graphic}
 use Rattle.std.specs.List.{All, AllByRecursion, flat_map}
 use Rattle.octseq.specs.OctetsText.{is_string_quoted, string_octet_text, string_text, three_digits}
 use Rattle.octseq_dns_scan.specs.Made.{IsMade}
-use Rattle.octseq_dns_scan.specs.Spelled.{is_special_in_string, SpellsOctet, SpellsOctets, SpellsString}
-use Rattle.octseq_dns_scan.specs.Word.{is_special, IsPieceBut, IsPiece, IsPart, IsWord}
+use Rattle.octseq_dns_scan.specs.Spelled.{is_special_in_string, SpellsOctetBut, SpellsOctets, SpellsString}
+use Rattle.octseq_dns_scan.specs.Word.{is_special, IsPieceBut, IsWordPiece, IsWordPart, IsWord}
 use Rattle.octseq_dns_scan.proofs.Mades.{made_none, made_first, made_append}
 
 -- ---- what texts are made of
@@ -26,12 +26,12 @@ record Wider (narrow wide : ℕ → Bool) : Type 0 where
   digit : (n : ℕ) → n < 10 → wide (48 + n) ≡ false
 
 octet_made : (narrow wide : ℕ → Bool) → Wider narrow wide → (octet : ℕ) (text : List ℕ)
-    → SpellsOctet narrow octet text → IsMade (IsPieceBut wide) text
-octet_made narrow wide wider octet text (SpellsOctet.plain bare) =
+    → SpellsOctetBut narrow octet text → IsMade (IsPieceBut wide) text
+octet_made narrow wide wider octet text (SpellsOctetBut.plain bare) =
     made_first (IsPieceBut wide) text [] (IsPieceBut.plain (wider.bare octet bare)) (made_none (IsPieceBut wide))
-octet_made narrow wide wider octet text (SpellsOctet.escaped letter) =
+octet_made narrow wide wider octet text (SpellsOctetBut.escaped letter) =
     made_first (IsPieceBut wide) text [] IsPieceBut.escaped (made_none (IsPieceBut wide))
-octet_made narrow wide wider octet text (SpellsOctet.numbered few) =
+octet_made narrow wide wider octet text (SpellsOctetBut.numbered few) =
     let P = IsPieceBut wide in
     let first = (48 + octet / 100) in
     let second = (48 + octet / 10 % 10) in
@@ -60,12 +60,12 @@ string_word octets word (SpellsString.quoted inside same spells) =
     let made = octets_made (is_special_in_string true) (is_special_in_string true) quoted_wider octets inside spells in
     let size = ap length same in (
       omega (arith, size),
-      subst (IsMade IsPart) (append-nil word)
-          (made_first IsPart word [] (inr (inside, made, same)) (made_none IsPart)),
+      subst (IsMade IsWordPart) (append-nil word)
+          (made_first IsWordPart word [] (inr (inside, made, same)) (made_none IsWordPart)),
     )
 string_word octets word (SpellsString.bare some spells) =
     let made = octets_made (is_special_in_string false) is_special bare_wider octets word spells in
-    (some, (made.0, all_weaker IsPiece IsPart (λ p one. inl one) made.0 made.1, made.2))
+    (some, (made.0, all_weaker IsWordPiece IsWordPart (λ p one. inl one) made.0 made.1, made.2))
 
 -- ---- what is printed
 
@@ -73,11 +73,11 @@ letters : (octet : ℕ) → is_string_quoted octet ≡ true → is_ascii_digit o
 letters octet is = search rules
 
 by_case : (octet : ℕ) (a b : Bool) → is_string_quoted octet ≡ a → octet < 256
-    → SpellsOctet (is_special_in_string true) octet
+    → SpellsOctetBut (is_special_in_string true) octet
     (if a then 92 ∷ octet ∷ [] else (if b then octet ∷ [] else 92 ∷ three_digits octet))
-by_case octet true b is few = SpellsOctet.escaped (letters octet is)
-by_case octet false true is few = SpellsOctet.plain is
-by_case octet false false is few = SpellsOctet.numbered few
+by_case octet true b is few = SpellsOctetBut.escaped (letters octet is)
+by_case octet false true is few = SpellsOctetBut.plain is
+by_case octet false false is few = SpellsOctetBut.numbered few
 
 octets_spelled : (octets : List ℕ) → AllByRecursion (λ octet. octet < 256) octets
     → SpellsOctets (is_special_in_string true) octets (flat_map string_octet_text octets)

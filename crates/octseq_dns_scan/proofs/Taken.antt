@@ -6,24 +6,24 @@ use Rattle.std.proofs.lemmas.List.{length-append, append-nil}
 use Rattle.std.proofs.lemmas.List.Elements.{recursion_from_All}
 use Rattle.std.specs.List.{All, AllByRecursion}
 use Rattle.octseq_dns_scan.specs.Made.{IsMade, Leaves}
-use Rattle.octseq_dns_scan.specs.Word.{is_blank, is_special, IsPieceBut, IsPart, IsWord, EndsWord, BeginsNoBlank}
+use Rattle.octseq_dns_scan.specs.Word.{is_blank, is_special, IsPieceBut, IsWordPart, IsWord, EndsWord, BeginsNoBlank}
 use Rattle.octseq_dns_scan.specs.Word.{TakesWord, AreWords}
 use Rattle.octseq_dns_scan.proofs.Mades.{tail, made_none, made_first, made_append, made_once}
 use Rattle.octseq_dns_scan.proofs.WordCodes.{part_code}
 
 -- what is left after the parts of a word that is taken
-taken_leaves : (word text rest : List ℕ) → (taken : TakesWord word text rest) → Leaves IsPart EndsWord text taken.1
+taken_leaves : (word text rest : List ℕ) → (taken : TakesWord word text rest) → Leaves IsWordPart EndsWord text taken.1
 taken_leaves word text rest taken = (word, taken.2.1, taken.3, taken.4)
 
-pub not_taken : (text : List ℕ) → ((rest : List ℕ) → ¬ Leaves IsPart EndsWord text rest) → (word rest : List ℕ)
+pub not_taken : (text : List ℕ) → ((rest : List ℕ) → ¬ Leaves IsWordPart EndsWord text rest) → (word rest : List ℕ)
     → ¬ TakesWord word text rest
 not_taken text none word rest taken = none taken.1 (taken_leaves word text rest taken)
 
 -- if all is left after the parts that were found, there are none, and no word
-pub none_taken : (text left : List ℕ) → Leaves IsPart EndsWord text left → length text - length left ≡ 0
+pub none_taken : (text left : List ℕ) → Leaves IsWordPart EndsWord text left → length text - length left ≡ 0
     → (word rest : List ℕ) → ¬ TakesWord word text rest
 none_taken text left found all word rest taken =
-    let both = made_once IsPart EndsWord part_code word found.0 taken.1 left taken.2.1 found.1 taken.4 found.3
+    let both = made_once IsWordPart EndsWord part_code word found.0 taken.1 left taken.2.1 found.1 taken.4 found.3
     (sym taken.3 ∙ found.2) in
     let size = ap length found.2 ∙ length-append found.0 left in
     let same = ap length both.0 in
@@ -51,7 +51,7 @@ blanks_once (a ∷ blanks) (b ∷ others) rest left are others_are ends others_e
 pub word_once : (word other text rest left : List ℕ) → TakesWord word text rest → TakesWord other text left
     → (word ≡ other) × (rest ≡ left)
 word_once word other text rest left one two =
-    let both = made_once IsPart EndsWord part_code word other one.1 two.1 one.2.1 two.2.1 one.4 two.4
+    let both = made_once IsWordPart EndsWord part_code word other one.1 two.1 one.2.1 two.2.1 one.4 two.4
     (sym one.3 ∙ two.3) in
     (both.0, blanks_once one.0 two.0 rest left one.5.0 two.5.0 one.5.2 two.5.2 (sym one.5.1 ∙ both.1 ∙ two.5.1))
 
@@ -81,10 +81,10 @@ pub taken_end : (word : List ℕ) → IsWord word → TakesWord word word []
 taken_end word is = ([], [], is, sym (append-nil word), tt, (tt, refl, tt))
 
 -- octets that stand for themselves are a word
-plain_made : (octets : List ℕ) → AllByRecursion (λ octet. is_special octet ≡ false) octets → IsMade IsPart octets
-plain_made [] are = made_none IsPart
+plain_made : (octets : List ℕ) → AllByRecursion (λ octet. is_special octet ≡ false) octets → IsMade IsWordPart octets
+plain_made [] are = made_none IsWordPart
 plain_made (octet ∷ octets) are =
-    made_first IsPart (octet ∷ []) octets (inl (IsPieceBut.plain are.0)) (plain_made octets are.1)
+    made_first IsWordPart (octet ∷ []) octets (inl (IsPieceBut.plain are.0)) (plain_made octets are.1)
 
 pub plain_word : (octets : List ℕ) → 1 ≤ length octets → All (λ octet. is_special octet ≡ false) octets → IsWord octets
 plain_word octets some are =
@@ -93,10 +93,10 @@ plain_word octets some are =
 -- and so are a backslash and an octet, and two words
 pub escaped_word : (octet : ℕ) → IsWord (92 ∷ octet ∷ [])
 escaped_word octet =
-    (omega arith, made_first IsPart (92 ∷ octet ∷ []) [] (inl IsPieceBut.escaped) (made_none IsPart))
+    (omega arith, made_first IsWordPart (92 ∷ octet ∷ []) [] (inl IsPieceBut.escaped) (made_none IsWordPart))
 
 pub joined_word : (word other : List ℕ) → IsWord word → IsWord other → IsWord (word ++ other)
 joined_word word other one two =
     let size = length-append word other in
     let some = one.0 in
-    (omega (arith, size, some), made_append IsPart word other one.1 two.1)
+    (omega (arith, size, some), made_append IsWordPart word other one.1 two.1)

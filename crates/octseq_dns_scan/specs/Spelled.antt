@@ -14,16 +14,16 @@ is_special_in_string true octet = is_special_in_quotes octet
 is_special_in_string false octet = octet == 59 || is_special octet
 
 -- An octet: as itself, if it isn't special; after a backslash, if it isn't a digit; or as a backslash and its number.
-pub data SpellsOctet (special : ℕ → Bool) : ℕ → List ℕ → Type 0 where
-  plain : {octet : ℕ} → special octet ≡ false → SpellsOctet special octet (octet ∷ [])
-  escaped : {octet : ℕ} → is_ascii_digit octet ≡ false → SpellsOctet special octet (92 ∷ octet ∷ [])
-  numbered : {octet : ℕ} → octet < 256 → SpellsOctet special octet (92 ∷ three_digits octet)
+pub data SpellsOctetBut (special : ℕ → Bool) : ℕ → List ℕ → Type 0 where
+  plain : {octet : ℕ} → special octet ≡ false → SpellsOctetBut special octet (octet ∷ [])
+  escaped : {octet : ℕ} → is_ascii_digit octet ≡ false → SpellsOctetBut special octet (92 ∷ octet ∷ [])
+  numbered : {octet : ℕ} → octet < 256 → SpellsOctetBut special octet (92 ∷ three_digits octet)
 
 -- octets, one after another
 abbrev pub SpellsOctets : (ℕ → Bool) → List ℕ → List ℕ → Type 0
 SpellsOctets special [] text = text ≡ []
 SpellsOctets special (octet ∷ octets) text = (first rest : List ℕ) × (text ≡ first ++ rest)
-    × SpellsOctet special octet first × SpellsOctets special octets rest
+    × SpellsOctetBut special octet first × SpellsOctets special octets rest
 
 -- a string: octets between quotation marks, or without them
 pub data SpellsString (octets word : List ℕ) : Type 0 where

@@ -21,8 +21,8 @@ pub data IsPieceBut (special : ℕ → Bool) : List ℕ → Type 0 where
   plain : {octet : ℕ} → special octet ≡ false → IsPieceBut special (octet ∷ [])
   escaped : {octet : ℕ} → IsPieceBut special (92 ∷ octet ∷ [])
 
-abbrev pub IsPiece : List ℕ → Type 0
-IsPiece = IsPieceBut is_special
+abbrev pub IsWordPiece : List ℕ → Type 0
+IsWordPiece = IsPieceBut is_special
 
 abbrev pub IsQuotedPiece : List ℕ → Type 0
 IsQuotedPiece = IsPieceBut is_special_in_quotes
@@ -31,12 +31,12 @@ IsQuotedPiece = IsPieceBut is_special_in_quotes
 abbrev pub IsQuotedPart : List ℕ → Type 0
 IsQuotedPart text = (inside : List ℕ) × IsMade IsQuotedPiece inside × (text ≡ 34 ∷ inside ++ 34 ∷ [])
 
-abbrev pub IsPart : List ℕ → Type 0
-IsPart text = IsPiece text ⊎ IsQuotedPart text
+abbrev pub IsWordPart : List ℕ → Type 0
+IsWordPart text = IsWordPiece text ⊎ IsQuotedPart text
 
 -- a word: one or more pieces and quoted parts
 abbrev pub IsWord : List ℕ → Type 0
-IsWord text = (1 ≤ length text) × IsMade IsPart text
+IsWord text = (1 ≤ length text) × IsMade IsWordPart text
 
 -- what follows a word: the end, or a blank
 abbrev pub EndsWord : List ℕ → Type 0

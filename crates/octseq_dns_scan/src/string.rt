@@ -4,7 +4,7 @@ ghost use Rattle.std.specs.Prelude.{◌↔◌, true, IsTrue, IsNone, IfSome, IfE
 ghost use Rattle.std.specs.List.{All};
 ghost use Rattle.octseq.specs.Limit.{IsWithin};
 ghost use Rattle.octseq.specs.OctetsText.{string_text, three_digits};
-ghost use Rattle.octseq_dns_scan.specs.Spelled.{is_special_in_string, SpellsOctet, SpellsOctets, SpellsString};
+ghost use Rattle.octseq_dns_scan.specs.Spelled.{is_special_in_string, SpellsOctetBut, SpellsOctets, SpellsString};
 ghost use Rattle.octseq_dns_scan.specs.Word.{IsWord};
 ghost use Rattle.octseq_dns_scan.specs.Spelled.{SpellsWithin, IsUnscanned, string_error_text};
 
@@ -197,9 +197,9 @@ fn octets_len(text: &[u8], quoted: bool) -> Option<usize>
 /// Takes an octet of a string from the front of a text.
 fn next_octet(text: &[u8], quoted: bool) -> Option<(u8, &[u8])>
     ensures some { IfSome result (λ taken. (first : List ℕ) × (text.now ≡ first ++ taken.1.now)
-        × SpellsOctet (is_special_in_string quoted) taken.0 first) }
+        × SpellsOctetBut (is_special_in_string quoted) taken.0 first) }
     ensures none { IsNone result → (octet : ℕ) (first rest : List ℕ) → text.now ≡ first ++ rest
-        → ¬ SpellsOctet (is_special_in_string quoted) octet first }
+        → ¬ SpellsOctetBut (is_special_in_string quoted) octet first }
 {
     let (first, rest) = text.split_first()?;
     if *first == b'\\' {
@@ -225,9 +225,9 @@ fn is_special(octet: u8, quoted: bool) -> bool
 /// Takes what follows the backslash of an octet from the front of a text.
 fn next_escaped(text: &[u8]) -> Option<(u8, &[u8])>
     ensures some { IfSome result (λ taken. (quoted : Bool) → (first : List ℕ) × (text.now ≡ first ++ taken.1.now)
-        × SpellsOctet (is_special_in_string quoted) taken.0 (92 ∷ first)) }
+        × SpellsOctetBut (is_special_in_string quoted) taken.0 (92 ∷ first)) }
     ensures none { IsNone result → (quoted : Bool) (octet : ℕ) (first rest : List ℕ) → 92 ∷ text.now ≡ first ++ rest
-        → ¬ SpellsOctet (is_special_in_string quoted) octet first }
+        → ¬ SpellsOctetBut (is_special_in_string quoted) octet first }
 {
     let (first, rest) = text.split_first()?;
     if !first.is_ascii_digit() {

@@ -3,7 +3,7 @@ ghost use Rattle.std.specs.Prelude.{◌≡◌, ℕ, ◌+◌, ◌<◌, ◌≤◌,
 ghost use Rattle.std.specs.Prelude.{IfSome, IfNone, false};
 ghost use Rattle.std.specs.List.{All};
 ghost use Rattle.octseq_dns_scan.specs.Made.{Leaves};
-ghost use Rattle.octseq_dns_scan.specs.Word.{is_blank, is_special, BeginsNoBlank, IsPart, IsQuotedPiece};
+ghost use Rattle.octseq_dns_scan.specs.Word.{is_blank, is_special, BeginsNoBlank, IsWordPart, IsQuotedPiece};
 ghost use Rattle.octseq_dns_scan.specs.Word.{BeginsWithQuote, EndsWord};
 ghost use Rattle.octseq_dns_scan.specs.Word.{SplitsBlanks, TakesWord, AreWords, IsWord};
 
@@ -130,8 +130,8 @@ fn after_blanks(text: &[u8]) -> &[u8]
 /// Returns what follows the parts of a word at the front of a text: the end, or a space or tab. `None` if something
 /// else follows them.
 fn after_parts(text: &[u8]) -> Option<&[u8]>
-    ensures some { IfSome result (λ rest. Leaves IsPart EndsWord text.now rest.now) }
-    ensures none { IsNone result → (rest : List ℕ) → ¬ Leaves IsPart EndsWord text.now rest }
+    ensures some { IfSome result (λ rest. Leaves IsWordPart EndsWord text.now rest.now) }
+    ensures none { IsNone result → (rest : List ℕ) → ¬ Leaves IsWordPart EndsWord text.now rest }
 {
     let mut ahead = text;
     'parts: while let Some((first, rest)) = ahead.split_first() {

@@ -3,7 +3,7 @@ use Rattle.std.proofs.Common.{◌≡◌, ℕ, List, [], ◌∷◌, ◌++◌, Opt
 use Rattle.std.proofs.Common.{append_assoc}
 use Rattle.std.specs.List.{AllZip}
 use Rattle.std.proofs.lemmas.List.{append-nil}
-use Rattle.octseq_dns_text.specs.Split.{octets_before, octets_after, items_of}
+use Rattle.octseq_dns_text.specs.Split.{octets_before, split_after, items_of}
 use Rattle.octseq_dns_text.proofs.Fronts.{zip_more, zip_part}
 use Rattle.octseq_dns_text.proofs.Splits.{item_first, items_after}
 
@@ -19,12 +19,12 @@ items_none R said = record { front = []; items = refl; each = tt }
 -- An item comes next, and what is after its comma, if there is one.
 pub record Next (list item : List ℕ) (rest : Option (List ℕ)) : Type 0 where
   pub item_is : item ≡ octets_before 44 list
-  pub rest_is : rest ≡ octets_after 44 list
+  pub rest_is : rest ≡ split_after 44 list
 
 split_next : (said list item : List ℕ) (rest : Option (List ℕ)) (front : List (List ℕ)) → Next list item rest
     → items_of said ≡ front ++ items_of list → items_of said ≡ (front ++ item ∷ []) ++ items_after rest
 split_next said list item rest front next same =
-    let first = item_first list ∙ ap (λ i. i ∷ items_after (octets_after 44 list)) (sym next.item_is)
+    let first = item_first list ∙ ap (λ i. i ∷ items_after (split_after 44 list)) (sym next.item_is)
     ∙ ap (λ r. item ∷ items_after r) (sym next.rest_is) in
     same ∙ ap (λ l. front ++ l) first ∙ sym (append_assoc front (item ∷ []) (items_after rest))
 

@@ -10,16 +10,16 @@ use Rattle.octseq_dns_name.specs.Text.{is_quoted, label_text, labels_text, name_
 use Rattle.octseq_dns_scan.proofs.Mades.{head, made_append, made_first, made_none, tail}
 use Rattle.octseq_dns_scan.proofs.StringWords.{string_spelled, string_word}
 use Rattle.octseq_dns_scan.specs.Made.{IsMade}
-use Rattle.octseq_dns_scan.specs.Word.{is_special, IsPart, IsPieceBut}
+use Rattle.octseq_dns_scan.specs.Word.{is_special, IsWordPart, IsPieceBut}
 use Rattle.octseq_dns_text.specs.DataText.{opaque_word}
 use Rattle.octseq_dns_text.proofs.SpacedWords.{IsFeedless, IsFirst, IsOrdinary, feedless_both, high_ordinary}
 
 -- ---- names
 
-plain_made : (octet : ℕ) (text : List ℕ) → IsOrdinary octet → IsMade IsPart text → IsMade IsPart (octet ∷ text)
-plain_made octet text is made = made_first IsPart (octet ∷ []) text (inl (IsPieceBut.plain is)) made
+plain_made : (octet : ℕ) (text : List ℕ) → IsOrdinary octet → IsMade IsWordPart text → IsMade IsWordPart (octet ∷ text)
+plain_made octet text is made = made_first IsWordPart (octet ∷ []) text (inl (IsPieceBut.plain is)) made
 
-digit_made : (n : ℕ) (text : List ℕ) → IsMade IsPart text → IsMade IsPart ((48 + n % 10) ∷ text)
+digit_made : (n : ℕ) (text : List ℕ) → IsMade IsWordPart text → IsMade IsWordPart ((48 + n % 10) ∷ text)
 digit_made n text made =
     plain_made (48 + n % 10) text (high_ordinary (48 + n % 10) (omega arith) (λ e. omega (arith, e))) made
 
@@ -27,28 +27,29 @@ bare : (octet : ℕ) → is_quoted octet ≡ false → is_ascii_graphic octet �
 bare octet is graphic = search rules
 
 by_case : (octet : ℕ) (a b : Bool) → is_quoted octet ≡ a → is_ascii_graphic octet ≡ b
-    → IsMade IsPart (if a then 92 ∷ octet ∷ [] else (if b then octet ∷ [] else 92 ∷ three_digits octet))
-by_case octet true b quoted graphic = made_first IsPart (92 ∷ octet ∷ []) [] (inl IsPieceBut.escaped) (made_none IsPart)
-by_case octet false true quoted graphic = plain_made octet [] (bare octet quoted graphic) (made_none IsPart)
+    → IsMade IsWordPart (if a then 92 ∷ octet ∷ [] else (if b then octet ∷ [] else 92 ∷ three_digits octet))
+by_case octet true b quoted graphic = made_first IsWordPart (92 ∷ octet ∷ []) [] (inl IsPieceBut.escaped)
+    (made_none IsWordPart)
+by_case octet false true quoted graphic = plain_made octet [] (bare octet quoted graphic) (made_none IsWordPart)
 by_case octet false false quoted graphic =
-    made_first IsPart (92 ∷ (48 + octet / 100) ∷ []) ((48 + octet / 10 % 10) ∷ (48 + octet % 10) ∷ [])
+    made_first IsWordPart (92 ∷ (48 + octet / 100) ∷ []) ((48 + octet / 10 % 10) ∷ (48 + octet % 10) ∷ [])
     (inl IsPieceBut.escaped)
-    (digit_made (octet / 10) ((48 + octet % 10) ∷ []) (digit_made octet [] (made_none IsPart)))
+    (digit_made (octet / 10) ((48 + octet % 10) ∷ []) (digit_made octet [] (made_none IsWordPart)))
 
-label_made : (label : List ℕ) → IsMade IsPart (label_text label)
-label_made [] = made_none IsPart
+label_made : (label : List ℕ) → IsMade IsWordPart (label_text label)
+label_made [] = made_none IsWordPart
 label_made (octet ∷ label) =
-    made_append IsPart (octet_text octet) (label_text label)
+    made_append IsWordPart (octet_text octet) (label_text label)
     (by_case octet (is_quoted octet) (is_ascii_graphic octet) refl refl) (label_made label)
 
-stop_made : IsMade IsPart (46 ∷ [])
-stop_made = plain_made 46 [] refl (made_none IsPart)
+stop_made : IsMade IsWordPart (46 ∷ [])
+stop_made = plain_made 46 [] refl (made_none IsWordPart)
 
-labels_made : (labels : List (List ℕ)) → IsMade IsPart (labels_text labels)
-labels_made [] = made_none IsPart
+labels_made : (labels : List (List ℕ)) → IsMade IsWordPart (labels_text labels)
+labels_made [] = made_none IsWordPart
 labels_made (label ∷ labels) =
-    made_append IsPart (label_text label ++ 46 ∷ []) (labels_text labels)
-    (made_append IsPart (label_text label) (46 ∷ []) (label_made label) stop_made) (labels_made labels)
+    made_append IsWordPart (label_text label ++ 46 ∷ []) (labels_text labels)
+    (made_append IsWordPart (label_text label) (46 ∷ []) (label_made label) stop_made) (labels_made labels)
 
 -- no octet of it is a line feed
 digit_feedless : (n : ℕ) → ¬ (48 + n ≡ 10)

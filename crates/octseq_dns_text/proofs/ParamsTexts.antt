@@ -11,11 +11,11 @@ use Rattle.octseq.proofs.Written.{length_be}
 use Rattle.octseq_dns_data.specs.SvcParams.{AreAddresses, AreIds, AreKeys, IsParam, IsSvcParams, IsValueOf, Param}
 use Rattle.octseq_dns_data.specs.SvcParams.{AreParams, param_octets}
 use Rattle.octseq_dns_data.proofs.Params.{one_ids, one_keys, one_params}
-use Rattle.octseq_dns_text.specs.ParamText.{AreAddressTexts, IsAddressText, IsParamText, IsValueText}
+use Rattle.octseq_dns_text.specs.ParamText.{AreAddressTexts, IsAddressText, IsParamText, IsParamValueText}
 use Rattle.octseq_dns_text.specs.ParamsText.{IsParamsText}
 use Rattle.octseq_dns_text.specs.Reading.{AreReadParams}
 use Rattle.octseq_dns_text.specs.Scans.{Goes}
-use Rattle.octseq_dns_text.specs.Split.{octets_after, octets_before, items_of}
+use Rattle.octseq_dns_text.specs.Split.{split_after, octets_before, items_of}
 use Rattle.octseq_dns_text.proofs.Fronts.{zip_more, zip_once, zip_part}
 use Rattle.octseq_dns_text.proofs.KeyTexts.{key_once, key_bits}
 use Rattle.octseq_dns_text.proofs.Sortings.{sorted_once, twice}
@@ -52,7 +52,7 @@ ipv6_form Is said value is =
     let some = some_items said in
     (omega (arith, long, some), omega (arith, long))
 
-value_form : (key : ℕ) (said value : List ℕ) → IsValueText key said value → IsValueOf key value
+value_form : (key : ℕ) (said value : List ℕ) → IsParamValueText key said value → IsValueOf key value
 value_form key said value is = record {
   mandatory = λ e. let t = is.mandatory e in subst (AreKeys value) (one_keys value t.sorted t.are) t.are;
   alpn = λ e. let t = is.alpn e in subst (AreIds value) (one_ids value t.ids t.are) t.are;
@@ -81,9 +81,9 @@ params_form (word ∷ words) (param ∷ said) each =
 pub param_once : (word : List ℕ) (a b : Param) → IsParamText word a → IsParamText word b → a ≡ b
 param_once word a b one two =
     let key : a.0 ≡ b.0 = key_once (octets_before 61 word) a.0 b.0 one.key two.key in
-    let said = says_once (octets_after 61 word) one.said two.said one.says two.says in
-    let again = subst (λ k. IsValueText k two.said b.1) (sym key) two.value in
-    let same = subst (λ s. IsValueText a.0 s b.1) (sym said) again in
+    let said = says_once (split_after 61 word) one.said two.said one.says two.says in
+    let again = subst (λ k. IsParamValueText k two.said b.1) (sym key) two.value in
+    let same = subst (λ s. IsParamValueText a.0 s b.1) (sym said) again in
     let value : a.1 ≡ b.1 = value_once a.0 one.said a.1 b.1 one.value same in
     ap (λ (k : ℕ). (k, a.1)) key ∙ ap (λ (v : List ℕ). (b.0, v)) value
 

@@ -18,12 +18,12 @@ use Rattle.std.proofs.lemmas.List.Splits.{slice_split_at, slice_split_none}
 use Rattle.octseq.proofs.WrittenBack.{AreOctets}
 use Rattle.octseq_dns_data.specs.SvcParamsText.{with_commas}
 use Rattle.octseq_dns_scan.specs.Base64.{base64_digit, base64_text}
-use Rattle.octseq_dns_scan.specs.Spelled.{is_special_in_string, SpellsOctet, SpellsOctets, SpellsString}
+use Rattle.octseq_dns_scan.specs.Spelled.{is_special_in_string, SpellsOctetBut, SpellsOctets, SpellsString}
 use Rattle.octseq_dns_scan.specs.Word.{IsWord, is_special}
 use Rattle.octseq_dns_scan.proofs.Numerals.{shown_digits}
 use Rattle.octseq_dns_scan.proofs.StringWords.{string_word}
 use Rattle.octseq_dns_scan.proofs.Taken.{joined_word, plain_word}
-use Rattle.octseq_dns_text.specs.Split.{octets_before, octets_after, items_of}
+use Rattle.octseq_dns_text.specs.Split.{octets_before, split_after, items_of}
 
 -- an octet that stands for itself between quotation marks, and is no line feed
 abbrev pub IsBare : ℕ → Type 0
@@ -164,7 +164,7 @@ bare_octet octet is =
 pub bare_spells : (text : List ℕ) → AreBare text → SpellsOctets (is_special_in_string true) text text
 bare_spells [] each = refl
 bare_spells (octet ∷ text) each =
-    (octet ∷ [], text, refl, SpellsOctet.plain (bare_octet octet each.0), bare_spells text each.1)
+    (octet ∷ [], text, refl, SpellsOctetBut.plain (bare_octet octet each.0), bare_spells text each.1)
 
 -- ---- what such texts are split into
 
@@ -184,10 +184,10 @@ after_step : (rest : List ℕ) (found : Option (List ℕ)) (here : Bool) → her
 after_step rest found true is wanted later = absurd (cc)
 after_step rest found false is wanted later = later
 
-pub plain_after : (text more : List ℕ) → ArePlain text → octets_after 61 (text ++ 61 ∷ more) ≡ Some more
+pub plain_after : (text more : List ℕ) → ArePlain text → split_after 61 (text ++ 61 ∷ more) ≡ Some more
 plain_after [] more each = refl
 plain_after (octet ∷ text) more each =
-    after_step (text ++ 61 ∷ more) (octets_after 61 (text ++ 61 ∷ more)) (octet == 61) (ne_eqb octet 61 each.0.2)
+    after_step (text ++ 61 ∷ more) (split_after 61 (text ++ 61 ∷ more)) (octet == 61) (ne_eqb octet 61 each.0.2)
     (Some more) (plain_after text more each.1)
 
 whole_step : (octet : ℕ) (text : List ℕ) (here : Bool) → here ≡ false → octets_before 61 text ≡ text
@@ -200,10 +200,10 @@ plain_whole [] each = refl
 plain_whole (octet ∷ text) each =
     whole_step octet text (octet == 61) (ne_eqb octet 61 each.0.2) (plain_whole text each.1)
 
-pub plain_none : (text : List ℕ) → ArePlain text → octets_after 61 text ≡ None
+pub plain_none : (text : List ℕ) → ArePlain text → split_after 61 text ≡ None
 plain_none [] each = refl
 plain_none (octet ∷ text) each =
-    after_step text (octets_after 61 text) (octet == 61) (ne_eqb octet 61 each.0.2) None (plain_none text each.1)
+    after_step text (split_after 61 text) (octet == 61) (ne_eqb octet 61 each.0.2) None (plain_none text each.1)
 
 no_comma : (octet : ℕ) → IsPlain octet → (octet == 44) ≡ false
 no_comma octet is = ne_eqb octet 44 is.1

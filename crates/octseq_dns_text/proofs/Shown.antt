@@ -32,9 +32,9 @@ use Rattle.octseq_dns_scan.proofs.Numerals.{shown_digits, shown_value}
 use Rattle.octseq_dns_scan.proofs.StringWords.{string_spelled}
 use Rattle.octseq_dns_text.specs.IdsText.{listed_id, listed_ids}
 use Rattle.octseq_dns_text.specs.KeyText.{IsKeyText}
-use Rattle.octseq_dns_text.specs.ParamText.{AreAddressTexts, IsAddressText, IsParamText, IsValueText, Says}
+use Rattle.octseq_dns_text.specs.ParamText.{AreAddressTexts, IsAddressText, IsParamText, IsParamValueText, Says}
 use Rattle.octseq_dns_text.specs.ParamsText.{IsParamsText}
-use Rattle.octseq_dns_text.specs.Split.{items_of, octets_after, octets_before}
+use Rattle.octseq_dns_text.specs.Split.{items_of, split_after, octets_before}
 use Rattle.octseq_dns_text.proofs.PlainNames.{NamedPlain, among_plain, among_some, name_among, names_from, names_some}
 use Rattle.octseq_dns_text.proofs.PlainNames.{plain_from}
 use Rattle.octseq_dns_text.proofs.Plain.{ArePlain, AreBare, IsBare, IsPlain, all_append, all_weaker, bare_spells}
@@ -231,7 +231,7 @@ parts_octets (id ∷ ids) each =
 
 abbrev pub Shows : ℕ → List ℕ → Type 0
 Shows key value =
-    (said : List ℕ) × SpellsString said (34 ∷ value_text key value ++ 34 ∷ []) × IsValueText key said value
+    (said : List ℕ) × SpellsString said (34 ∷ value_text key value ++ 34 ∷ []) × IsParamValueText key said value
     × IsFeedless (value_text key value)
 
 bare_feedless : (text : List ℕ) → AreBare text → IsFeedless text
@@ -396,7 +396,7 @@ value_shown (suc (suc (suc (suc (suc (suc (suc key))))))) value is each some =
     )
 
 -- a value of no octets isn't shown
-none_shown : (key : ℕ) → IsValueOf key [] → IsValueText key [] []
+none_shown : (key : ℕ) → IsValueOf key [] → IsParamValueText key [] []
 none_shown key is = record {
   mandatory = λ e. let some = (is.mandatory e).some in absurd (omega (arith, some));
   alpn = λ e. let some = (is.alpn e).some in absurd (omega (arith, some));
@@ -418,7 +418,7 @@ param_read key [] is each =
     let same = append-nil text in record {
       said = [];
       key = subst (λ n. IsKeyText n key) (sym (ap (octets_before 61) same ∙ plain_whole text shown.1)) shown.0;
-      says = subst (λ t. Says t []) (sym (ap (octets_after 61) same ∙ plain_none text shown.1)) refl;
+      says = subst (λ t. Says t []) (sym (ap (split_after 61) same ∙ plain_none text shown.1)) refl;
       value = none_shown key is.value;
       few = is.few;
     }

@@ -21,7 +21,7 @@ use Rattle.octseq_dns_scan.proofs.Numerals.{shown_digits, shown_value}
 use Rattle.octseq_dns_scan.proofs.Taken.{escaped_word}
 use Rattle.octseq_dns_scan.specs.Hex.{IsHexText}
 use Rattle.octseq_dns_scan.specs.Word.{AreWords}
-use Rattle.octseq_format.specs.Canonical.{IsSound, each_next, many_next, many_rest, sound_nested, sound_past}
+use Rattle.octseq_format.specs.Canonical.{IsSoundWindow, each_next, many_next, many_rest, sound_nested, sound_past}
 use Rattle.octseq_format.specs.Row.{Row}
 use Rattle.octseq_dns_text.proofs.NameWords.{string_first}
 use Rattle.octseq_dns_text.proofs.OrdinaryTexts.{decimal_first, hex_first, ipv4_first, ipv6_first}
@@ -58,18 +58,18 @@ field_alone it word octets first is = record {
   is = (word, [], octets, [], refl, is, (refl, refl), sym (append-nil octets));
 }
 
-address : (n : ℕ) (w : Window) (octets : List ℕ) (v : Window) → IsSound w → HasOctetCount n w octets v
+address : (n : ℕ) (w : Window) (octets : List ℕ) (v : Window) → IsSoundWindow w → HasOctetCount n w octets v
     → AreOctets octets × (length octets ≡ n)
 address n w octets v sound (few, is, moved) =
     (subst AreOctets (sym is) (each_next n w sound), ap length is ∙ many_next n w sound few)
 
-ipv4_shown : (w : Window) (octets : List ℕ) (v : Window) → IsSound w → HasOctetCount 4 w octets v
+ipv4_shown : (w : Window) (octets : List ℕ) (v : Window) → IsSoundWindow w → HasOctetCount 4 w octets v
     → Shown (IsLayoutText None (field.Ipv4 ∷ []) tail.Nothing) (ipv4_text octets) octets
 ipv4_shown w octets v sound is =
     let has = address 4 w octets v sound is in
     field_alone field.Ipv4 (ipv4_text octets) octets (ipv4_first octets has.0 has.1) (ipv4_word octets has.0 has.1)
 
-ipv6_shown : (w : Window) (octets : List ℕ) (v : Window) → IsSound w → HasOctetCount 16 w octets v
+ipv6_shown : (w : Window) (octets : List ℕ) (v : Window) → IsSoundWindow w → HasOctetCount 16 w octets v
     → Shown (IsLayoutText None (field.Ipv6 ∷ []) tail.Nothing) (ipv6_address_text octets) octets
 ipv6_shown w octets v sound is =
     let has = address 16 w octets v sound is in
@@ -78,8 +78,8 @@ ipv6_shown w octets v sound is =
 
 -- ---- strings
 
-pub string_at : (w v : Window) (string : List ℕ) → IsSound w → HasString w string v
-    → AreOctets string × (length string ≤ 255) × IsSound v
+pub string_at : (w v : Window) (string : List ℕ) → IsSoundWindow w → HasString w string v
+    → AreOctets string × (length string ≤ 255) × IsSoundWindow v
 string_at w v string sound (has, is, moved) =
     let on = sound_past 1 w sound has.0 in
     let n = be (next 1 w) in
@@ -89,14 +89,14 @@ string_at w v string sound (has, is, moved) =
     let long = ap length is ∙ many_rest (nested n (past 1 w)) inside in (
       subst AreOctets (sym is) (each_rest (nested n (past 1 w)) inside),
       omega (arith, long, small),
-      subst IsSound (sym moved) (sound_past n (past 1 w) on has.1),
+      subst IsSoundWindow (sym moved) (sound_past n (past 1 w) on has.1),
     )
 
 -- a string after its length
 part_is : (string : List ℕ) → length string ≤ 255 → part_of 1 string ≡ length string ∷ string
 part_is string few = ap (λ front. front ++ string) (one_be (length string) (omega (arith, few)))
 
-strings_read : (w v : Window) (strings : List (List ℕ)) → IsSound w → Row HasString w strings v
+strings_read : (w v : Window) (strings : List (List ℕ)) → IsSoundWindow w → Row HasString w strings v
     → AreStrings (map string_text strings) (flat_map (part_of 1) strings)
 strings_read w v [] sound row = refl
 strings_read w v (string ∷ strings) sound (u, is, row) =
@@ -109,7 +109,7 @@ strings_read w v (string ∷ strings) sound (u, is, row) =
       refl,
     )
 
-strings_words : (w v : Window) (strings : List (List ℕ)) → IsSound w → Row HasString w strings v
+strings_words : (w v : Window) (strings : List (List ℕ)) → IsSoundWindow w → Row HasString w strings v
     → AllByRecursion IsLineWord (map string_text strings)
 strings_words w v [] sound row = tt
 strings_words w v (string ∷ strings) sound (u, is, row) =
@@ -117,7 +117,7 @@ strings_words w v (string ∷ strings) sound (u, is, row) =
     let first = string_first string (all_octets_of string at.0) in
     ((first.0, first.1), strings_words u v strings at.2 row)
 
-strings_shown : (w v : Window) (strings : List (List ℕ)) → IsSound w → HasStrings w strings v
+strings_shown : (w v : Window) (strings : List (List ℕ)) → IsSoundWindow w → HasStrings w strings v
     → Shown (IsLayoutText None [] tail.Strings) (strings_text strings) (flat_map (part_of 1) strings)
 strings_shown w v [] sound (some, row) = absurd (omega (arith, some))
 strings_shown w v (string ∷ strings) sound (some, (u, is, row)) =
@@ -170,7 +170,7 @@ in_one : {fields : List Field} {end : Tail} (rtype class number : ℕ) (text oct
 in_one rtype class number text octets same one known shown =
     in_layout rtype class number text octets same (ap (layout_of number) one ∙ known) shown
 
-pub typed_shown : (rtype class : ℕ) (w inside : Window) (rdata : ParsedRdata) → IsSound w → IsSound inside
+pub typed_shown : (rtype class : ℕ) (w inside : Window) (rdata : ParsedRdata) → IsSoundWindow w → IsSoundWindow inside
     → IsTypedData rtype class w inside rdata → ShowsData rtype class (rdata_text rdata) (rdata_octets rdata)
 unfolding layout_of
 typed_shown rtype class w inside (ParsedRdata.a octets) sound in_it is =
@@ -262,7 +262,7 @@ unknown_shown rtype class octets all few =
     }
 
 -- what data says is shown as data of its type and class
-pub says_shown : (rtype class : ℕ) (w inside : Window) (rdata : ParsedRdata) → IsSound w → IsSound inside
+pub says_shown : (rtype class : ℕ) (w inside : Window) (rdata : ParsedRdata) → IsSoundWindow w → IsSoundWindow inside
     → left inside ≤ 65535 → SaysData rtype class w inside rdata
     → ShowsData rtype class (rdata_text rdata) (rdata_octets rdata)
 says_shown rtype class w inside rdata sound in_it few (inl is) =

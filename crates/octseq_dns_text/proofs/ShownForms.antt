@@ -12,12 +12,12 @@ use Rattle.octseq_dns_data.specs.Form.{
   FormPart,
   ◌followed_by◌,
   ◌then_each◌,
-  all_octets,
+  rest_form,
   alone,
   domain_name,
   number,
 }
-use Rattle.octseq_dns_data.specs.Form.{octets_of, plain_name, string}
+use Rattle.octseq_dns_data.specs.Form.{formed_rest, plain_name, string}
 use Rattle.octseq_dns_data.specs.Formed.{IsFormed, IsSome, IsSomeString, IsString}
 use Rattle.octseq_dns_data.specs.UncompressedName.{named}
 use Rattle.octseq_dns_data.specs.Tag.{IsCaaTag}
@@ -31,7 +31,7 @@ use Rattle.octseq_dns_name.specs.Text.{name_text}
 use Rattle.octseq_dns_name.specs.Wire.{wire}
 use Rattle.octseq_dns_scan.specs.Base32hex.{base32hex_text}
 use Rattle.octseq_dns_scan.specs.Base64.{base64_text}
-use Rattle.octseq_format.specs.Canonical.{IsSound, each_dropped, each_taken, sound_nested}
+use Rattle.octseq_format.specs.Canonical.{IsSoundWindow, each_dropped, each_taken, sound_nested}
 use Rattle.octseq_format.specs.Canonical.{sound_on, sound_past}
 use Rattle.octseq_format.specs.Counted.{Counted, counted_octets}
 use Rattle.octseq_format.specs.Fixed.{IsFixed, canonical_fixed, most_fixed}
@@ -78,31 +78,31 @@ pub record ShownAfter (it : Tail) (text octets : List ℕ) : Type 0 where
 -- The text of a part is a word, which is a field of the part's octets. What it says has octets. They are those that it
 -- takes, unless it may have pointers.
 pub record IsShownPart (may : Bool) (it : Field) (part : FormPart) : Type 0 where
-  pub word : (w : Window) (found : part.Found) (v : Window) → IsSound w → part.Is w found v
+  pub word : (w : Window) (found : part.Found) (v : Window) → IsSoundWindow w → part.Is w found v
       → IsFirst (part.text found) × IsFieldText None it (part.text found) (part.octets (part.says found))
-  pub fits : (w : Window) (found : part.Found) (v : Window) → IsSound w → part.Is w found v
+  pub fits : (w : Window) (found : part.Found) (v : Window) → IsSoundWindow w → part.Is w found v
       → part.Fits (part.says found)
-  pub written : may ≡ false → (w : Window) (found : part.Found) (v : Window) → IsSound w → part.Is w found v
+  pub written : may ≡ false → (w : Window) (found : part.Found) (v : Window) → IsSoundWindow w → part.Is w found v
       → rest w ≡ part.octets (part.says found) ++ rest v
-  pub on : (w : Window) (found : part.Found) (v : Window) → IsSound w → part.Is w found v → IsSound v
+  pub on : (w : Window) (found : part.Found) (v : Window) → IsSoundWindow w → part.Is w found v → IsSoundWindow v
 
 -- The text of a form consists of the words of a layout. What it says has octets. They are those that it takes, unless
 -- it may have pointers.
 pub record IsShownForm (may : Bool) (fields : List Field) (it : Tail) (form : Form) : Type 0 where
-  pub shown : (w : Window) (found : form.Found) (v : Window) → IsSound w → form.Is w found v
+  pub shown : (w : Window) (found : form.Found) (v : Window) → IsSoundWindow w → form.Is w found v
       → Shown (IsLayoutText None fields it) (form.text found) (form.octets (form.says found))
-  pub fits : (w : Window) (found : form.Found) (v : Window) → IsSound w → form.Is w found v
+  pub fits : (w : Window) (found : form.Found) (v : Window) → IsSoundWindow w → form.Is w found v
       → form.Fits (form.says found)
-  pub written : may ≡ false → (w : Window) (found : form.Found) (v : Window) → IsSound w → form.Is w found v
+  pub written : may ≡ false → (w : Window) (found : form.Found) (v : Window) → IsSoundWindow w → form.Is w found v
       → rest w ≡ form.octets (form.says found) ++ rest v
 
 -- The text of a form is a tail, with a space before each word.
 pub record IsShownTail (it : Tail) (form : Form) : Type 0 where
-  pub shown : (w : Window) (found : form.Found) (v : Window) → IsSound w → form.Is w found v
+  pub shown : (w : Window) (found : form.Found) (v : Window) → IsSoundWindow w → form.Is w found v
       → ShownAfter it (form.text found) (form.octets (form.says found))
-  pub fits : (w : Window) (found : form.Found) (v : Window) → IsSound w → form.Is w found v
+  pub fits : (w : Window) (found : form.Found) (v : Window) → IsSoundWindow w → form.Is w found v
       → form.Fits (form.says found)
-  pub written : (w : Window) (found : form.Found) (v : Window) → IsSound w → form.Is w found v
+  pub written : (w : Window) (found : form.Found) (v : Window) → IsSoundWindow w → form.Is w found v
       → rest w ≡ form.octets (form.says found) ++ rest v
 
 -- ---- one after another
@@ -193,10 +193,10 @@ shown_alone {part = part} one = record {
 
 -- ---- parts of one word
 
-pub number_fits : (k n : ℕ) (w v : Window) → IsSound w → IsFixed k be w n v → n < 256 ^ k
+pub number_fits : (k n : ℕ) (w v : Window) → IsSoundWindow w → IsFixed k be w n v → n < 256 ^ k
 number_fits k n w v sound is = ((canonical_fixed (are_be k)).written w n v sound is).0
 
-pub number_on : (k n : ℕ) (w v : Window) → IsSound w → IsFixed k be w n v → IsSound v
+pub number_on : (k n : ℕ) (w v : Window) → IsSoundWindow w → IsFixed k be w n v → IsSoundWindow v
 number_on k n w v sound is = (canonical_fixed (are_be k)).on w n v sound is
 
 -- a number of at most 4 octets is shown in digits
@@ -253,13 +253,13 @@ a_type = record {
   on = λ w n v sound is. number_on 2 n w v sound is;
 }
 
-name_is_shown : (w : Window) (name : Name) (v : Window) → IsSound w → HasName w name v
+name_is_shown : (w : Window) (name : Name) (v : Window) → IsSoundWindow w → HasName w name v
     → IsFieldText None field.Name (name_text name.labels) (wire name.labels)
 name_is_shown w name v sound is =
     let labels : Named w = (name.labels, ∣ (v, is.1) ∣₁) in
     name_shown None name.labels (named_octets w labels sound.each) (named_labels w labels sound.within) is.1.short
 
-pub name_fits : (w : Window) (name : Name) (v : Window) → IsSound w → HasName w name v → NameFits name.labels
+pub name_fits : (w : Window) (name : Name) (v : Window) → IsSoundWindow w → HasName w name v → NameFits name.labels
 name_fits w name v sound is =
     let labels : Named w = (name.labels, ∣ (v, is.1) ∣₁) in
     record { each = named_labels w labels sound.within; short = is.1.short }
@@ -282,7 +282,7 @@ a_plain_name = record {
 
 -- ---- octets
 
-pub each_rest : (w : Window) → IsSound w → AreOctets (rest w)
+pub each_rest : (w : Window) → IsSoundWindow w → AreOctets (rest w)
 each_rest w sound = each_taken (w.end - w.position) _ (each_dropped w.position w.octets sound.each)
 
 pub all_octets_of : (octets : List ℕ) → AreOctets octets → All (λ octet. octet < 256) octets
@@ -296,18 +296,20 @@ counted octets few =
     ap (λ n. octets_be 1 n ++ octets) none
     ∙ ap (λ front. front ++ octets) (one_be (length octets) (omega (arith, few)))
 
-counted_each : (HasForm : List ℕ → Type 0) (w place v : Window) → IsSound w → Counted 1 0 (IsFormed HasForm) w place v
+counted_each : (HasForm : List ℕ → Type 0) (w place v : Window) → IsSoundWindow w
+    → Counted 1 0 (IsFormed HasForm) w place v
     → AreOctets (rest place) × HasForm (rest place)
 counted_each HasForm w place v sound (n, u, number, (least, room, formed, moved)) =
     let on = number_on 1 n w u sound number in
     let inside = sound_nested (n - 0) u on room in
     (subst (λ p. AreOctets (rest p)) (sym formed.0.0) (each_rest (nested (n - 0) u) inside), formed.1)
 
-counted_on : (HasForm : List ℕ → Type 0) (w place v : Window) → IsSound w → Counted 1 0 (IsFormed HasForm) w place v
-    → IsSound v
+counted_on : (HasForm : List ℕ → Type 0) (w place v : Window) → IsSoundWindow w
+    → Counted 1 0 (IsFormed HasForm) w place v
+    → IsSoundWindow v
 counted_on HasForm w place v sound (n, u, number, (least, room, formed, moved)) =
     let on = number_on 1 n w u sound number in
-    subst IsSound (sym moved) (sound_past (n - 0) u on room)
+    subst IsSoundWindow (sym moved) (sound_past (n - 0) u on room)
 
 -- The text of octets with a form is a word, which is a field of them after their length.
 record IsShownString (it : Field) (HasForm : List ℕ → Type 0) (text : List ℕ → List ℕ) : Type 0 where
@@ -375,7 +377,7 @@ one_word it word octets first is = record {
 -- all octets that are left, of which there is one
 some_octets : {it : Tail} {text : List ℕ → List ℕ} → ((octets : List ℕ) → AreOctets octets → 1 ≤ length octets
     → IsFirst (text octets) × IsTailText it (text octets ∷ []) octets)
-    → IsShownForm false [] it (octets_of IsSome text it)
+    → IsShownForm false [] it (formed_rest IsSome text it)
 some_octets {it = it} {text = text} shows = record {
   shown = λ w place v sound is.
       let each = subst (λ p. AreOctets (rest p)) (sym is.0.0) (each_rest w sound) in
@@ -391,11 +393,11 @@ a_digest = some_octets (λ octets each some. (hex_first octets some, hex_shown o
 pub a_key : IsShownForm false [] tail.Base64 some_base64
 a_key = some_octets (λ octets each some. (base64_first octets some, base64_shown octets each))
 
-pub a_target : IsShownForm false [] tail.Target (octets_of IsSome string_text tail.Target)
+pub a_target : IsShownForm false [] tail.Target (formed_rest IsSome string_text tail.Target)
 a_target = some_octets (λ octets each some.
     let all = all_octets_of octets each in (string_first octets all, value_shown octets 1 all some))
 
-pub a_value : IsShownForm false [] tail.Value (all_octets string_text tail.Value)
+pub a_value : IsShownForm false [] tail.Value (rest_form string_text tail.Value)
 a_value = record {
   shown = λ w place v sound is.
       let each = subst (λ p. AreOctets (rest p)) (sym is.0) (each_rest w sound) in

@@ -10,7 +10,7 @@ use Rattle.octseq_dns_data.specs.Typed.{known_types, layout_of, pick}
 use Rattle.octseq_dns_data.specs.Local.{TakesWindow}
 use Rattle.octseq_dns_data.specs.Rtype as types
 use Rattle.octseq_dns_scan.specs.Word.{AreWords}
-use Rattle.octseq_format.specs.Canonical.{IsSound}
+use Rattle.octseq_format.specs.Canonical.{IsSoundWindow}
 use Rattle.octseq_format.specs.Rest.{nothing_left}
 use Rattle.octseq_dns_text.proofs.ShownForms.{IsShownForm, Shown, ◌shown_before◌, ◌shown_with◌, a_digest, a_hash}
 use Rattle.octseq_dns_text.proofs.ShownForms.{a_key, a_plain_name, a_salt, a_string, a_tag, a_target, a_time}
@@ -41,11 +41,12 @@ data_shown rtype class fields end text octets known shown = record {
 
 -- The text of data of a type, which has a number and a form, is that of data.
 record IsShownType (number : ℕ) (it : KnownType) : Type 0 where
-  shown : (class : ℕ) (w : Window) (found : it.form.Found) (v : Window) → IsSound w → IsClass it.is_of_class_in class
+  shown : (class : ℕ) (w : Window) (found : it.form.Found) (v : Window) → IsSoundWindow w
+      → IsClass it.is_of_class_in class
       → it.form.Is w found v → ShowsData number class (it.form.text found) (it.form.octets (it.form.says found))
-  fits : (w : Window) (found : it.form.Found) (v : Window) → IsSound w → it.form.Is w found v
+  fits : (w : Window) (found : it.form.Found) (v : Window) → IsSoundWindow w → it.form.Is w found v
       → it.form.Fits (it.form.says found)
-  written : (w : Window) (found : it.form.Found) (v : Window) → IsSound w → it.form.Is w found v
+  written : (w : Window) (found : it.form.Found) (v : Window) → IsSoundWindow w → it.form.Is w found v
       → rest w ≡ it.form.octets (it.form.says found) ++ rest v
 
 of_any : {fields : List Field} {end : Tail} (number : ℕ) (f : Form)
@@ -139,19 +140,20 @@ known_shown (it ∷ more) n are =
     one_of it (known_in more n) n (nat_eq it.number n) (Decides-eqb it.number n).0 are.0 (known_shown more n are.1)
 
 -- what was found of a type that is read by itself is shown as data
-pub local_shown : (rtype class : ℕ) (w : Window) (found : (form rtype).Found) (v : Window) → IsSound w
+pub local_shown : (rtype class : ℕ) (w : Window) (found : (form rtype).Found) (v : Window) → IsSoundWindow w
     → IsOfClass rtype class → (form rtype).Is w found v
     → ShowsData rtype class ((form rtype).text found) ((form rtype).octets ((form rtype).says found))
 local_shown rtype class w found v sound of is =
     (known_shown known_types rtype all_shown).shown class w found v sound of is
 
 -- and has octets
-pub local_fits : (rtype : ℕ) (w : Window) (found : (form rtype).Found) (v : Window) → IsSound w
+pub local_fits : (rtype : ℕ) (w : Window) (found : (form rtype).Found) (v : Window) → IsSoundWindow w
     → (form rtype).Is w found v → (form rtype).Fits ((form rtype).says found)
 local_fits rtype w found v sound is = (known_shown known_types rtype all_shown).fits w found v sound is
 
 -- If it takes its whole window, these are the octets of the window.
-pub local_same : (rtype : ℕ) (w : Window) (found : (form rtype).Found) → IsSound w → TakesWindow (form rtype).Is w found
+pub local_same : (rtype : ℕ) (w : Window) (found : (form rtype).Found) → IsSoundWindow w
+    → TakesWindow (form rtype).Is w found
     → (form rtype).octets ((form rtype).says found) ≡ rest w
 local_same rtype w found sound is =
     let v = past (left w) w in

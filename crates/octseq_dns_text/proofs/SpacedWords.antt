@@ -6,7 +6,7 @@ use Rattle.std.proofs.lemmas.Bool.{ne_eqb}
 use Rattle.std.proofs.lemmas.List.{append-nil}
 use Rattle.std.proofs.lemmas.List.Elements.{All-from_recursion}
 use Rattle.std.specs.List.{AllByRecursion, concat, flat_map}
-use Rattle.octseq_dns_scan.specs.Word.{is_blank, is_special, AreWords, BeginsNoBlank, IsPart, IsPieceBut, IsWord}
+use Rattle.octseq_dns_scan.specs.Word.{is_blank, is_special, AreWords, BeginsNoBlank, IsWordPart, IsPieceBut, IsWord}
 use Rattle.octseq_dns_scan.specs.Word.{TakesWord}
 use Rattle.octseq_dns_scan.proofs.Taken.{plain_word, taken_end, taken_space}
 use Rattle.octseq_dns_text.specs.DataText.{opaque_word}
@@ -22,7 +22,7 @@ spaced_map text [] = refl
 spaced_map text (x ∷ xs) = ap (λ more. 32 ∷ text x ++ more) (spaced_map text xs)
 
 -- a word begins with no blank
-part_begins : (part rest : List ℕ) → IsPart part → BeginsNoBlank (part ++ rest)
+part_begins : (part rest : List ℕ) → IsWordPart part → BeginsNoBlank (part ++ rest)
 part_begins part rest (inl (IsPieceBut.plain {octet = octet} bare)) = bare_blank octet bare
   where
     bare_blank : (octet : ℕ) → is_special octet ≡ false → is_blank octet ≡ false
@@ -30,7 +30,7 @@ part_begins part rest (inl (IsPieceBut.plain {octet = octet} bare)) = bare_blank
 part_begins part rest (inl IsPieceBut.escaped) = refl
 part_begins part rest (inr (inside, made, same)) = subst (λ t. BeginsNoBlank (t ++ rest)) (sym same) refl
 
-parts_begin : (parts : List (List ℕ)) (rest : List ℕ) → AllByRecursion IsPart parts → 1 ≤ length (concat parts)
+parts_begin : (parts : List (List ℕ)) (rest : List ℕ) → AllByRecursion IsWordPart parts → 1 ≤ length (concat parts)
     → BeginsNoBlank (concat parts ++ rest)
 parts_begin [] rest are some = absurd (omega (arith, some))
 parts_begin (part ∷ parts) rest are some =

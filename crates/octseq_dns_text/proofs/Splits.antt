@@ -5,18 +5,18 @@ use Rattle.std.specs.Prelude.{◌==◌, if◌then◌else◌}
 use Rattle.std.specs.List.{onto_first, position_from, position}
 use Rattle.std.proofs.lemmas.Iterator.Adapters.{position_from-zero}
 use Rattle.std.proofs.lemmas.List.{take_all, length-drop}
-use Rattle.octseq_dns_text.specs.Split.{octets_before, octets_after, items_of}
+use Rattle.octseq_dns_text.specs.Split.{octets_before, split_after, items_of}
 
 abbrev Finds : ℕ → ℕ → ℕ → List ℕ → Type 0
 Finds at k i xs = (n : ℕ) × (i ≡ k + n) × (n < length xs) × (octets_before at xs ≡ take n xs)
-    × (octets_after at xs ≡ Some (drop (n + 1) xs))
+    × (split_after at xs ≡ Some (drop (n + 1) xs))
 
 found_here : (at k i x : ℕ) (xs : List ℕ) (here : Bool)
     → (if here then Some k else position_from (λ octet. octet == at) (k + 1) xs) ≡ Some i
     → (position_from (λ octet. octet == at) (k + 1) xs ≡ Some i → Finds at (k + 1) i xs)
     → (n : ℕ) × (i ≡ k + n) × (n < length (x ∷ xs))
     × ((if here then [] else x ∷ octets_before at xs) ≡ take n (x ∷ xs))
-    × ((if here then Some xs else octets_after at xs) ≡ Some (drop (n + 1) (x ∷ xs)))
+    × ((if here then Some xs else split_after at xs) ≡ Some (drop (n + 1) (x ∷ xs)))
 found_here at k i x xs true is later = let same : k ≡ i = cc in (0, omega (arith, same), omega arith, refl, refl)
 found_here at k i x xs false is later =
     let found = later is in (
@@ -35,7 +35,7 @@ found_from at k i (x ∷ xs) is = found_here at k i x xs (x == at) is (found_fro
 -- the octets before the first such octet, and those after it
 pub split_found : (at i : ℕ) (xs : List ℕ) → position (λ octet. octet == at) xs ≡ Some i
     → (i < length xs) × (octets_before at xs ≡ take i xs)
-    × (octets_after at xs ≡ Some (take (length xs - (i + 1)) (drop (i + 1) xs)))
+    × (split_after at xs ≡ Some (take (length xs - (i + 1)) (drop (i + 1) xs)))
 split_found at i xs is =
     let found = found_from at 0 i xs (sym (position_from-zero (λ octet. octet == at) xs) ∙ is) in
     let same : found.0 ≡ i = omega (arith, found.1) in (
@@ -48,20 +48,20 @@ split_found at i xs is =
 missing_here : (at k x : ℕ) (xs : List ℕ) (here : Bool)
     → (if here then Some k else position_from (λ octet. octet == at) (k + 1) xs) ≡ None
     → (position_from (λ octet. octet == at) (k + 1) xs ≡ None
-    → (octets_before at xs ≡ xs) × (octets_after at xs ≡ None))
+    → (octets_before at xs ≡ xs) × (split_after at xs ≡ None))
     → ((if here then [] else x ∷ octets_before at xs) ≡ x ∷ xs)
-    × ((if here then Some xs else octets_after at xs) ≡ None)
+    × ((if here then Some xs else split_after at xs) ≡ None)
 missing_here at k x xs true is later = absurd (cc)
 missing_here at k x xs false is later = let none = later is in (ap (λ l. x ∷ l) none.0, none.1)
 
 missing_from : (at k : ℕ) (xs : List ℕ) → position_from (λ octet. octet == at) k xs ≡ None
-    → (octets_before at xs ≡ xs) × (octets_after at xs ≡ None)
+    → (octets_before at xs ≡ xs) × (split_after at xs ≡ None)
 missing_from at k [] is = (refl, refl)
 missing_from at k (x ∷ xs) is = missing_here at k x xs (x == at) is (missing_from at (k + 1) xs)
 
 -- all octets are before such an octet, if there is none
 pub split_missing : (at : ℕ) (xs : List ℕ) → position (λ octet. octet == at) xs ≡ None
-    → (octets_before at xs ≡ xs) × (octets_after at xs ≡ None)
+    → (octets_before at xs ≡ xs) × (split_after at xs ≡ None)
 split_missing at xs is =
     missing_from at 0 xs (sym (position_from-zero (λ octet. octet == at) xs) ∙ is)
 
@@ -72,26 +72,26 @@ abbrev pub items_after : Option (List ℕ) → List (List ℕ)
 items_after None = []
 items_after (Some list) = items_of list
 
-item_step : (x : ℕ) (xs : List ℕ) (here : Bool) → items_of xs ≡ octets_before 44 xs ∷ items_after (octets_after 44 xs)
+item_step : (x : ℕ) (xs : List ℕ) (here : Bool) → items_of xs ≡ octets_before 44 xs ∷ items_after (split_after 44 xs)
     → (if here then ([] ∷ items_of xs) else onto_first x (items_of xs))
-    ≡ (if here then [] else x ∷ octets_before 44 xs) ∷ items_after (if here then Some xs else octets_after 44 xs)
+    ≡ (if here then [] else x ∷ octets_before 44 xs) ∷ items_after (if here then Some xs else split_after 44 xs)
 item_step x xs true later = refl
 item_step x xs false later = ap (onto_first x) later
 
 -- the first item is before the first comma
-pub item_first : (list : List ℕ) → items_of list ≡ octets_before 44 list ∷ items_after (octets_after 44 list)
+pub item_first : (list : List ℕ) → items_of list ≡ octets_before 44 list ∷ items_after (split_after 44 list)
 item_first [] = refl
 item_first (x ∷ xs) = item_step x xs (x == 44) (item_first xs)
 
 after_step : (at x : ℕ) (xs rest : List ℕ) (here : Bool)
-    → (if here then Some xs else octets_after at xs) ≡ Some rest
-    → (octets_after at xs ≡ Some rest → length rest < length xs) → length rest < length (x ∷ xs)
+    → (if here then Some xs else split_after at xs) ≡ Some rest
+    → (split_after at xs ≡ Some rest → length rest < length xs) → length rest < length (x ∷ xs)
 after_step at x xs rest true is later =
     let all : xs ≡ rest = cc in
     let same = ap length all in omega (arith, same)
 after_step at x xs rest false is later = let less = later is in omega (arith, less)
 
 -- what follows such an octet is shorter
-pub after_shortens : (at : ℕ) (xs rest : List ℕ) → octets_after at xs ≡ Some rest → length rest < length xs
+pub after_shortens : (at : ℕ) (xs rest : List ℕ) → split_after at xs ≡ Some rest → length rest < length xs
 after_shortens at [] rest is = absurd (cc)
 after_shortens at (x ∷ xs) rest is = after_step at x xs rest (x == at) is (after_shortens at xs rest)

@@ -4,7 +4,7 @@ use Rattle.std.proofs.Common.{subst, append_assoc, length-append, arith}
 use Rattle.std.proofs.lemmas.List.{append-nil}
 use Rattle.octseq_dns_scan.proofs.Spellings.{string_once}
 use Rattle.octseq_dns_scan.proofs.Taken.{word_once}
-use Rattle.octseq_dns_scan.specs.Spelled.{is_special_in_string, SpellsOctet, SpellsString}
+use Rattle.octseq_dns_scan.specs.Spelled.{is_special_in_string, SpellsOctetBut, SpellsString}
 use Rattle.octseq_dns_scan.specs.Word.{TakesWord}
 use Rattle.octseq_dns_text.proofs.ReadTexts.{takes_some}
 use Rattle.octseq_dns_text.proofs.SomeTexts.{fault_first}
@@ -14,7 +14,7 @@ use Rattle.octseq_dns_text.specs.Words.{IsStringWord}
 
 -- the letter a spells itself
 spells_a : SpellsString (97 ∷ []) (97 ∷ [])
-spells_a = SpellsString.bare (omega arith) (97 ∷ [], [], refl, SpellsOctet.plain refl, refl)
+spells_a = SpellsString.bare (omega arith) (97 ∷ [], [], refl, SpellsOctetBut.plain refl, refl)
 
 pub string_a : IsStringWord (97 ∷ []) (1 ∷ 97 ∷ [])
 string_a = (97 ∷ [], spells_a, omega arith, refl)

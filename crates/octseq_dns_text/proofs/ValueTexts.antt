@@ -13,7 +13,7 @@ use Rattle.octseq_dns_scan.proofs.Mades.{tail}
 use Rattle.octseq_dns_scan.proofs.Spellings.{string_once}
 use Rattle.octseq_dns_text.specs.IdsText.{IsIdsText, listed_ids}
 use Rattle.octseq_dns_text.specs.KeyText.{IsKeyText}
-use Rattle.octseq_dns_text.specs.ParamText.{AreAddressTexts, IsAddressText, IsMandatoryText, IsValueText, Says}
+use Rattle.octseq_dns_text.specs.ParamText.{AreAddressTexts, IsAddressText, IsMandatoryText, IsParamValueText, Says}
 use Rattle.octseq_dns_text.specs.Split.{items_of}
 use Rattle.octseq_dns_text.proofs.Fronts.{zip_once}
 use Rattle.octseq_dns_text.proofs.IdsTexts.{after_stuck, id_once, listed_after}
@@ -74,7 +74,7 @@ addresses_once Is size once said a b one two =
     one.octets ∙ ap concat addresses ∙ sym two.octets
 
 -- what is said of a value determines it
-pub value_once : (key : ℕ) (said a b : List ℕ) → IsValueText key said a → IsValueText key said b → a ≡ b
+pub value_once : (key : ℕ) (said a b : List ℕ) → IsParamValueText key said a → IsParamValueText key said b → a ≡ b
 value_once zero said a b one two = mandatory_once said a b (one.mandatory refl) (two.mandatory refl)
 value_once (suc zero) said a b one two = ids_once said a b (one.alpn refl) (two.alpn refl)
 value_once (suc (suc zero)) said a b one two = (one.no_default_alpn refl).1 ∙ sym (two.no_default_alpn refl).1
@@ -88,7 +88,7 @@ value_once (suc (suc (suc (suc (suc (suc zero)))))) said a b one two =
 value_once (suc (suc (suc (suc (suc (suc (suc key))))))) said a b one two =
     one.other (omega arith) ∙ sym (two.other (omega arith))
 
-pub value_at : (key other : ℕ) (said more value : List ℕ) → key ≡ other → said ≡ more → IsValueText key said value
-    → IsValueText other more value
+pub value_at : (key other : ℕ) (said more value : List ℕ) → key ≡ other → said ≡ more → IsParamValueText key said value
+    → IsParamValueText other more value
 value_at key other said more value keys same is =
-    subst (λ s. IsValueText other s value) same (subst (λ k. IsValueText k said value) keys is)
+    subst (λ s. IsParamValueText other s value) same (subst (λ k. IsParamValueText k said value) keys is)

@@ -11,7 +11,7 @@ use Rattle.octseq_dns_scan.specs.Base64.{IsBase64Text}
 use Rattle.octseq_dns_scan.specs.Spelled.{SpellsString}
 use Rattle.octseq_dns_text.specs.IdsText.{IsIdsText}
 use Rattle.octseq_dns_text.specs.KeyText.{IsKeyText}
-use Rattle.octseq_dns_text.specs.Split.{octets_before, octets_after, items_of}
+use Rattle.octseq_dns_text.specs.Split.{octets_before, split_after, items_of}
 
 -- Names of keys with commas between them, in any order. The value has the keys in ascending order.
 pub record IsMandatoryText (said value : List ℕ) : Type 0 where
@@ -45,7 +45,7 @@ pub record IsEchText (said value : List ℕ) : Type 0 where
   pub each : AreOctets value
 
 -- What is said of the value of a key, and its octets: RFC 9460, 14.3.2. For any other key they are what is said.
-pub record IsValueText (key : ℕ) (said value : List ℕ) : Type 0 where
+pub record IsParamValueText (key : ℕ) (said value : List ℕ) : Type 0 where
   pub mandatory : key ≡ 0 → IsMandatoryText said value
   pub alpn : key ≡ 1 → IsIdsText said value
   pub no_default_alpn : key ≡ 2 → (said ≡ []) × (value ≡ [])
@@ -65,6 +65,6 @@ Says (Some text) said = SpellsString said text
 pub record IsParamText (word : List ℕ) (param : Param) : Type 0 where
   pub said : List ℕ
   pub key : IsKeyText (octets_before 61 word) param.0
-  pub says : Says (octets_after 61 word) said
-  pub value : IsValueText param.0 said param.1
+  pub says : Says (split_after 61 word) said
+  pub value : IsParamValueText param.0 said param.1
   pub few : length param.1 < 2 ^ 16

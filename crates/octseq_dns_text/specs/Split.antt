@@ -8,9 +8,9 @@ octets_before at [] = []
 octets_before at (octet ∷ octets) = if octet == at then [] else octet ∷ octets_before at octets
 
 -- the octets after it, if there is one
-abbrev pub octets_after : ℕ → List ℕ → Option (List ℕ)
-octets_after at [] = None
-octets_after at (octet ∷ octets) = if octet == at then Some octets else octets_after at octets
+abbrev pub split_after : ℕ → List ℕ → Option (List ℕ)
+split_after at [] = None
+split_after at (octet ∷ octets) = if octet == at then Some octets else split_after at octets
 
 -- the items of a list with commas (44) between them
 abbrev pub items_of : List ℕ → List (List ℕ)

@@ -20,7 +20,7 @@ ghost use Rattle.octseq_dns_name.specs.Wire.{wire, AreLabels};
 ghost use Rattle.octseq_dns_scan.specs.Base32hex.{base32hex_text};
 ghost use Rattle.octseq_dns_scan.specs.Base64.{base64_text, IsBase64Text};
 ghost use Rattle.octseq_dns_scan.specs.Hex.{IsHexText};
-ghost use Rattle.octseq_format.specs.Canonical.{IsSound};
+ghost use Rattle.octseq_format.specs.Canonical.{IsSoundWindow};
 ghost use Rattle.octseq_dns_text.specs.DataShown.{ShowsData, rdata_octets};
 ghost use Rattle.octseq_dns_text.specs.Fields.{IsRtypeWord, IsNameWord, IsTagWord};
 ghost use Rattle.octseq_dns_text.specs.Runs.{AreRuns};
@@ -70,9 +70,9 @@ pub fn fields_are_read_as_shown()
 ///
 /// It does nothing. Calling it brings the law into the caller's proof.
 pub fn data_is_read_as_shown()
-    ensures typed { (rtype class : ℕ) (w inside : Window) (rdata : ParsedRdata) → IsSound w → IsSound inside
+    ensures typed { (rtype class : ℕ) (w inside : Window) (rdata : ParsedRdata) → IsSoundWindow w → IsSoundWindow inside
         → IsTypedData rtype class w inside rdata → ShowsData rtype class (rdata_text rdata) (rdata_octets rdata) }
-    ensures own { (rtype class k : ℕ) (inside : Window) (found : (form k).Found) → IsSound inside
+    ensures own { (rtype class k : ℕ) (inside : Window) (found : (form k).Found) → IsSoundWindow inside
         → IsLocal rtype class inside k found → rdata_octets (ParsedRdata.local k found) ≡ rest inside }
     ensures opaque { (rtype class : ℕ) (octets : List ℕ) → AreOctets octets → length octets ≤ 65535
         → ShowsData rtype class (opaque_text octets) octets }

@@ -6,7 +6,7 @@ use Rattle.octseq.specs.Part.{part_of}
 use Rattle.octseq_dns.proofs.Framing.{none_in_nothing}
 use Rattle.octseq_dns.specs.Frames.{FitsStream, IsMessageCut}
 use Rattle.octseq_dns_tool.specs.Composed.{IsTextPiece}
-use Rattle.octseq_dns_tool.specs.Out.{name_of, MessagesOut, Out}
+use Rattle.octseq_dns_tool.specs.Out.{command_name, MessagesOut, Out}
 use Rattle.octseq_dns_tool.specs.Shown.{IsMessagePiece}
 use Rattle.octseq_dns_tool.specs.Taken.{ending_of, IsEnd, IsPiece}
 use Rattle.octseq_dns_tool.specs.declared.engine.Command.{Command}
@@ -20,7 +20,7 @@ use Rattle.octseq_cli.proofs.TextSteps.{one_texts}
 use Rattle.octseq_cli.specs.declared.status.Status.{Status}
 
 -- no two commands have one name
-pub same_name : (c d : Command) → name_of c ≡ name_of d → c ≡ d
+pub same_name : (c d : Command) → command_name c ≡ command_name d → c ≡ d
 same_name Message Message e = refl
 same_name Stream Stream e = refl
 same_name Rewrite Rewrite e = refl

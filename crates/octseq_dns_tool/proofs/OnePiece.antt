@@ -2,7 +2,7 @@
 use Rattle.std.proofs.Common.{◌≡◌, ◌++◌, ◌∙◌}
 use Rattle.std.proofs.Common.{ℕ, inl, inr, Bool, true, false, List, length, codes, refl, sym, ap, subst, arith}
 use Rattle.octseq.specs.Part.{part_of}
-use Rattle.octseq_dns.specs.Contents.{octets_of}
+use Rattle.octseq_dns.specs.Contents.{message_octets}
 use Rattle.octseq_dns.specs.Contents.{Message as Contents}
 use Rattle.octseq_dns.specs.Entry.{Question, Record}
 use Rattle.octseq_dns.specs.Message.{IsMessage}
@@ -10,8 +10,8 @@ use Rattle.octseq_dns.specs.MessageText.{IsMessageText}
 use Rattle.octseq_dns.specs.Rewritten.{IsMessageOf}
 use Rattle.octseq_dns.specs.declared.header.Header.{Header}
 use Rattle.octseq_dns_message.proofs.Stops.{one_stop}
-use Rattle.octseq_dns_tool.specs.Rewritten.{IsWritten, CannotMove, IsRewrittenTooLong, IsAnew, IsSuch}
-use Rattle.octseq_dns_tool.specs.Shown.{HasText, IsMalformed, IsMessagePiece, IsNote, IsShown}
+use Rattle.octseq_dns_tool.specs.Rewritten.{IsWrittenAnew, CannotMove, IsRewrittenTooLong, IsAnew, IsSuch}
+use Rattle.octseq_dns_tool.specs.Shown.{HasText, IsMalformedMessage, IsMessagePiece, IsNote, IsShown}
 use Rattle.octseq_dns_tool.specs.Taken.{IsBlock, IsLeftNote, IsMoved, IsPiece}
 use Rattle.octseq_dns_tool.specs.declared.engine.stream.Messages.{Messages}
 use Rattle.octseq_dns_tool.specs.declared.engine.stream.Messages.TheVariants.{Shown, Rewritten}
@@ -84,20 +84,20 @@ module _ (one_message : (octets : List ℕ) (h k : Header) (q others : List Ques
   one_anew : (octets x y : List ℕ) → IsAnew octets x → IsAnew octets y → x ≡ y
   one_anew octets x y p q =
       let one =
-      carried (λ h l a b d. IsWritten h l a b d x) octets p.header q.header p.questions q.questions p.answers
+      carried (λ h l a b d. IsWrittenAnew h l a b d x) octets p.header q.header p.questions q.questions p.answers
       p.authorities p.additionals q.answers q.authorities q.additionals p.is_message q.is_message p.is_written in
       let other = q.is_written in
-      one.written ∙ ap (octets_of 16384)
+      one.written ∙ ap (message_octets 16384)
       (one_message_of q.header q.questions q.answers q.authorities q.additionals one.contents other.contents
       one.contents_are other.contents_are) ∙ sym other.written
 
   -- octets that are a message aren't malformed
-  anew_is_message : (octets x : List ℕ) → IsAnew octets x → IsMalformed octets → ⊥
+  anew_is_message : (octets x : List ℕ) → IsAnew octets x → IsMalformedMessage octets → ⊥
   anew_is_message octets x p malformed =
       malformed p.header p.questions p.answers p.authorities p.additionals p.is_message
 
   such_is_message : (P : Header → List Question → List Record → List Record → List Record → Type 0) (octets : List ℕ)
-      → IsSuch P octets → IsMalformed octets → ⊥
+      → IsSuch P octets → IsMalformedMessage octets → ⊥
   such_is_message P octets p malformed =
       malformed p.header p.questions p.answers p.authorities p.additionals p.is_message
 

@@ -1,7 +1,7 @@
 -- What is made of a text is a function of the text.
 use Rattle.std.proofs.Common.{◌≡◌, ◌∙◌, ℕ, inl, inr, Bool, true, false, List, refl, sym, ap}
 use Rattle.octseq.specs.Part.{part_of}
-use Rattle.octseq_dns.specs.Contents.{Message, octets_of}
+use Rattle.octseq_dns.specs.Contents.{Message, message_octets}
 use Rattle.octseq_dns_compose.specs.MessageText.{IsAnyText, IsTextOfMessage}
 use Rattle.octseq_dns_compose.specs.TextLines.{IsLineFault}
 use Rattle.octseq_dns_compose.specs.declared.error.Place.{Place}
@@ -36,7 +36,7 @@ module _ (one_message : (text : List ℕ) (m other : Message) → IsTextOfMessag
   pub one_text_piece : (number : ℕ) (text x y e f : List ℕ) (a b : Bool) → IsTextPiece number text a x e
       → IsTextPiece number text b y f → (a ≡ b) × (x ≡ y) × (e ≡ f)
   one_text_piece number text x y e f true true (octets, is, w, n) (other, it, v, m) =
-      let same = ap (octets_of 16384) (one_message text is.message it.message is.is_text it.is_text) in
+      let same = ap (message_octets 16384) (one_message text is.message it.message is.is_text it.is_text) in
       (refl, w ∙ ap (part_of 2) (is.octets_are ∙ same ∙ sym it.octets_are) ∙ sym v, n ∙ sym m)
   one_text_piece number text x y e f true false (octets, is, w, n) (left, v) =
       absurd (not_left number text octets f is left)

@@ -2,7 +2,7 @@
 use Rattle.std.specs.Fmt.{decimal}
 use Rattle.std.specs.Prelude.{◌≡◌, ◌⊎◌, ℕ, ◌≤◌, Some, List, [], ◌++◌, codes, length, Bool, true, false}
 use Rattle.octseq.specs.Part.{part_of}
-use Rattle.octseq_dns.specs.Contents.{Message, octets_of}
+use Rattle.octseq_dns.specs.Contents.{Message, message_octets}
 use Rattle.octseq_dns_compose.specs.MessageText.{IsAnyText, IsTextOfMessage}
 use Rattle.octseq_dns_compose.specs.TextLines.{IsLineFault}
 use Rattle.octseq_dns_compose.specs.TooLong.{IsMessageTooLong}
@@ -21,7 +21,7 @@ IsLongText = IsMessageTooLong 16384 (Some 65535)
 pub record IsComposed (text octets : List ℕ) : Type 0 where
   pub message : Message
   pub is_text : IsTextOfMessage text message
-  pub octets_are : octets ≡ octets_of 16384 message
+  pub octets_are : octets ≡ message_octets 16384 message
   pub size : length octets ≤ 65535
   pub is_short : ¬ IsLongText text
 

@@ -14,11 +14,11 @@ use Rattle.octseq_cli.specs.Texts.{IsTextsOut}
 use Rattle.octseq_cli.specs.declared.status.Status.{Status}
 
 -- the name of a command
-abbrev pub name_of : Command → List ℕ
-name_of Message = codes "message"
-name_of Stream = codes "stream"
-name_of Rewrite = codes "rewrite"
-name_of Compose = codes "compose"
+abbrev pub command_name : Command → List ℕ
+command_name Message = codes "message"
+command_name Stream = codes "stream"
+command_name Rewrite = codes "rewrite"
+command_name Compose = codes "compose"
 
 -- what is written for a command that takes messages, each preceded by its length in two octets
 abbrev pub MessagesOut : Messages → List ℕ → List ℕ → List ℕ → Status → Type 0

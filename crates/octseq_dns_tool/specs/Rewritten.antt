@@ -1,6 +1,6 @@
 -- Messages that are rewritten.
 use Rattle.std.specs.Prelude.{◌≡◌, ℕ, ◌<◌, ◌≤◌, List, ◌++◌, length}
-use Rattle.octseq_dns.specs.Contents.{octets_of}
+use Rattle.octseq_dns.specs.Contents.{message_octets}
 use Rattle.octseq_dns.specs.Contents.{Message as Contents}
 use Rattle.octseq_dns.specs.Moved.{CanMove}
 use Rattle.octseq_dns.specs.Rewritten.{IsMessageOf}
@@ -12,12 +12,12 @@ use Rattle.octseq_dns_tool.specs.declared.engine.rewrite.Rewriting.TheVariants.{
 
 -- A message that was read can be moved, and these are its octets when it is rewritten with at most one name kept for
 -- each offset that a pointer can express: at most 65,535.
-pub record IsWritten (header : Header) (questions : List Question) (answers authorities additionals : List Record)
+pub record IsWrittenAnew (header : Header) (questions : List Question) (answers authorities additionals : List Record)
     (anew : List ℕ) : Type 0 where
   pub moves : CanMove (answers ++ (authorities ++ additionals))
   pub contents : Contents
   pub contents_are : IsMessageOf header questions answers authorities additionals contents
-  pub written : anew ≡ octets_of 16384 contents
+  pub written : anew ≡ message_octets 16384 contents
   pub size : length anew ≤ 65535
 
 -- a message that was read can't be moved
@@ -28,12 +28,12 @@ CannotMove header questions answers authorities additionals = ¬ CanMove (answer
 abbrev pub IsRewrittenTooLong : Header → List Question → List Record → List Record → List Record → Type 0
 IsRewrittenTooLong header questions answers authorities additionals = CanMove (answers ++ (authorities ++ additionals))
     × ((m : Contents) → IsMessageOf header questions answers authorities additionals m
-    → 65535 < length (octets_of 16384 m))
+    → 65535 < length (message_octets 16384 m))
 
 -- whether a message that was read is rewritten, and its octets if it is, or why not
 abbrev pub IsRewriting : Header → List Question → List Record → List Record → List Record → Rewriting → List ℕ → Type 0
 IsRewriting header questions answers authorities additionals Written anew =
-    IsWritten header questions answers authorities additionals anew
+    IsWrittenAnew header questions answers authorities additionals anew
 IsRewriting header questions answers authorities additionals Immovable anew =
     CannotMove header questions answers authorities additionals
 IsRewriting header questions answers authorities additionals Long anew =
@@ -47,7 +47,7 @@ pub record IsAnew (octets anew : List ℕ) : Type 0 where
   pub authorities : List Record
   pub additionals : List Record
   pub is_message : IsMessage octets header questions answers authorities additionals
-  pub is_written : IsWritten header questions answers authorities additionals anew
+  pub is_written : IsWrittenAnew header questions answers authorities additionals anew
 
 -- Octets are a message of which this holds.
 pub record IsSuch (Holds : Header → List Question → List Record → List Record → List Record → Type 0) (octets : List ℕ)

@@ -18,14 +18,15 @@ pub record HasText (octets text : List ℕ) : Type 0 where
   pub is_text : IsMessageText header questions answers authorities additionals text
 
 -- octets aren't a message
-abbrev pub IsMalformed : List ℕ → Type 0
-IsMalformed octets = (header : Header) (questions : List Question) (answers authorities additionals : List Record)
+abbrev pub IsMalformedMessage : List ℕ → Type 0
+IsMalformedMessage octets = (header : Header) (questions : List Question)
+    (answers authorities additionals : List Record)
     → ¬ IsMessage octets header questions answers authorities additionals
 
 -- what is shown of octets: the text of the message, if they are one, otherwise `malformed`
 abbrev pub IsShown : List ℕ → Bool → List ℕ → Type 0
 IsShown octets true shown = HasText octets shown
-IsShown octets false shown = IsMalformed octets × (shown ≡ codes "malformed\n")
+IsShown octets false shown = IsMalformedMessage octets × (shown ≡ codes "malformed\n")
 
 -- the note about octets on standard error: if they aren't a message, the number of the message and the place where
 -- reading stopped

@@ -4,7 +4,7 @@ use Rattle.std.specs.Prelude.{◌≡◌, ◌⊎◌, ℕ, List, [], ◌++◌, cod
 use Rattle.octseq.specs.Part.{part_of}
 use Rattle.octseq_dns.specs.Frames.{IsMessageCut}
 use Rattle.octseq_dns_tool.specs.Rewritten.{IsAnew, IsSuch, CannotMove, IsRewrittenTooLong}
-use Rattle.octseq_dns_tool.specs.Shown.{IsMalformed, IsNote, IsShown}
+use Rattle.octseq_dns_tool.specs.Shown.{IsMalformedMessage, IsNote, IsShown}
 use Rattle.octseq_dns_tool.specs.declared.engine.stream.Messages.{Messages}
 use Rattle.octseq_dns_tool.specs.declared.engine.stream.Messages.TheVariants.{Shown, Rewritten}
 use Rattle.octseq_cli.specs.Frames.{IsPlainEnd, IsPlainRest}
@@ -22,7 +22,7 @@ left_line number why = codes "message " ++ decimal number ++ codes ": left out: 
 -- the note about octets that are left out: they aren't a message, or are one whose data may have pointers, which would
 -- point elsewhere, or are one that would be too long
 abbrev pub IsLeftNote : ℕ → List ℕ → List ℕ → Type 0
-IsLeftNote number octets note = (IsMalformed octets × IsNote number octets false note)
+IsLeftNote number octets note = (IsMalformedMessage octets × IsNote number octets false note)
     ⊎ ((IsSuch CannotMove octets × (note ≡ left_line number (codes "its data may have pointers")))
     ⊎ (IsSuch IsRewrittenTooLong octets × (note ≡ left_line number (codes "it takes more than 65535 octets"))))
 
@@ -43,8 +43,8 @@ ending_of Shown = codes "unexpected end of input\n"
 ending_of Rewritten = []
 
 -- the rest of a stream, by how it ends
-abbrev pub IsRest : Ending → List ℕ → Type 0
-IsRest = IsPlainRest IsMessageCut
+abbrev pub IsStreamRest : Ending → List ℕ → Type 0
+IsStreamRest = IsPlainRest IsMessageCut
 
 -- what is made of the rest
 abbrev pub IsEnd : Messages → ℕ → List ℕ → Bool → List ℕ → List ℕ → Type 0

@@ -1,6 +1,6 @@
 //! The commands of the program.
 ghost use Rattle.std.specs.Prelude.{◌≡◌, ℕ, List, Option, codes, true};
-ghost use Rattle.octseq_dns_tool.specs.Out.{name_of, Out};
+ghost use Rattle.octseq_dns_tool.specs.Out.{command_name, Out};
 ghost use Rattle.octseq_dns_tool.specs.declared.engine.Command.{Command};
 ghost use Rattle.octseq_cli.specs.Run.{IsNamed};
 ghost use Rattle.octseq_cli.specs.declared.status.Status.{Status};
@@ -75,7 +75,7 @@ pub enum Command {
 /// that a check proves it.
 pub fn one_answer()
     ensures command { (word : List ℕ) (c d : Option Command)
-        → IsNamed name_of word c → IsNamed name_of word d → c ≡ d }
+        → IsNamed command_name word c → IsNamed command_name word d → c ≡ d }
     ensures output { (c : Command) (input x y e f : List ℕ) (s t : Status)
         → Out c input x e s → Out c input y f t → (x ≡ y) × (e ≡ f) × (s ≡ t) }
 {
@@ -87,7 +87,7 @@ pub fn one_answer()
 impl Commands for Command {
     ghost use Rattle.octseq_dns_tool.specs.declared.engine.TheConstants.{HELP, USAGE};
 
-    ghost name_of = { name_of };
+    ghost name_of = { command_name };
 
     ghost default_word = { codes "message" };
 

@@ -5,7 +5,8 @@ use Rattle.std.proofs.lemmas.Bool.{lt-ltb}
 use Rattle.std.specs.Prelude.{slice_index, slice_range, nat_lt, if◌then◌else◌}
 use Rattle.octseq.specs.Integer.{le}
 use Rattle.octseq_format.specs.CompactSize.{compact_long, compact_size, compact_octets, some_compact}
-use Rattle.octseq_format.specs.CompactSize.{alone, itself, followed, octets_1, octets_3, octets_5, octets_9}
+use Rattle.octseq_format.specs.CompactSize.{compact_alone, compact_itself, compact_followed, compact_octets_1}
+use Rattle.octseq_format.specs.CompactSize.{compact_octets_3, compact_octets_5, compact_octets_9}
 use Rattle.octseq.proofs.Written.{made_le_2, made_le_4, made_le_8}
 use Rattle.std.specs.Int.{w8, w16, w32, w64, to_le_bytes}
 use Rattle.octseq_format.specs.Varying.{IsAsLong, Leads, NoneLeads, long_leads, none_long, after_one}
@@ -26,7 +27,8 @@ after_first first k large long xs is few n value =
     record {
       few = few;
       whole = long_leads compact_long some_compact xs (suc k) few (sym long ∙ ap compact_long (sym is));
-      value = value ∙ ap le (sym (after_one xs k few)) ∙ sym (followed (take (suc k) xs) (omega (arith, large, head)));
+      value = value ∙ ap le (sym (after_one xs k few))
+          ∙ sym (compact_followed (take (suc k) xs) (omega (arith, large, head)));
     }
 
 -- a number that is the first one
@@ -36,23 +38,24 @@ first_itself first small xs is some =
     let head : slice_index (take 1 xs) 0 ≡ first = get_or-take 1 xs 0 0 (omega arith) ∙ is in
     record {
       few = some;
-      whole = long_leads compact_long some_compact xs 1 some (sym (alone first small) ∙ ap compact_long (sym is));
-      value = sym head ∙ sym (itself (take 1 xs) (omega (arith, head, small)));
+      whole = long_leads compact_long some_compact xs 1 some
+          (sym (compact_alone first small) ∙ ap compact_long (sym is));
+      value = sym head ∙ sym (compact_itself (take 1 xs) (omega (arith, head, small)));
     }
 
 -- ---- the octets of a number, by its size, as std makes them
 
 pub made_1 : (n : ℕ) → n < 253 → compact_octets n ≡ to_le_bytes w8 n
-made_1 n few = octets_1 n few ∙ (let same : n ≡ n % 256 = omega (arith, few) in ap (λ x. x ∷ []) same)
+made_1 n few = compact_octets_1 n few ∙ (let same : n ≡ n % 256 = omega (arith, few) in ap (λ x. x ∷ []) same)
 
 pub made_3 : (n : ℕ) → 253 ≤ n → n < 2 ^ 16 → compact_octets n ≡ 253 ∷ to_le_bytes w16 n
-made_3 n large few = octets_3 n large few ∙ ap (λ xs. 253 ∷ xs) (sym (made_le_2 n))
+made_3 n large few = compact_octets_3 n large few ∙ ap (λ xs. 253 ∷ xs) (sym (made_le_2 n))
 
 pub made_5 : (n : ℕ) → 2 ^ 16 ≤ n → n < 2 ^ 32 → compact_octets n ≡ 254 ∷ to_le_bytes w32 n
-made_5 n large few = octets_5 n large few ∙ ap (λ xs. 254 ∷ xs) (sym (made_le_4 n))
+made_5 n large few = compact_octets_5 n large few ∙ ap (λ xs. 254 ∷ xs) (sym (made_le_4 n))
 
 pub made_9 : (n : ℕ) → 2 ^ 32 ≤ n → compact_octets n ≡ 255 ∷ to_le_bytes w64 n
-made_9 n large = octets_9 n large ∙ ap (λ xs. 255 ∷ xs) (sym (made_le_8 n))
+made_9 n large = compact_octets_9 n large ∙ ap (λ xs. 255 ∷ xs) (sym (made_le_8 n))
 
 -- how a CompactSize is written
 pub ruleset compact_made = (made_1, made_3, made_5, made_9)

@@ -6,7 +6,7 @@ use Rattle.std.proofs.Math.Seq.{take-append_seam}
 use Rattle.std.specs.Coded.{Coded-set, coded_list, coded_ℕ, le_prop, ×_prop}
 use Rattle.std.specs.List.{AllByRecursion}
 use Rattle.octseq.specs.Window.{Window, rest}
-use Rattle.octseq_format.specs.Canonical.{AreOctets, IsSound, IsCanonical, many_rest}
+use Rattle.octseq_format.specs.Canonical.{AreOctets, IsSoundWindow, IsCanonical, many_rest}
 use Rattle.octseq_format.specs.Laws.{Relation, IsOnward}
 use Rattle.octseq_format.specs.Row.{HoldsTo, row_octets, onward_row, row_written, sound_row, each_once}
 
@@ -27,7 +27,7 @@ held_offset Is onward w count end held ordered =
 -- and its octets are those up to its end
 pub held_written : {A S : Type 0} {Is : Relation A} {says : A → S} {octets : S → List ℕ} {Fits : S → Type 0}
     {least : ℕ} → IsOnward least Is → IsCanonical Is says octets Fits → (w : Window) (count end n : ℕ)
-    (held : HoldsTo Is w count end) → IsSound w → w.position + n ≡ end
+    (held : HoldsTo Is w count end) → IsSoundWindow w → w.position + n ≡ end
     → AllByRecursion Fits (map says held.0) × (take n (rest w) ≡ row_octets octets (map says held.0))
 held_written {Is = Is} {says = says} {octets = octets} onward canonical w count end n held sound ends =
     let o = row_octets octets (map says held.0) in

@@ -6,7 +6,8 @@ use Rattle.std.specs.Prelude.{slice_index, slice_range}
 use Rattle.octseq.specs.Integer.{be, octets_be}
 use Rattle.octseq.proofs.Written.{length_be, value_be, are_be}
 use Rattle.octseq_format.specs.Der.{IsDer, der_long, der_length, der_octets, significant, some_der}
-use Rattle.octseq_format.specs.Der.{alone, following, itself, followed, octets_short, octets_long, back_significant}
+use Rattle.octseq_format.specs.Der.{der_alone, der_following, der_itself, der_followed, der_octets_short}
+use Rattle.octseq_format.specs.Der.{der_octets_long, back_significant}
 use Rattle.octseq_format.specs.Varying.{Leads, NoneLeads, long_leads, none_long, after_one}
 use Rattle.octseq_format.proofs.EightOctets.{last_be}
 
@@ -23,7 +24,7 @@ empty xs none = let some = some_der (slice_index xs 0) in short xs (omega (arith
 pub cut : (first : ℕ) (xs : List ℕ) → slice_index xs 0 ≡ first → 128 ≤ first → length xs < first - 127
     → NoneLeads IsDer xs
 cut first xs is large few =
-    let says = ap der_long is ∙ following first large in
+    let says = ap der_long is ∙ der_following first large in
     short xs (omega (arith, few, says))
 
 -- if a whole encoding leads, its first octet is this one, and says how many there are
@@ -34,7 +35,7 @@ leading_at first xs k is large few whole =
     let some = some_der (slice_index (take k xs) 0) in
     let long = whole.long in
     let head : slice_index (take k xs) 0 ≡ first = get_or-take k xs 0 0 (omega (arith, all, some, long)) ∙ is in
-    let says = ap der_long head ∙ following first large in
+    let says = ap der_long head ∙ der_following first large in
     (omega (arith, all, long, says), head)
 
 -- too many
@@ -76,7 +77,7 @@ small first k xs is large count few j within whole =
     let found = leading_at first xs j is large within whole in
     let head = found.1 in
     let same : j ≡ k = found.0 ∙ sym count in
-    let value = followed (take j xs) (omega (arith, head, large))
+    let value = der_followed (take j xs) (omega (arith, head, large))
     ∙ ap be (after_first xs j (omega (arith, same, count, large)) within) ∙ ap (λ k. be (slice_range xs 1 k)) same in
     let enough = whole.large (omega (arith, head, large)) in
     omega (arith, value, few, enough)
@@ -90,12 +91,12 @@ first_itself first xs is few some =
     record {
       few = some;
       whole = record {
-        long = long_leads der_long some_der xs 1 some (sym (alone first few) ∙ ap der_long (sym is));
+        long = long_leads der_long some_der xs 1 some (sym (der_alone first few) ∙ ap der_long (sym is));
         few = omega (arith, all);
         head = λ large. absurd (omega (arith, head, few, large));
         large = λ large. absurd (omega (arith, head, few, large));
       };
-      value = sym head ∙ sym (itself (take 1 xs) (omega (arith, head, few)));
+      value = sym head ∙ sym (der_itself (take 1 xs) (omega (arith, head, few)));
     }
 
 -- a length after it
@@ -107,12 +108,12 @@ leads first k xs is large most count few n value enough next =
     let head : slice_index (take k xs) 0 ≡ first = get_or-take k xs 0 0 some ∙ is in
     let all = length-take-le k xs few in
     let after = after_first xs k some few in
-    let says = followed (take k xs) (omega (arith, head, large)) ∙ ap be after in
+    let says = der_followed (take k xs) (omega (arith, head, large)) ∙ ap be after in
     let then = second (take k xs) ∙ ap (λ ys. slice_index ys 0) after in
     record {
       few = few;
       whole = record {
-        long = long_leads der_long some_der xs k few (count ∙ sym (following first large) ∙ ap der_long (sym is));
+        long = long_leads der_long some_der xs k few (count ∙ sym (der_following first large) ∙ ap der_long (sym is));
         few = omega (arith, all, count, most);
         head = λ _. omega (arith, then, next);
         large = λ _. omega (arith, says, value, enough);
@@ -131,11 +132,11 @@ octets_of k n few fits large head =
     let same : significant (octets_be 8 n) ≡ ys =
     ap (λ n. significant (octets_be 8 n)) (sym (value_be k n fits))
     ∙ back_significant ys are.each (omega (arith, all, few)) head in
-    octets_long n large ∙ ap (λ ys. (128 + length ys) ∷ ys) same ∙ ap (λ m. (128 + m) ∷ ys) all
+    der_octets_long n large ∙ ap (λ ys. (128 + length ys) ∷ ys) same ∙ ap (λ m. (128 + m) ∷ ys) all
     ∙ ap (λ ys. (128 + k) ∷ ys) (sym (last_be k n few))
 
 pub made_0 : (n : ℕ) → n < 128 → der_octets n ≡ to_be_bytes w8 n
-made_0 n few = octets_short n few ∙ (let same : n ≡ n % 256 = omega (arith, few) in ap (λ x. x ∷ []) same)
+made_0 n few = der_octets_short n few ∙ (let same : n ≡ n % 256 = omega (arith, few) in ap (λ x. x ∷ []) same)
 
 pub made_1 : (n : ℕ) → 128 ≤ n → n < 256 ^ 1 → der_octets n ≡ 129 ∷ slice_range (to_be_bytes w64 n) 7 8
 unfolding octets_be

@@ -7,7 +7,7 @@ use Rattle.octseq.specs.Integer.{be, octets_be}
 use Rattle.octseq.proofs.Values.{be_1}
 use Rattle.octseq.proofs.Written.{made_be_2, made_be_4, made_be_8}
 use Rattle.octseq_format.specs.Quic.{quic_long, quic_number, quic_octets, some_quic}
-use Rattle.octseq_format.specs.Quic.{octets_1, octets_2, octets_4, octets_8}
+use Rattle.octseq_format.specs.Quic.{quic_octets_1, quic_octets_2, quic_octets_4, quic_octets_8}
 use Rattle.octseq_format.specs.Varying.{IsAsLong, Leads, NoneLeads, long_leads, none_long}
 
 -- fewer octets than the first two bits say
@@ -45,16 +45,16 @@ pub made_1 : (n : ℕ) → n < 2 ^ 6 → quic_octets n ≡ to_be_bytes w8 n
 unfolding octets_be
 made_1 n few =
     let same : (0 + n) / 256 ^ 0 % 256 ≡ n % 256 = omega (arith, few) in
-    octets_1 n few ∙ ap (λ x. x ∷ []) same
+    quic_octets_1 n few ∙ ap (λ x. x ∷ []) same
 
 pub made_2 : (n : ℕ) → 2 ^ 6 ≤ n → n < 2 ^ 14 → quic_octets n ≡ to_be_bytes w16 (2 ^ 14 + n)
-made_2 n large few = octets_2 n large few ∙ sym (made_be_2 (2 ^ 14 + n))
+made_2 n large few = quic_octets_2 n large few ∙ sym (made_be_2 (2 ^ 14 + n))
 
 pub made_4 : (n : ℕ) → 2 ^ 14 ≤ n → n < 2 ^ 30 → quic_octets n ≡ to_be_bytes w32 (2 ^ 31 + n)
-made_4 n large few = octets_4 n large few ∙ sym (made_be_4 (2 ^ 31 + n))
+made_4 n large few = quic_octets_4 n large few ∙ sym (made_be_4 (2 ^ 31 + n))
 
 pub made_8 : (n : ℕ) → 2 ^ 30 ≤ n → quic_octets n ≡ to_be_bytes w64 (3 * 2 ^ 62 + n)
-made_8 n large = octets_8 n large ∙ sym (made_be_8 (3 * 2 ^ 62 + n))
+made_8 n large = quic_octets_8 n large ∙ sym (made_be_8 (3 * 2 ^ 62 + n))
 
 -- how QUIC's integers are written
 pub ruleset quic_made = (made_1, made_2, made_4, made_8)

@@ -8,7 +8,7 @@ use Rattle.octseq.specs.Window.{Window, left, next, rest, past, nested}
 use Rattle.octseq_format.specs.Laws.{Relation, IsOnward}
 
 -- A window on octets that isn't past its end.
-pub record IsSound (w : Window) : Type 0 where
+pub record IsSoundWindow (w : Window) : Type 0 where
   pub each : AreOctets w.octets
   pub ordered : w.position ≤ w.end
   pub within : w.end ≤ length w.octets
@@ -17,9 +17,9 @@ pub record IsSound (w : Window) : Type 0 where
 pub record IsCanonical {A S : Type 0} (Is : Relation A) (says : A → S) (octets : S → List ℕ)
     (Fits : S → Type 0) : Type 0 where
   pub once : (said : S) → IsProp (Fits said)
-  pub written : (w : Window) (a : A) (v : Window) → IsSound w → Is w a v
+  pub written : (w : Window) (a : A) (v : Window) → IsSoundWindow w → Is w a v
       → Fits (says a) × (rest w ≡ octets (says a) ++ rest v)
-  pub on : (w : Window) (a : A) (v : Window) → IsSound w → Is w a v → IsSound v
+  pub on : (w : Window) (a : A) (v : Window) → IsSoundWindow w → Is w a v → IsSoundWindow v
 
 -- ---- lemmas: proved below this line, so what the words mean is read above it
 
@@ -34,29 +34,29 @@ each_dropped (suc n) [] each = tt
 each_dropped (suc n) (x ∷ xs) each = each_dropped n xs each.1
 
 -- the next n are octets
-pub each_next : (n : ℕ) (w : Window) → IsSound w → AreOctets (next n w)
+pub each_next : (n : ℕ) (w : Window) → IsSoundWindow w → AreOctets (next n w)
 each_next n w sound =
     each_taken (w.position + n - w.position) (drop w.position w.octets) (each_dropped w.position w.octets sound.each)
 
 -- and there are n of them
-pub many_next : (n : ℕ) (w : Window) → IsSound w → n ≤ left w → length (next n w) ≡ n
+pub many_next : (n : ℕ) (w : Window) → IsSoundWindow w → n ≤ left w → length (next n w) ≡ n
 many_next n w sound few =
     let taken = length-take (w.position + n - w.position) (drop w.position w.octets) in
     let dropped = length-drop w.position w.octets in
     omega (arith, taken, dropped, few, sound.within, sound.ordered)
 
 -- the octets that are left are as many as `left` says
-pub many_rest : (w : Window) → IsSound w → length (rest w) ≡ left w
+pub many_rest : (w : Window) → IsSoundWindow w → length (rest w) ≡ left w
 many_rest w sound =
     let taken = length-take (left w) (drop w.position w.octets) in
     let dropped = length-drop w.position w.octets in
     omega (arith, taken, dropped, sound.within, sound.ordered)
 
-pub sound_past : (n : ℕ) (w : Window) → IsSound w → n ≤ left w → IsSound (past n w)
+pub sound_past : (n : ℕ) (w : Window) → IsSoundWindow w → n ≤ left w → IsSoundWindow (past n w)
 sound_past n w sound few =
     record { each = sound.each; ordered = omega (arith, few, sound.ordered); within = sound.within }
 
-pub sound_nested : (n : ℕ) (w : Window) → IsSound w → n ≤ left w → IsSound (nested n w)
+pub sound_nested : (n : ℕ) (w : Window) → IsSoundWindow w → n ≤ left w → IsSoundWindow (nested n w)
 sound_nested n w sound few = record {
   each = sound.each;
   ordered = omega arith;
@@ -65,7 +65,7 @@ sound_nested n w sound few = record {
 
 -- the window past a value is sound
 pub sound_on : {A : Type 0} {Is : Relation A} {least : ℕ} → IsOnward least Is → (w : Window) (a : A) (v : Window)
-    → IsSound w → Is w a v → IsSound v
+    → IsSoundWindow w → Is w a v → IsSoundWindow v
 sound_on onward w a v sound is =
     let on = onward.on w a v sound.ordered is in
     let many = ap length on.0 in

@@ -27,8 +27,8 @@ compact_octets n =
 abbrev pub CompactFits : ℕ → Type 0
 CompactFits n = n < 2 ^ 64
 
-abbrev Said : ℕ → List ℕ → Type 0
-Said n xs = IsAsLong compact_long xs × (compact_size xs ≡ n)
+abbrev CompactEncodes : ℕ → List ℕ → Type 0
+CompactEncodes n xs = IsAsLong compact_long xs × (compact_size xs ≡ n)
 
 -- ---- lemmas: proved below this line, so what the words mean is read above it
 
@@ -44,55 +44,58 @@ pub apart_compact : AreEncodingsApart (IsAsLong compact_long)
 apart_compact = apart_long compact_long some_compact
 
 -- a first octet below 253 is alone
-pub alone : (first : ℕ) → first < 253 → compact_long first ≡ 1
+pub compact_alone : (first : ℕ) → first < 253 → compact_long first ≡ 1
 unfolding compact_long
-alone first few = first_of_two _ _ (lt-ltb first 253 few)
+compact_alone first few = first_of_two _ _ (lt-ltb first 253 few)
 
 -- and is the number
-pub itself : (xs : List ℕ) → slice_index xs 0 < 253 → compact_size xs ≡ slice_index xs 0
+pub compact_itself : (xs : List ℕ) → slice_index xs 0 < 253 → compact_size xs ≡ slice_index xs 0
 unfolding compact_size
-itself xs few = first_of_two _ _ (lt-ltb (slice_index xs 0) 253 few)
+compact_itself xs few = first_of_two _ _ (lt-ltb (slice_index xs 0) 253 few)
 
 -- any other is followed by the number
-pub followed : (xs : List ℕ) → 253 ≤ slice_index xs 0 → compact_size xs ≡ le (drop 1 xs)
+pub compact_followed : (xs : List ℕ) → 253 ≤ slice_index xs 0 → compact_size xs ≡ le (drop 1 xs)
 unfolding compact_size
-followed xs large = second_of_two _ _ (le-ltb (slice_index xs 0) 253 large)
+compact_followed xs large = second_of_two _ _ (le-ltb (slice_index xs 0) 253 large)
 
-small : (n : ℕ) → n < 253 → Said n (n ∷ [])
-small n few = (sym (alone n few), itself (n ∷ []) few)
+small : (n : ℕ) → n < 253 → CompactEncodes n (n ∷ [])
+small n few = (sym (compact_alone n few), compact_itself (n ∷ []) few)
 
-after : (first k n : ℕ) → 253 ≤ first → compact_long first ≡ suc k → n < 256 ^ k → Said n (first ∷ octets_le k n)
+after : (first k n : ℕ) → 253 ≤ first → compact_long first ≡ suc k → n < 256 ^ k
+    → CompactEncodes n (first ∷ octets_le k n)
 after first k n large long fits =
-    (ap suc (length_le k n) ∙ sym long, followed (first ∷ octets_le k n) large ∙ value_le k n fits)
+    (ap suc (length_le k n) ∙ sym long, compact_followed (first ∷ octets_le k n) large ∙ value_le k n fits)
 
-said : (n : ℕ) → CompactFits n → Said n (compact_octets n)
+compact_encodes : (n : ℕ) → CompactFits n → CompactEncodes n (compact_octets n)
 unfolding compact_octets compact_long
-said n fits =
-    by_test (Said n) (nat_lt n 253) _ _ (λ yes. small n (ltb-true n 253 yes))
-    (λ _. by_test (Said n) (nat_lt n (2 ^ 16)) _ _ (λ yes. after 253 2 n (omega arith) refl (ltb-true n (2 ^ 16) yes))
-    (λ _. by_test (Said n) (nat_lt n (2 ^ 32)) _ _ (λ yes. after 254 4 n (omega arith) refl (ltb-true n (2 ^ 32) yes))
+compact_encodes n fits =
+    by_test (CompactEncodes n) (nat_lt n 253) _ _ (λ yes. small n (ltb-true n 253 yes))
+    (λ _. by_test (CompactEncodes n) (nat_lt n (2 ^ 16)) _ _
+    (λ yes. after 253 2 n (omega arith) refl (ltb-true n (2 ^ 16) yes))
+    (λ _. by_test (CompactEncodes n) (nat_lt n (2 ^ 32)) _ _
+    (λ yes. after 254 4 n (omega arith) refl (ltb-true n (2 ^ 32) yes))
     (λ _. after 255 8 n (omega arith) refl fits)))
 
 pub read_compact : AreRead (IsAsLong compact_long) compact_size compact_octets CompactFits
-read_compact = record { whole = λ n fits. (said n fits).0; back = λ n fits. (said n fits).1 }
+read_compact = record { whole = λ n fits. (compact_encodes n fits).0; back = λ n fits. (compact_encodes n fits).1 }
 
 -- ---- the octets of a number, by its size
-pub octets_1 : (n : ℕ) → n < 253 → compact_octets n ≡ n ∷ []
+pub compact_octets_1 : (n : ℕ) → n < 253 → compact_octets n ≡ n ∷ []
 unfolding compact_octets
-octets_1 n few = first_of_two _ _ (lt-ltb n 253 few)
+compact_octets_1 n few = first_of_two _ _ (lt-ltb n 253 few)
 
-pub octets_3 : (n : ℕ) → 253 ≤ n → n < 2 ^ 16 → compact_octets n ≡ 253 ∷ octets_le 2 n
+pub compact_octets_3 : (n : ℕ) → 253 ≤ n → n < 2 ^ 16 → compact_octets n ≡ 253 ∷ octets_le 2 n
 unfolding compact_octets
-octets_3 n large few = second_of_two _ _ (le-ltb n 253 large) ∙ first_of_two _ _ (lt-ltb n (2 ^ 16) few)
+compact_octets_3 n large few = second_of_two _ _ (le-ltb n 253 large) ∙ first_of_two _ _ (lt-ltb n (2 ^ 16) few)
 
-pub octets_5 : (n : ℕ) → 2 ^ 16 ≤ n → n < 2 ^ 32 → compact_octets n ≡ 254 ∷ octets_le 4 n
+pub compact_octets_5 : (n : ℕ) → 2 ^ 16 ≤ n → n < 2 ^ 32 → compact_octets n ≡ 254 ∷ octets_le 4 n
 unfolding compact_octets
-octets_5 n large few =
+compact_octets_5 n large few =
     second_of_two _ _ (le-ltb n 253 (omega (arith, large))) ∙ second_of_two _ _ (le-ltb n (2 ^ 16) large)
     ∙ first_of_two _ _ (lt-ltb n (2 ^ 32) few)
 
-pub octets_9 : (n : ℕ) → 2 ^ 32 ≤ n → compact_octets n ≡ 255 ∷ octets_le 8 n
+pub compact_octets_9 : (n : ℕ) → 2 ^ 32 ≤ n → compact_octets n ≡ 255 ∷ octets_le 8 n
 unfolding compact_octets
-octets_9 n large =
+compact_octets_9 n large =
     second_of_two _ _ (le-ltb n 253 (omega (arith, large)))
     ∙ second_of_two _ _ (le-ltb n (2 ^ 16) (omega (arith, large))) ∙ second_of_two _ _ (le-ltb n (2 ^ 32) large)

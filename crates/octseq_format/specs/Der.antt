@@ -45,32 +45,32 @@ pub record IsDer (octets : List ℕ) : Type 0 where
 abbrev pub DerFits : ℕ → Type 0
 DerFits n = n < 2 ^ 64
 
-abbrev Said : ℕ → List ℕ → Type 0
-Said n xs = IsDer xs × (der_length xs ≡ n)
+abbrev DerEncodes : ℕ → List ℕ → Type 0
+DerEncodes n xs = IsDer xs × (der_length xs ≡ n)
 
 -- ---- lemmas: proved below this line, so what the words mean is read above it
 
 -- ---- laws
 
 -- a first octet below 128 is alone
-pub alone : (first : ℕ) → first < 128 → der_long first ≡ 1
+pub der_alone : (first : ℕ) → first < 128 → der_long first ≡ 1
 unfolding der_long
-alone first few = first_of_two _ _ (lt-ltb first 128 few)
+der_alone first few = first_of_two _ _ (lt-ltb first 128 few)
 
 -- any other says how many follow
-pub following : (first : ℕ) → 128 ≤ first → der_long first ≡ first - 127
+pub der_following : (first : ℕ) → 128 ≤ first → der_long first ≡ first - 127
 unfolding der_long
-following first large = second_of_two _ _ (le-ltb first 128 large)
+der_following first large = second_of_two _ _ (le-ltb first 128 large)
 
 -- a first octet below 128 is the length
-pub itself : (xs : List ℕ) → slice_index xs 0 < 128 → der_length xs ≡ slice_index xs 0
+pub der_itself : (xs : List ℕ) → slice_index xs 0 < 128 → der_length xs ≡ slice_index xs 0
 unfolding der_length
-itself xs few = first_of_two _ _ (lt-ltb (slice_index xs 0) 128 few)
+der_itself xs few = first_of_two _ _ (lt-ltb (slice_index xs 0) 128 few)
 
 -- any other is followed by the length
-pub followed : (xs : List ℕ) → 128 ≤ slice_index xs 0 → der_length xs ≡ be (drop 1 xs)
+pub der_followed : (xs : List ℕ) → 128 ≤ slice_index xs 0 → der_length xs ≡ be (drop 1 xs)
 unfolding der_length
-followed xs large = second_of_two _ _ (le-ltb (slice_index xs 0) 128 large)
+der_followed xs large = second_of_two _ _ (le-ltb (slice_index xs 0) 128 large)
 
 pub some_der : (first : ℕ) → 0 < der_long first
 unfolding der_long
@@ -146,31 +146,31 @@ back_significant ys each few some =
     ∙ ap significant (as_be 8 all many (each_after_zeros m ys each)) ∙ after_zeros m ys some
 
 -- ---- read and written
-pub octets_short : (n : ℕ) → n < 128 → der_octets n ≡ n ∷ []
+pub der_octets_short : (n : ℕ) → n < 128 → der_octets n ≡ n ∷ []
 unfolding der_octets
-octets_short n few = first_of_two _ _ (lt-ltb n 128 few)
+der_octets_short n few = first_of_two _ _ (lt-ltb n 128 few)
 
-pub octets_long : (n : ℕ) → 128 ≤ n
+pub der_octets_long : (n : ℕ) → 128 ≤ n
     → der_octets n ≡ (128 + length (significant (octets_be 8 n))) ∷ significant (octets_be 8 n)
 unfolding der_octets
-octets_long n large = second_of_two _ _ (le-ltb n 128 large)
+der_octets_long n large = second_of_two _ _ (le-ltb n 128 large)
 
-short_form : (n : ℕ) → n < 128 → Said n (n ∷ [])
+short_form : (n : ℕ) → n < 128 → DerEncodes n (n ∷ [])
 short_form n few = (
   record {
-    long = sym (alone n few);
+    long = sym (der_alone n few);
     few = omega arith;
     head = λ large. absurd (omega (arith, few, large));
     large = λ large. absurd (omega (arith, few, large));
   },
-  itself (n ∷ []) few,
+  der_itself (n ∷ []) few,
 )
 
 long_form : (n : ℕ) (ys : List ℕ) → 128 ≤ n → be ys ≡ n → length ys ≤ 8 → 0 < slice_index ys 0
-    → Said n ((128 + length ys) ∷ ys)
+    → DerEncodes n ((128 + length ys) ∷ ys)
 long_form n ys large value few head =
-    let says : der_length ((128 + length ys) ∷ ys) ≡ n = followed ((128 + length ys) ∷ ys) (omega arith) ∙ value in
-    let long = following (128 + length ys) (omega arith) in (
+    let says : der_length ((128 + length ys) ∷ ys) ≡ n = der_followed ((128 + length ys) ∷ ys) (omega arith) ∙ value in
+    let long = der_following (128 + length ys) (omega arith) in (
       record {
         long = omega (arith, long);
         few = omega (arith, few);
@@ -180,10 +180,10 @@ long_form n ys large value few head =
       says,
     )
 
-said : (n : ℕ) → DerFits n → Said n (der_octets n)
+der_encodes : (n : ℕ) → DerFits n → DerEncodes n (der_octets n)
 unfolding der_octets
-said n fits =
-    by_test (Said n) (nat_lt n 128) _ _ (λ few. short_form n (ltb-true n 128 few))
+der_encodes n fits =
+    by_test (DerEncodes n) (nat_lt n 128) _ _ (λ few. short_form n (ltb-true n 128 few))
     (λ more.
     let large : 128 ≤ n = ltb-false n 128 more in
     let value : be (octets_be 8 n) ≡ n = value_be 8 n (omega (arith, fits)) in
@@ -193,7 +193,7 @@ said n fits =
     (omega (arith, all, eight)) (head_significant (octets_be 8 n) (omega (arith, value, large))))
 
 pub read_der : AreRead IsDer der_length der_octets DerFits
-read_der = record { whole = λ n fits. (said n fits).0; back = λ n fits. (said n fits).1 }
+read_der = record { whole = λ n fits. (der_encodes n fits).0; back = λ n fits. (der_encodes n fits).1 }
 
 written : (xs : List ℕ) → AreOctets xs → IsDer xs → DerFits (der_length xs) × (der_octets (der_length xs) ≡ xs)
 written [] each whole = let some = some_der 0 in let long = whole.long in absurd (omega (arith, some, long))
@@ -204,8 +204,8 @@ written (x ∷ ys) each whole = by (dec_le 128 x) where
 
   by : Dec (128 ≤ x) → DerFits (der_length (x ∷ ys)) × (der_octets (der_length (x ∷ ys)) ≡ x ∷ ys)
   by (yes large) =
-      let value = followed (x ∷ ys) large in
-      let follow = following x large in
+      let value = der_followed (x ∷ ys) large in
+      let follow = der_following x large in
       let long = whole.long in
       let few = whole.few in
       let enough = whole.large large in
@@ -215,15 +215,15 @@ written (x ∷ ys) each whole = by (dec_le 128 x) where
       let most : 256 ^ length ys ≤ 256 ^ 8 = pow-le-pow_right (omega arith) within in
       let back = back_significant ys each.1 within (whole.head large) in (
         omega (arith, value, small, most),
-        ap der_octets value ∙ octets_long (be ys) (omega (arith, value, enough))
+        ap der_octets value ∙ der_octets_long (be ys) (omega (arith, value, enough))
             ∙ ap (λ ys. (128 + length ys) ∷ ys) back ∙ ap (λ x. x ∷ ys) many,
       )
   by (no small) =
       let few : x < 128 = lt_of_not-le small in
-      let value = itself (x ∷ ys) few in
-      let long = whole.long ∙ alone x few in
+      let value = der_itself (x ∷ ys) few in
+      let long = whole.long ∙ der_alone x few in
       let empty = none ys (omega (arith, long)) in
-      (omega (arith, value, few), ap der_octets value ∙ octets_short x few ∙ ap (λ ys. x ∷ ys) (sym empty))
+      (omega (arith, value, few), ap der_octets value ∙ der_octets_short x few ∙ ap (λ ys. x ∷ ys) (sym empty))
 
 pub written_der : AreWritten IsDer der_length der_octets DerFits
 written_der = record { once = λ n. le_prop {n = suc n} {m = 2 ^ 64}; written = written }

@@ -39,8 +39,8 @@ pub record LebFits (most bits n : ℕ) : Type 0 where
   pub bounded : n < 2 ^ bits
   pub small : n < 2 ^ 64
 
-abbrev Said : ℕ → List ℕ → Type 0
-Said n xs = IsChained xs × (leb128 xs ≡ n)
+abbrev LebEncodes : ℕ → List ℕ → Type 0
+LebEncodes n xs = IsChained xs × (leb128 xs ≡ n)
 
 -- ---- lemmas: proved below this line, so what the words mean is read above it
 
@@ -73,18 +73,18 @@ apart_leb128 most bits = record {
   same = λ xs j k few less one other. same_chained xs j k few less one.chained other.chained;
 }
 
-alone : (n : ℕ) → n < 128 → Said n (n ∷ [])
+leb_alone : (n : ℕ) → n < 128 → LebEncodes n (n ∷ [])
 unfolding IsChained leb128
-alone n few = (inl (few, refl), omega (arith, few))
+leb_alone n few = (inl (few, refl), omega (arith, few))
 
-said : (k n : ℕ) → n < 128 ^ suc k → Said n (groups k n)
+leb_encodes : (k n : ℕ) → n < 128 ^ suc k → LebEncodes n (groups k n)
 unfolding IsChained leb128 groups
-said zero n few = alone n (omega (arith, few))
-said (suc k) n few =
-    by_test (Said n) (nat_lt n 128) _ _ (λ small. alone n (ltb-true n 128 small))
+leb_encodes zero n few = leb_alone n (omega (arith, few))
+leb_encodes (suc k) n few =
+    by_test (LebEncodes n) (nat_lt n 128) _ _ (λ small. leb_alone n (ltb-true n 128 small))
     (λ large.
     let power = pow-suc 128 (suc k) in
-    let more = said k (n / 128) (omega (arith, few, power)) in
+    let more = leb_encodes k (n / 128) (omega (arith, few, power)) in
     let value = more.1 in
     (inr (omega arith, more.0), omega (arith, value)))
 
@@ -92,7 +92,7 @@ pub read_leb128 : (most bits : ℕ) → AreRead (IsLeb128 most bits) leb128 leb1
 read_leb128 most bits = record {
   whole = λ n fits.
       let small = fits.small in
-      let made = said 9 n (omega (arith, small)) in
+      let made = leb_encodes 9 n (omega (arith, small)) in
       let value = made.1 in
       let bound = fits.bounded in
       record {
@@ -101,7 +101,7 @@ read_leb128 most bits = record {
         bounded = omega (arith, value, bound);
         small = omega (arith, value, small);
       };
-  back = λ n fits. let small = fits.small in (said 9 n (omega (arith, small))).1;
+  back = λ n fits. let small = fits.small in (leb_encodes 9 n (omega (arith, small))).1;
 }
 
 pub most_leb128 : (most bits n : ℕ) → LebFits most bits n → n < 2 ^ 64

@@ -5,11 +5,11 @@ pub mod Checked
 pub mod Choice
 pub mod CompactSize
 pub mod Conditional
+pub mod Constant
 pub mod Counted
 pub mod Der
 pub mod Either
 pub mod Ended
-pub mod Exactly
 pub mod Family
 pub mod Fixed
 pub mod Integers
@@ -24,7 +24,6 @@ pub mod Optional
 pub mod Padding
 pub mod Pair
 pub mod Part
-pub mod WindowOf
 pub mod Quic
 pub mod Rest
 pub mod Row
@@ -39,3 +38,4 @@ pub mod Varying
 pub mod Walk
 pub mod Where
 pub mod Whole
+pub mod WindowOf

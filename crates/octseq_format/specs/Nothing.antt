@@ -3,7 +3,7 @@ use Rattle.std.specs.Prelude.{◌≡◌, [], refl}
 use Rattle.std.proofs.Common.{sym, ap, ◌∙◌, subst, arith}
 use Rattle.std.specs.Coded.{Unit-prop}
 use Rattle.octseq.specs.Window.{Window, left, rest, at}
-use Rattle.octseq_format.specs.Canonical.{IsSound, IsCanonical}
+use Rattle.octseq_format.specs.Canonical.{IsSoundWindow, IsCanonical}
 use Rattle.octseq_format.specs.Laws.{Relation, IsOne, IsOnward, IsReadBack, IsDelimited, back_of}
 
 -- what comes next is at the same offset
@@ -36,5 +36,5 @@ pub canonical_nothing : IsCanonical IsNothing (λ a. a) (λ _. []) (λ _. Unit {
 canonical_nothing = record {
   once = λ _. Unit-prop;
   written = λ w a v sound is. (tt, ap rest (sym is));
-  on = λ w a v sound is. subst IsSound (sym is) sound;
+  on = λ w a v sound is. subst IsSoundWindow (sym is) sound;
 }

@@ -13,7 +13,7 @@ use Rattle.octseq.proofs.WindowsAfter.{front_comes_next}
 use Rattle.octseq.proofs.Windows.{next_and_rest}
 use Rattle.octseq.proofs.WrittenBack.{small_be, as_be}
 use Rattle.octseq.proofs.Written.{length_be, value_be}
-use Rattle.octseq_format.specs.Canonical.{IsSound, IsCanonical, sound_past, each_next, many_next}
+use Rattle.octseq_format.specs.Canonical.{IsSoundWindow, IsCanonical, sound_past, each_next, many_next}
 use Rattle.octseq_format.specs.Laws.{Relation, TakesOctets, IsOne, IsOnward, IsMoving, IsReadBack, IsDelimited, back_of}
 
 abbrev pub Row : {A : Type 0} → Relation A → Relation (List A)
@@ -220,11 +220,11 @@ each_once once (one ∷ said) = ×_prop (once one) (each_once once said)
 module _ {A S : Type 0} {Is : Relation A} {says : A → S} {octets : S → List ℕ} {Fits : S → Type 0}
     (canonical : IsCanonical Is says octets Fits) where
   -- the window past a row is sound
-  pub sound_row : (w : Window) (row : List A) (v : Window) → IsSound w → Row Is w row v → IsSound v
-  sound_row w [] v sound is = subst IsSound (sym is) sound
+  pub sound_row : (w : Window) (row : List A) (v : Window) → IsSoundWindow w → Row Is w row v → IsSoundWindow v
+  sound_row w [] v sound is = subst IsSoundWindow (sym is) sound
   sound_row w (x ∷ row) v sound is = sound_row is.0 row v (canonical.on w x is.0 sound is.1) is.2
 
-  pub row_written : (w : Window) (row : List A) (v : Window) → IsSound w → Row Is w row v
+  pub row_written : (w : Window) (row : List A) (v : Window) → IsSoundWindow w → Row Is w row v
       → AllByRecursion Fits (map says row) × (rest w ≡ row_octets octets (map says row) ++ rest v)
   row_written w [] v sound is = (tt, ap rest (sym is))
   row_written w (x ∷ row) v sound is =

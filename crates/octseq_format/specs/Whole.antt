@@ -3,7 +3,7 @@ use Rattle.std.specs.Prelude.{◌≡◌, ℕ, ◌+◌, List, length}
 use Rattle.std.proofs.Common.{sym, ap, ◌∙◌, arith, length-append}
 use Rattle.std.specs.Coded.{Coded-set, coded_ℕ, ×_prop}
 use Rattle.octseq.specs.Window.{Window, rest}
-use Rattle.octseq_format.specs.Canonical.{IsSound, IsCanonical, many_rest}
+use Rattle.octseq_format.specs.Canonical.{IsSoundWindow, IsCanonical, many_rest}
 use Rattle.octseq_format.specs.Laws.{Relation, NoneAt, TakesOctets, IsOne, IsOnward, IsReadBack, IsDelimited}
 
 -- the value, which takes as many octets as its key says
@@ -18,7 +18,8 @@ WholeFits key octets Fits said = Fits said × (key said ≡ length (octets said)
 
 -- the octets that say it are as many as it takes, if its encoding is unique
 pub octets_taken : {A S : Type 0} {Is : Relation A} {says : A → S} {octets : S → List ℕ} {Fits : S → Type 0}
-    {least : ℕ} → IsOnward least Is → IsCanonical Is says octets Fits → (w : Window) (a : A) (v : Window) → IsSound w
+    {least : ℕ} → IsOnward least Is → IsCanonical Is says octets Fits → (w : Window) (a : A) (v : Window)
+    → IsSoundWindow w
     → Is w a v → w.position + length (octets (says a)) ≡ v.position
 octets_taken {says = says} {octets = octets} onward canonical w a v sound is =
     let on = onward.on w a v sound.ordered is in

@@ -1,7 +1,7 @@
 //! No octets.
 ghost use Rattle.std.specs.Prelude.{[], true};
 ghost use Rattle.octseq_format.specs.Answer.{not_so};
-ghost use Rattle.octseq_format.specs.Exactly.{coded_unit};
+ghost use Rattle.octseq_format.specs.Constant.{coded_unit};
 ghost use Rattle.octseq_format.specs.Nothing.{IsNothing, one_nothing, onward_nothing};
 ghost use Rattle.octseq_format.specs.Nothing.{delimited_nothing, nothing_read_back};
 ghost use Rattle.octseq_format.specs.Nothing.{canonical_nothing};

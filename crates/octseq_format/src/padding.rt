@@ -6,7 +6,7 @@ ghost use Rattle.octseq.specs.Parser.{window, sequence};
 ghost use Rattle.octseq.specs.Parts.{StartsWith};
 ghost use Rattle.octseq.specs.Window.{left};
 ghost use Rattle.octseq_format.specs.Answer.{not_so};
-ghost use Rattle.octseq_format.specs.Exactly.{coded_unit};
+ghost use Rattle.octseq_format.specs.Constant.{coded_unit};
 ghost use Rattle.octseq_format.specs.Laws.{NoneAt};
 ghost use Rattle.octseq_format.specs.Padding.{IsZeros, one_zeros, onward_zeros, delimited_zeros};
 ghost use Rattle.octseq_format.specs.Padding.{zeros_read_back, canonical_zeros};

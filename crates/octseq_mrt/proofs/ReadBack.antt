@@ -36,7 +36,8 @@ use Rattle.octseq_mrt.specs.Written.{record_octets, PeerTable, FitsPeerTable, pe
 use Rattle.octseq_mrt.specs.Written.{Routes, FitsRib, rib_octets, route_octets, FitsEvent, event_octets, FitsBgp4Mp}
 use Rattle.octseq_mrt.specs.Written.{bgp4mp_octets, family_of}
 use Rattle.octseq_mrt.specs.WrittenBack.{fit, delimited_deciding, delimited_number, delimited_part, delimited_address}
-use Rattle.octseq_mrt.specs.WrittenBack.{delimited_optional, table_of, table_read_back, route_of, routes_read_back}
+use Rattle.octseq_mrt.specs.WrittenBack.{delimited_optional, written_table_of, table_read_back, route_of}
+use Rattle.octseq_mrt.specs.WrittenBack.{routes_read_back}
 use Rattle.octseq_mrt.specs.declared.header.CommonHeader.{CommonHeader}
 use Rattle.octseq_mrt.specs.declared.kind.Bgp4MpSubtype.{Bgp4MpSubtype}
 use Rattle.octseq_mrt.specs.declared.kind.Bgp4MpSubtype.TheVariants as subtype
@@ -115,7 +116,7 @@ tables time t small fits few =
     read_as time kind.PeerIndexTable (peer_table_octets t) (SaysTable t) small few (λ w all.
     let found = whole_back table_read_back w t fits all in
     let it = found.0 in
-    let says = ap (λ peers. table_of (it.0, (rest it.1.0, peers))) (sym (map-id it.1.1)) ∙ found.1 in
+    let says = ap (λ peers. written_table_of (it.0, (rest it.1.0, peers))) (sym (map-id it.1.1)) ∙ found.1 in
     (Value.peer_index_table (table_from it), (table_from it, refl, found.2), says))
 
 -- ---- RIBs

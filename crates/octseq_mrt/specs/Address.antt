@@ -35,5 +35,5 @@ abbrev pub IsFamily : Relation Afi
 IsFamily w afi v = IsNumber 2 w (family_number afi) v
 
 -- a number of four octets if there is to be one, otherwise nothing
-abbrev pub IsOptional : Bool → Relation (Option ℕ)
-IsOptional has = IsIf (λ _. has) (IsNumber 4) 0
+abbrev pub IsNumberIf : Bool → Relation (Option ℕ)
+IsNumberIf has = IsIf (λ _. has) (IsNumber 4) 0

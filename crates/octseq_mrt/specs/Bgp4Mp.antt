@@ -9,7 +9,7 @@ use Rattle.octseq_bgp.specs.Path.{asn_size}
 use Rattle.octseq_bgp.specs.declared.family.Afi.{Afi}
 use Rattle.octseq_bgp.specs.declared.session.AddPath.{AddPath}
 use Rattle.octseq_bgp.specs.declared.session.SessionConfig.{SessionConfig}
-use Rattle.octseq_mrt.specs.Address.{Address, IsAddress, IsFamily, IsOptional}
+use Rattle.octseq_mrt.specs.Address.{Address, IsAddress, IsFamily, IsNumberIf}
 use Rattle.octseq_mrt.specs.Kind.{is_state_change, has_wide_asns, has_path_ids}
 use Rattle.octseq_mrt.specs.declared.kind.Bgp4MpSubtype.{Bgp4MpSubtype}
 
@@ -47,7 +47,7 @@ ArePeers = IsFamily deciding (λ afi. IsAddress afi then IsAddress afi)
 -- Microseconds, if the type has them; the AS numbers of the peer and the collector; the interface index; and their
 -- addresses.
 abbrev pub IsBgp4MpFront : Bool → Bool → Relation (Option ℕ × (ℕ × (ℕ × (ℕ × (Afi × (Address × Address))))))
-IsBgp4MpFront extended wide = IsOptional extended then IsNumber (asn_size wide) then IsNumber (asn_size wide)
+IsBgp4MpFront extended wide = IsNumberIf extended then IsNumber (asn_size wide) then IsNumber (asn_size wide)
     then IsNumber 2 then ArePeers
 
 -- what follows, by the subtype

@@ -14,7 +14,7 @@ use Rattle.octseq_bgp.specs.declared.prefix.Prefix.{Prefix}
 use Rattle.octseq_mrt.specs.Address.{Address}
 use Rattle.octseq_mrt.specs.OneListed.{one_entry_parts}
 use Rattle.octseq_mrt.specs.Peer.{Peer}
-use Rattle.octseq_mrt.specs.Rib.{path_of}
+use Rattle.octseq_mrt.specs.Rib.{path_id_of}
 use Rattle.octseq_mrt.specs.Written.{PeerTable, FitsPeerTable, table_head, peer_octets, list_octets}
 use Rattle.octseq_mrt.specs.Written.{FitsFamily, FitsOptional}
 use Rattle.octseq_mrt.specs.Written.{Route, Routes, FitsRoute, FitsRib, rib_head, route_octets}
@@ -43,7 +43,7 @@ abbrev pub pushed_route : ℕ → ℕ → Option PathId → List ℕ → Route
 pushed_route peer_index time path_id attributes = record {
   peer_index = peer_index;
   originated_time = time;
-  path_id = path_of path_id;
+  path_id = path_id_of path_id;
   attributes = attributes;
 }
 

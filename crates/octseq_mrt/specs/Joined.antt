@@ -9,8 +9,8 @@ use Rattle.octseq.specs.Refusal.{IsShort, IsMemory, append_error}
 use Rattle.octseq.specs.declared.AppendError.{AppendError}
 
 -- parts, one after another
-abbrev pub joined : List (Bor (List ℕ)) → List ℕ
-joined parts = flat_map (λ part. part.now) parts
+abbrev pub parts_joined : List (Bor (List ℕ)) → List ℕ
+parts_joined parts = flat_map (λ part. part.now) parts
 
 -- a number is written over the two octets at an offset
 abbrev pub with_count : ℕ → ℕ → List ℕ → List ℕ

@@ -12,8 +12,8 @@ use Rattle.octseq_stream.proofs.Headers.{range_of_front}
 -- ---- lemmas: proved below this line, so what the words mean is read above it
 
 -- a header and as many octets as it says
-pub record_octets : (octets : List ℕ) → length octets ≡ 12 + record_length octets → IsRecordOctets octets
-record_octets octets all =
+pub whole_record : (octets : List ℕ) → length octets ≡ 12 + record_length octets → IsRecordOctets octets
+whole_record octets all =
     let w = whole octets in
     let a = past 4 w in
     let b = past 6 w in

@@ -18,7 +18,7 @@ use Rattle.octseq_bgp.specs.declared.family.Afi.{Afi}
 use Rattle.octseq_bgp.specs.declared.family.Afi.TheVariants as addresses
 use Rattle.octseq_bgp.proofs.Moves.{onward_number, onward_deciding, attribute_moves}
 use Rattle.octseq_bgp.proofs.Wholes.{one_fills}
-use Rattle.octseq_mrt.specs.Address.{Address, IsAddress, IsOptional}
+use Rattle.octseq_mrt.specs.Address.{Address, IsAddress, IsNumberIf}
 use Rattle.octseq_mrt.specs.Peer.{Peer, IsPeer, peer_family, has_wide_asn}
 use Rattle.octseq_mrt.specs.Rib.{RibEntry, HasEntryParts, IsRibEntry}
 
@@ -48,10 +48,10 @@ onward_address : (afi : Afi) → IsOnward 0 (IsAddress afi)
 onward_address addresses.Ipv4 = any_onward (onward_fixed 4 Address.ipv4)
 onward_address addresses.Ipv6 = any_onward (onward_fixed 16 (λ octets. Address.ipv6 (segments_of octets)))
 
-pub one_optional : (has : Bool) → IsOne (IsOptional has)
+pub one_optional : (has : Bool) → IsOne (IsNumberIf has)
 one_optional has = one_if (λ _. has) (IsNumber 4) (one_number 4) 0
 
-pub onward_optional : (has : Bool) → IsOnward 0 (IsOptional has)
+pub onward_optional : (has : Bool) → IsOnward 0 (IsNumberIf has)
 onward_optional has = onward_if (λ _. has) (IsNumber 4) (onward_number 4) 0
 
 pub one_peer : IsOne IsPeer

@@ -10,7 +10,7 @@ use Rattle.octseq_mrt.specs.Bgp4Mp as events
 use Rattle.octseq_mrt.specs.Peer as tables
 use Rattle.octseq_mrt.specs.Record as records
 use Rattle.octseq_mrt.specs.Rib as ribs
-use Rattle.octseq_mrt.specs.Rib.{path_of}
+use Rattle.octseq_mrt.specs.Rib.{path_id_of}
 use Rattle.octseq_mrt.specs.declared.bgp4mp.Bgp4Mp.{Bgp4Mp}
 use Rattle.octseq_mrt.specs.declared.bgp4mp.Event.{Event}
 use Rattle.octseq_mrt.specs.declared.bgp4mp.Event.TheVariants as event
@@ -67,7 +67,7 @@ abbrev pub entry_of : {R : Type 0} {g : Ghosts R} → RibEntry R g → ribs.RibE
 entry_of e = record {
   peer_index = e.peer_index;
   originated_time = e.originated_time;
-  path_id = path_of e.path_id;
+  path_id = path_id_of e.path_id;
   attributes = attributes_left e.attributes;
 }
 

@@ -8,8 +8,8 @@ abbrev pub reader_of : {R : Type 0} → RecordReader R → R
 reader_of records = read.reader_of records.frames
 
 -- the octets of the last record read
-abbrev pub octets_of : {R : Type 0} → RecordReader R → List ℕ
-octets_of records = read.octets_of records.frames
+abbrev pub held_octets : {R : Type 0} → RecordReader R → List ℕ
+held_octets records = read.held_octets records.frames
 
 -- whether the end or an error was reported, so that no further record is read
 abbrev pub is_over : {R : Type 0} → RecordReader R → Bool

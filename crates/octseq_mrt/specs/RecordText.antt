@@ -43,14 +43,14 @@ table_lines h t =
 -- ---- RIBs
 
 -- next hops only, by their number of octets: one IPv4 address (4), one IPv6 address (16), or two
-abbrev pub hops_of : List ℕ → NextHop
-hops_of octets = if nat_eq (length octets) 4 then hop.Ipv4 octets
+abbrev pub next_hop_of : List ℕ → NextHop
+next_hop_of octets = if nat_eq (length octets) 4 then hop.Ipv4 octets
     else (if nat_eq (length octets) 16 then hop.Ipv6 octets else hop.Ipv6LinkLocal (take 16 octets) (drop 16 octets))
 
 -- the line of an attribute with next hops only
 abbrev pub hops_line : ℕ → List ℕ → List ℕ
 hops_line flags octets = line (codes "attribute")
-    (flags_text flags ++ spaced (type_text kind.MpReachNlri) ++ next_hop_text (hops_of octets))
+    (flags_text flags ++ spaced (type_text kind.MpReachNlri) ++ next_hop_text (next_hop_of octets))
 
 -- the lines of an attribute of a RIB entry: that one, or those of an attribute of a message
 abbrev pub rib_attribute_lines : Attribute → RibValue → List ℕ

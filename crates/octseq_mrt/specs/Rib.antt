@@ -14,13 +14,13 @@ use Rattle.octseq_bgp.specs.declared.family.AfiSafiType.{AfiSafiType}
 use Rattle.octseq_bgp.specs.declared.prefix.PathId.{PathId}
 use Rattle.octseq_bgp.specs.declared.session.SessionConfig.{SessionConfig}
 use Rattle.octseq_bgp.specs.Prefix.{most_bits}
-use Rattle.octseq_mrt.specs.Address.{IsOptional}
+use Rattle.octseq_mrt.specs.Address.{IsNumberIf}
 use Rattle.octseq_mrt.specs.Bgp4Mp.{all_paths}
 
 -- the number of a path id, if there is one
-abbrev pub path_of : Option PathId → Option ℕ
-path_of (Some id) = Some id.0
-path_of None = None
+abbrev pub path_id_of : Option PathId → Option ℕ
+path_id_of (Some id) = Some id.0
+path_id_of None = None
 
 pub record RibEntry : Type 0 where
   pub peer_index : ℕ
@@ -30,7 +30,7 @@ pub record RibEntry : Type 0 where
 
 -- the number of a peer, seconds, a path id if the record has them, and octets after their length
 abbrev pub HasEntryParts : Bool → Relation (ℕ × (ℕ × (Option ℕ × Window)))
-HasEntryParts paths = IsNumber 2 then IsNumber 4 then IsOptional paths then IsCounted 2
+HasEntryParts paths = IsNumber 2 then IsNumber 4 then IsNumberIf paths then IsCounted 2
 
 -- A RIB entry: path attributes fill those octets.
 pub record IsRibEntry (paths : Bool) (w : Window) (e : RibEntry) (v : Window) : Type 0 where

@@ -22,13 +22,13 @@ peer_text p =
     codes "id " ++ number_dotted p.bgp_id ++ codes " address " ++ ip_text p.addr ++ codes " as " ++ decimal p.asn
 
 -- a path id, if there is one
-abbrev pub path_text : Option ℕ → List ℕ
-path_text (Some id) = codes " path " ++ decimal id
-path_text None = []
+abbrev pub path_id_text : Option ℕ → List ℕ
+path_id_text (Some id) = codes " path " ++ decimal id
+path_id_text None = []
 
 -- an entry: the number of its peer, its time and its path id
 abbrev pub entry_text : RibEntry → List ℕ
-entry_text e = decimal e.peer_index ++ codes " time " ++ decimal e.originated_time ++ path_text e.path_id
+entry_text e = decimal e.peer_index ++ codes " time " ++ decimal e.originated_time ++ path_id_text e.path_id
 
 -- a state change
 abbrev pub states_text : Event → List ℕ

@@ -23,7 +23,7 @@ use Rattle.octseq_bgp.specs.Path.{asn_size}
 use Rattle.octseq_bgp.specs.declared.family.Afi.{Afi}
 use Rattle.octseq_bgp.specs.declared.family.Afi.TheVariants as addresses
 use Rattle.octseq_bgp.proofs.WholesBack.{counted_is}
-use Rattle.octseq_mrt.specs.Address.{Address, IsAddress, IsOptional}
+use Rattle.octseq_mrt.specs.Address.{Address, IsAddress, IsNumberIf}
 use Rattle.octseq_mrt.specs.OneListed.{peer_parts, peer_from, one_peer}
 use Rattle.octseq_mrt.specs.Peer.{Peer, IsPeer, IsTable, peer_family, has_wide_asn}
 use Rattle.octseq_mrt.specs.Rib.{HasEntryParts}
@@ -32,12 +32,12 @@ use Rattle.octseq_mrt.specs.Written.{peer_table_octets, FitsPeerTable, Route, ro
 use Rattle.octseq_mrt.specs.Written.{rib_octets, FitsRib}
 
 -- a table, by its parts
-abbrev pub table_of : ℕ × (List ℕ × List Peer) → PeerTable
-table_of s = record { collector_bgp_id = s.0; view_name = s.1.0; peers = s.1.1 }
+abbrev pub written_table_of : ℕ × (List ℕ × List Peer) → PeerTable
+written_table_of s = record { collector_bgp_id = s.0; view_name = s.1.0; peers = s.1.1 }
 
 -- what a table says
 abbrev pub table_said : ℕ × (Window × List Peer) → PeerTable
-table_said t = table_of (t.0, (rest t.1.0, map (λ p. p) t.1.1))
+table_said t = written_table_of (t.0, (rest t.1.0, map (λ p. p) t.1.1))
 
 -- ---- RIBs
 
@@ -148,11 +148,11 @@ delimited_address afi = record { next = next afi } where
   next addresses.Ipv6 w (Address.ipv4 octets) more fits is = absurd fits
 
 pub delimited_optional : (has : Bool)
-    → IsDelimited (IsOptional has) (λ n. n) (optional_octets (octets_be 4)) (FitsOptional has)
+    → IsDelimited (IsNumberIf has) (λ n. n) (optional_octets (octets_be 4)) (FitsOptional has)
 delimited_optional has = record { next = next } where
   next : (w : Window) (n : Option ℕ) (more : List ℕ) → FitsOptional has n
       → rest w ≡ optional_octets (octets_be 4) n ++ more
-      → TakesOctets (IsOptional has) (λ n. n) w n (length (optional_octets (octets_be 4) n))
+      → TakesOctets (IsNumberIf has) (λ n. n) w n (length (optional_octets (octets_be 4) n))
   next w None more fits is = record { it = None; tells = refl; is = (fits, ap (λ p. at p w) (omega arith)) }
   next w (Some n) more fits is =
       let taken = (delimited_number 4).next w n more fits.1 is in
@@ -172,7 +172,8 @@ delimited_peer = record {
 
 pub table_read_back : IsReadBack IsTable table_said peer_table_octets FitsPeerTable
 unfolding both_say both_octets
-table_read_back = back_from (λ (t : PeerTable). (t.collector_bgp_id, (t.view_name, t.peers))) table_of (λ _. refl)
+table_read_back = back_from (λ (t : PeerTable). (t.collector_bgp_id, (t.view_name, t.peers))) written_table_of
+    (λ _. refl)
     (λ t fits. fit fits.collector_bgp_id (fit (tt, fits.view_name)
     (record { tag_fits = fits.count; inside = record { each = fits.peers; many = refl } })))
     (λ t. append_assoc (octets_be 4 t.collector_bgp_id) (part_of 2 t.view_name) _)

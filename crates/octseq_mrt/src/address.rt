@@ -5,7 +5,7 @@ ghost use Rattle.octseq_format.specs.Laws.{NoneAt};
 ghost use Rattle.octseq_bgp.specs.Parts.{IsNumber};
 ghost use Rattle.octseq_bgp.specs.Path.{asn_size};
 ghost use Rattle.octseq_mrt.specs.Written.{FitsFamily, address_octets};
-ghost use Rattle.octseq_mrt.specs.Address.{address_of, IsAddress, IsFamily, IsOptional};
+ghost use Rattle.octseq_mrt.specs.Address.{address_of, IsAddress, IsFamily, IsNumberIf};
 
 use octseq::{AsOctets, Malformed, Parser};
 use octseq_bgp::attribute::Asn;
@@ -98,8 +98,8 @@ pub(crate) fn parse_optional<R: AsOctets + Copy>(
     parser: &mut Parser<R>,
     has: bool,
 ) -> Result<Option<u32>, Malformed>
-    ensures number { IfOk result (λ number. IsOptional has (window parser.old) number (window parser.new)) }
-    ensures malformed { IsErr result → NoneAt (IsOptional has) (window parser.old) }
+    ensures number { IfOk result (λ number. IsNumberIf has (window parser.old) number (window parser.new)) }
+    ensures malformed { IsErr result → NoneAt (IsNumberIf has) (window parser.old) }
 {
     if !has {
         return Ok(None);

@@ -3,7 +3,7 @@ ghost use Rattle.std.specs.Prelude.{◌≡◌, ◌≢◌, ◌+◌, ◌++◌, ℕ
 ghost use Rattle.std.specs.Prelude.{IfOk, IsErr, OnErr, Ok, Err};
 ghost use Rattle.std.specs.Io.KnownBytes.{Consumes, IsAtEnd};
 ghost use Rattle.std.proofs.Common.{rules};
-ghost use Rattle.octseq_mrt.specs.RecordReader.{reader_of, octets_of, is_over};
+ghost use Rattle.octseq_mrt.specs.RecordReader.{reader_of, held_octets, is_over};
 ghost use Rattle.octseq_mrt.specs.Records.{IsRecordOctets, BeginsWithRecord, IsRecordCut, record_length};
 
 use crate::record::Record;
@@ -118,7 +118,7 @@ impl<R: Read> RecordReader<R> {
     /// Makes a reader of all the records that a reader has left.
     pub fn new(alloc: Global, reader: R) -> RecordReader<R>
         ensures reader { reader_of result ≡ reader }
-        ensures octets { octets_of result ≡ [] }
+        ensures octets { held_octets result ≡ [] }
         ensures open { is_over result ≡ false }
     {
         RecordReader {
@@ -135,8 +135,8 @@ impl<R: Read> RecordReader<R> {
     /// failed. The reader may then be inside a record, so no further record is read. It is never `Malformed`: any
     /// octets are a header.
     pub fn read_next(&mut self) -> Result<bool, RecordError>
-        ensures record { result ≡ Ok true → IsRecordOctets (octets_of self.new)
-            × Consumes (R.remaining (reader_of self.old)) (R.remaining (reader_of self.new)) (octets_of self.new) }
+        ensures record { result ≡ Ok true → IsRecordOctets (held_octets self.new)
+            × Consumes (R.remaining (reader_of self.old)) (R.remaining (reader_of self.new)) (held_octets self.new) }
         ensures end { result ≡ Ok false → is_over self.old ≡ false → Consumes (R.remaining (reader_of self.old))
             (R.remaining (reader_of self.new)) [] × IsAtEnd (R.remaining (reader_of self.new)) }
         ensures short { result ≡ Err RecordError.Short → (read : List ℕ) × IsRecordCut read
@@ -148,14 +148,14 @@ impl<R: Read> RecordReader<R> {
         ensures over { is_over self.old ≡ true → (result ≡ Ok false) × (self.new ≡ self.old) }
         ensures last { result ≢ Ok true → is_over self.new ≡ true }
         ensures on { result ≡ Ok true → is_over self.new ≡ false }
-        ensures empty { result ≢ Ok true → octets_of self.new ≡ [] }
+        ensures empty { result ≢ Ok true → held_octets self.new ≡ [] }
     {
         self.frames.read_next()
     }
 
     /// Returns the octets of the last record read, or none if [`read_next`](Self::read_next) didn't return `true`.
     pub fn octets(&self) -> &[u8]
-        ensures octets { result.now ≡ octets_of self.now }
+        ensures octets { result.now ≡ held_octets self.now }
         ensures over { is_over self.now ≡ true → result.now ≡ [] }
     {
         self.frames.octets()
@@ -167,8 +167,8 @@ impl<R: Read> RecordReader<R> {
     ///
     /// `Malformed` if there is none: if [`read_next`](Self::read_next) didn't return `true`.
     pub fn record(&self) -> Result<Record<&[u8]>, Malformed>
-        ensures record { IfOk result (λ it. AreRecord (octets_of self.now) (record_of it)) }
-        ensures malformed { IsErr result → (it : Header × Window) → ¬ AreRecord (octets_of self.now) it }
+        ensures record { IfOk result (λ it. AreRecord (held_octets self.now) (record_of it)) }
+        ensures malformed { IsErr result → (it : Header × Window) → ¬ AreRecord (held_octets self.now) it }
     {
         Record::parse(self.frames.octets())
     }

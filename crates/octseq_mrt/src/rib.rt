@@ -8,7 +8,7 @@ ghost use Rattle.octseq_bgp.specs.Family.{afi_of};
 ghost use Rattle.octseq_mrt.specs.Listed.{EntriesAhead, entries_once};
 ghost use Rattle.octseq_mrt.specs.ReadTurns.{entries_turns};
 ghost use Rattle.octseq_mrt.specs.Rib as said;
-ghost use Rattle.octseq_mrt.specs.Rib.{path_of, HasEntryParts, IsRibEntry, IsRibHead, IsRib};
+ghost use Rattle.octseq_mrt.specs.Rib.{path_id_of, HasEntryParts, IsRibEntry, IsRibHead, IsRib};
 
 use crate::address::parse_optional;
 use crate::rib_attribute::RibAttributes;
@@ -118,7 +118,7 @@ impl<R: AsOctets + Copy> Clone for RibEntries<R> {
 
 /// Makes a path id of a number.
 fn path_id(number: Option<u32>) -> Option<PathId>
-    ensures { path_of result ≡ number }
+    ensures { path_id_of result ≡ number }
 {
     match number {
         Some(number) => Some(PathId(number)),

@@ -2,8 +2,8 @@
 ghost use Rattle.std.specs.Prelude.{◌++◌, Some, codes};
 ghost use Rattle.octseq_mrt.specs.Address.{address_of};
 ghost use Rattle.octseq_mrt.specs.Parsed.{peer_of, entry_of, event_of, bgp4mp_of};
-ghost use Rattle.octseq_mrt.specs.Rib.{path_of};
-ghost use Rattle.octseq_mrt.specs.Text.{ip_text, peer_text, path_text, entry_text, states_text, bgp4mp_text};
+ghost use Rattle.octseq_mrt.specs.Rib.{path_id_of};
+ghost use Rattle.octseq_mrt.specs.Text.{ip_text, peer_text, path_id_text, entry_text, states_text, bgp4mp_text};
 
 mod append;
 mod lines;
@@ -53,7 +53,7 @@ impl fmt::Display for PeerEntry {
 struct PathText(Option<PathId>);
 
 impl fmt::Display for PathText {
-    ghost output = { λ it. Some (path_text (path_of it.0)) };
+    ghost output = { λ it. Some (path_id_text (path_id_of it.0)) };
 
     fn fmt<W: fmt::Write>(&self, f: &mut fmt::Formatter<W>) -> fmt::Result {
         match self.0 {

@@ -6,7 +6,7 @@ use Rattle.std.proofs.lemmas.List.{append-nil, length-append, length-replicate}
 use Rattle.std.specs.Io.KnownBytes.{Consumes, IsAtEnd}
 use Rattle.std.specs.Prelude.{replicate}
 use Rattle.octseq.specs.Code.{HasFront, IsCode}
-use Rattle.octseq_stream.specs.Frames.{IsCut, IsHeader, kept_of}
+use Rattle.octseq_stream.specs.Frames.{IsCut, IsFramingHeader, kept_of}
 
 module _ (size : ℕ) (is_kept : Bool) (Fits : List ℕ → Type 0) (code : List ℕ → List ℕ) where
   -- octets after a header that are fewer than it says, filled up
@@ -20,7 +20,8 @@ module _ (size : ℕ) (is_kept : Bool) (Fits : List ℕ → Type 0) (code : List
       omega (arith, few, both, zeros)
 
   -- a header and fewer octets than it says don't begin with a frame
-  pub no_whole : IsCode Fits code → (header read : List ℕ) (more : ℕ) → IsHeader size is_kept Fits code header more
+  pub no_whole : IsCode Fits code → (header read : List ℕ) (more : ℕ)
+      → IsFramingHeader size is_kept Fits code header more
       → length read < more → ¬ HasFront Fits code (header ++ read)
   no_whole apart header read more is few (a, rest, fits, e) =
       let zeros = replicate (more - length read) 0 in
@@ -39,7 +40,7 @@ module _ (size : ℕ) (is_kept : Bool) (Fits : List ℕ → Type 0) (code : List
   -- nor are they misframed, if no frame begins with misframed octets
   pub not_misframed : (IsMisframed : List ℕ → Type 0)
       → ((octets more : List ℕ) → IsMisframed octets → ¬ HasFront Fits code (octets ++ more))
-      → (header read : List ℕ) (more : ℕ) → IsHeader size is_kept Fits code header more → length read < more
+      → (header read : List ℕ) (more : ℕ) → IsFramingHeader size is_kept Fits code header more → length read < more
       → ¬ IsMisframed (header ++ read)
   not_misframed IsMisframed none header read more is few misframed =
       let zeros = replicate (more - length read) 0 in
@@ -55,7 +56,7 @@ module _ (size : ℕ) (is_kept : Bool) (Fits : List ℕ → Type 0) (code : List
 
   -- reading stopped after a header
   pub after_header : IsCode Fits code → (given mid left : Option (List ℕ)) (header read : List ℕ) (more : ℕ)
-      → IsHeader size is_kept Fits code header more → Consumes given mid header → length read < more
+      → IsFramingHeader size is_kept Fits code header more → Consumes given mid header → length read < more
       → Consumes mid left read → (octets : List ℕ) × ¬ HasFront Fits code octets × Consumes given left octets
   after_header apart given mid left header read more is first few second = (
     header ++ read,
@@ -67,7 +68,7 @@ module _ (size : ℕ) (is_kept : Bool) (Fits : List ℕ → Type 0) (code : List
   pub cut_after_header : IsCode Fits code → (IsMisframed : List ℕ → Type 0)
       → ((octets more : List ℕ) → IsMisframed octets → ¬ HasFront Fits code (octets ++ more))
       → (given mid left : Option (List ℕ)) (header read : List ℕ) (more : ℕ)
-      → 0 < size → IsHeader size is_kept Fits code header more → Consumes given mid header → length read < more
+      → 0 < size → IsFramingHeader size is_kept Fits code header more → Consumes given mid header → length read < more
       → Consumes mid left read → IsAtEnd left
       → (octets : List ℕ) × IsCut Fits code IsMisframed octets × Consumes given left octets × IsAtEnd left
   cut_after_header apart IsMisframed none given mid left header read more some is first few second end =
@@ -85,7 +86,7 @@ module _ (size : ℕ) (is_kept : Bool) (Fits : List ℕ → Type 0) (code : List
 
   -- a header and the octets after it were read
   pub whole_frame : (given mid left : Option (List ℕ)) (header read octets : List ℕ) (more : ℕ)
-      → IsHeader size is_kept Fits code header more → Consumes given mid header → length read ≡ more
+      → IsFramingHeader size is_kept Fits code header more → Consumes given mid header → length read ≡ more
       → octets ≡ kept_of is_kept header ++ read → Consumes mid left read
       → Fits octets × Consumes given left (code octets)
   whole_frame given mid left header read octets more is first all same second =

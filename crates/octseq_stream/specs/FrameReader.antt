@@ -11,8 +11,8 @@ abbrev pub framing_of : {R F : Type 0} → FrameReader R F → F
 framing_of frames = frames.framing
 
 -- the octets that the last frame holds
-abbrev pub octets_of : {R F : Type 0} → FrameReader R F → List ℕ
-octets_of frames = frames.octets.items
+abbrev pub held_octets : {R F : Type 0} → FrameReader R F → List ℕ
+held_octets frames = frames.octets.items
 
 -- whether the end or an error was reported, so that no further frame is read
 abbrev pub is_over : {R F : Type 0} → FrameReader R F → Bool

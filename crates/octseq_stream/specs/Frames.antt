@@ -7,7 +7,8 @@ abbrev pub kept_of : Bool → List ℕ → List ℕ
 kept_of is_kept header = if is_kept then header else []
 
 -- A header of this many octets: any octets that follow it, as many as it says, make a frame with it.
-pub record IsHeader (size : ℕ) (is_kept : Bool) (Fits : List ℕ → Type 0) (code : List ℕ → List ℕ) (header : List ℕ)
+pub record IsFramingHeader (size : ℕ) (is_kept : Bool) (Fits : List ℕ → Type 0) (code : List ℕ → List ℕ)
+    (header : List ℕ)
     (more : ℕ) : Type 0 where
   pub long : length header ≡ size
   pub fits : (octets : List ℕ) → length octets ≡ more → Fits (kept_of is_kept header ++ octets)

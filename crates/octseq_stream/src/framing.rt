@@ -2,7 +2,7 @@
 ghost use Rattle.std.specs.Prelude.{◌≡◌, ◌++◌, ◌<◌, ◌≤◌, ℕ, Bool, List, length, take, IfOk, IfSome, OnErr, Ok, None};
 ghost use Rattle.std.specs.List.{AllByRecursion, flat_map};
 ghost use Rattle.octseq.specs.Code.{HasFront, IsCode};
-ghost use Rattle.octseq_stream.specs.Frames.{IsHeader};
+ghost use Rattle.octseq_stream.specs.Frames.{IsFramingHeader};
 
 use octseq::Malformed;
 
@@ -45,7 +45,7 @@ pub trait Framing: Drop {
     fn parse_header(&self, octets: &[u8]) -> Result<Option<usize>, Malformed>
         requires { length octets.now ≤ header }
         ensures header { IfOk result (λ more. IfSome more (λ more.
-            IsHeader header is_kept (fits self.now) (code self.now) octets.now more)) }
+            IsFramingHeader header is_kept (fits self.now) (code self.now) octets.now more)) }
         ensures part { result ≡ Ok None → (length octets.now < header) × ¬ is_misframed self.now octets.now }
         ensures malformed { OnErr result (is_misframed self.now octets.now) };
 

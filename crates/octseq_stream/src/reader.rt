@@ -3,7 +3,7 @@ ghost use Rattle.std.specs.Prelude.{◌≡◌, ◌≢◌, ℕ, true, false, List
 ghost use Rattle.std.specs.Prelude.{IfOk, IfSome, OnErr, Ok, Err, None};
 ghost use Rattle.std.specs.Io.KnownBytes.{Consumes, IsAtEnd};
 ghost use Rattle.octseq.specs.Code.{HasFront};
-ghost use Rattle.octseq_stream.specs.Frames.{IsCut, IsHeader, kept_of};
+ghost use Rattle.octseq_stream.specs.Frames.{IsCut, IsFramingHeader, kept_of};
 
 use crate::framing::Framing;
 use crate::read_exact::append_octets;
@@ -155,7 +155,7 @@ fn append_header<R: Read, F: Framing>(
 ) -> Result<Option<usize>, FrameError>
     requires { octets.old.items ≡ [] }
     ensures header { IfOk result (λ more. IfSome more (λ more.
-        IsHeader F.header F.is_kept (F.fits framing.now) (F.code framing.now) octets.new.items more
+        IsFramingHeader F.header F.is_kept (F.fits framing.now) (F.code framing.now) octets.new.items more
         × Consumes (R.remaining reader.old) (R.remaining reader.new) octets.new.items)) }
     ensures end { result ≡ Ok None → Consumes (R.remaining reader.old) (R.remaining reader.new) []
         × IsAtEnd (R.remaining reader.new) }
@@ -188,13 +188,13 @@ pub struct FrameReader<R, F> {
 }
 
 impl<R: Read, F: Framing> FrameReader<R, F> {
-    ghost use Rattle.octseq_stream.specs.FrameReader.{reader_of, framing_of, octets_of, is_over};
+    ghost use Rattle.octseq_stream.specs.FrameReader.{reader_of, framing_of, held_octets, is_over};
 
     /// Makes a reader of all the frames that a reader has left.
     pub fn new(alloc: Global, reader: R, framing: F) -> FrameReader<R, F>
         ensures reader { reader_of result ≡ reader }
         ensures framing { framing_of result ≡ framing }
-        ensures octets { octets_of result ≡ [] }
+        ensures octets { held_octets result ≡ [] }
         ensures open { is_over result ≡ false }
     {
         FrameReader {
@@ -214,9 +214,9 @@ impl<R: Read, F: Framing> FrameReader<R, F> {
     /// request for memory was refused, `Read` if a read failed. The reader may then be inside a frame, so no further
     /// frame is read.
     pub fn read_next(&mut self) -> Result<bool, FrameError>
-        ensures frame { result ≡ Ok true → F.fits (framing_of self.old) (octets_of self.new)
+        ensures frame { result ≡ Ok true → F.fits (framing_of self.old) (held_octets self.new)
             × Consumes (R.remaining (reader_of self.old)) (R.remaining (reader_of self.new))
-            (F.code (framing_of self.old) (octets_of self.new)) }
+            (F.code (framing_of self.old) (held_octets self.new)) }
         ensures end { result ≡ Ok false → is_over self.old ≡ false → Consumes (R.remaining (reader_of self.old))
             (R.remaining (reader_of self.new)) [] × IsAtEnd (R.remaining (reader_of self.new)) }
         ensures short { result ≡ Err FrameError.Short → (read : List ℕ)
@@ -233,7 +233,7 @@ impl<R: Read, F: Framing> FrameReader<R, F> {
         ensures over { is_over self.old ≡ true → (result ≡ Ok false) × (self.new ≡ self.old) }
         ensures last { result ≢ Ok true → is_over self.new ≡ true }
         ensures on { result ≡ Ok true → is_over self.new ≡ false }
-        ensures empty { result ≢ Ok true → octets_of self.new ≡ [] }
+        ensures empty { result ≢ Ok true → held_octets self.new ≡ [] }
         ensures framing { framing_of self.new ≡ framing_of self.old }
     {
         if self.is_over {
@@ -246,7 +246,7 @@ impl<R: Read, F: Framing> FrameReader<R, F> {
 
     /// Returns the octets that the last frame holds, or none if [`read_next`](Self::read_next) didn't return `true`.
     pub fn octets(&self) -> &[u8]
-        ensures octets { result.now ≡ octets_of self.now }
+        ensures octets { result.now ≡ held_octets self.now }
         ensures over { is_over self.now ≡ true → result.now ≡ [] }
     {
         self.octets.as_slice()

@@ -7,14 +7,14 @@ use Rattle.octseq_tool.proofs.Records.{IsRest, one_reading}
 use Rattle.octseq.specs.Fault.{Fault, IsFault, fault_text}
 use Rattle.octseq.specs.Parts.{Part, Splits, text}
 use Rattle.octseq.specs.Text.{IsWellFormed}
-use Rattle.octseq_tool.specs.Out.{name_of, IsNamed, HasText, records_of, HasLines, Out}
+use Rattle.octseq_tool.specs.Out.{command_name, IsNamed, HasText, records_of, HasLines, Out}
 use Rattle.octseq_tool.specs.declared.engine.Command.{Command}
 use Rattle.octseq_tool.specs.declared.engine.Command.TheVariants.{Check, Lossy, Lossy64, Records}
 use Rattle.octseq_tool.specs.declared.engine.Status.{Status}
 use Rattle.octseq_tool.specs.declared.engine.Status.TheVariants.{Fine, Refused, Usage}
 
 -- no two commands have one name: their first octets differ, or their lengths
-same_name : (c d : Command) → name_of c ≡ name_of d → c ≡ d
+same_name : (c d : Command) → command_name c ≡ command_name d → c ≡ d
 same_name Check Check e = refl
 same_name Lossy Lossy e = refl
 same_name Lossy64 Lossy64 e = refl

@@ -10,12 +10,12 @@ use Rattle.octseq.specs.Integer.{be}
 use Rattle.octseq.specs.Part.{part_length, HasPart, part, past_part}
 use Rattle.octseq.specs.Window.{Window, left, rest, next, past, nested}
 use Rattle.octseq.proofs.Codes.{halves}
-use Rattle.octseq_tool.specs.Out.{HasText, records_of, IsCut, HasLines}
+use Rattle.octseq_tool.specs.Out.{HasText, records_of, IsCutRecord, HasLines}
 use Rattle.octseq.proofs.Written.{be_one}
 
 -- no whole record is at the front
 abbrev pub IsRest : List ℕ → Type 0
-IsRest rest = (rest ≡ []) ⊎ IsCut rest
+IsRest rest = (rest ≡ []) ⊎ IsCutRecord rest
 
 -- if no whole record is at the front, none is there
 pub no_record : {P : Type 0} (rest part more : List ℕ) → IsRest rest → rest ≡ length part ∷ (part ++ more) → P
@@ -72,12 +72,12 @@ whole_record w n some within value fits joined =
 
 -- no whole record
 pub cut_record : (w : Window) (n : ℕ) → 0 < left w → w.end ≤ length w.octets → n ≡ be (next 1 w) → left (past 1 w) < n
-    → IsCut (rest w)
+    → IsCutRecord (rest w)
 cut_record w n some within value short =
     let long : length (rest (past 1 w)) ≡ w.end - (w.position + 1) =
     length_range w.octets (w.position + 1) w.end (omega arith) within in
     let few : length (rest (past 1 w)) < be (next 1 w) = omega arith in
-    subst IsCut (sym (first_octet w some within)) few
+    subst IsCutRecord (sym (first_octet w some within)) few
 
 not_within : (n m : ℕ) → (n ≤ m → ⊥) → m < n
 not_within n m short = omega arith
@@ -97,7 +97,7 @@ whole_part (Err e) view w after within variant moved is_part law = tt
 
 -- if a call reads no part though octets are left, they begin with no whole record
 pub cut_part : {T E : Type 0} (result : Result T E) (w : Window) → w.end ≤ length w.octets → (IsOk result ↔ HasPart 1 w)
-    → OnErr result (0 < left w → IsCut (rest w))
+    → OnErr result (0 < left w → IsCutRecord (rest w))
 cut_part (Ok taken) w within variant = tt
 cut_part (Err e) w within variant = λ some.
     let short : part_length 1 w ≤ left (past 1 w) → ⊥ = λ fits. let none : false ≡ true = variant.1 (some, fits) in

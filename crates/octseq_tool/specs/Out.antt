@@ -15,19 +15,19 @@ use Rattle.octseq_tool.specs.declared.engine.ToolFault.{ToolFault}
 use Rattle.octseq_tool.specs.declared.engine.ToolFault.TheVariants.{Memory, Read, Write}
 
 -- the name of a command
-abbrev pub name_of : Command → List ℕ
-name_of Check = codes "check"
-name_of Lossy = codes "lossy"
-name_of Lossy64 = codes "lossy64"
-name_of Records = codes "records"
+abbrev pub command_name : Command → List ℕ
+command_name Check = codes "check"
+command_name Lossy = codes "lossy"
+command_name Lossy64 = codes "lossy64"
+command_name Records = codes "records"
 
 -- the word is the name of a command
 abbrev pub IsCommand : List ℕ → Type 0
-IsCommand word = (command : Command) × (word ≡ name_of command)
+IsCommand word = (command : Command) × (word ≡ command_name command)
 
 -- the command of that name, or none if there is none
 abbrev pub IsNamed : List ℕ → Option Command → Type 0
-IsNamed word (Some command) = word ≡ name_of command
+IsNamed word (Some command) = word ≡ command_name command
 IsNamed word None = ¬ IsCommand word
 
 -- the parts of the input have this text
@@ -39,9 +39,9 @@ abbrev pub records_of : List (List ℕ) → List ℕ
 records_of parts = flat_map (λ part. length part ∷ part) parts
 
 -- octets that begin with no whole record: fewer octets follow the first one than it says
-abbrev pub IsCut : List ℕ → Type 0
-IsCut [] = ⊥
-IsCut (n ∷ octets) = length octets < n
+abbrev pub IsCutRecord : List ℕ → Type 0
+IsCutRecord [] = ⊥
+IsCutRecord (n ∷ octets) = length octets < n
 
 -- a line for each part: its lossy text, and a newline
 abbrev pub HasLines : List (List ℕ) → List ℕ → Type 0
@@ -61,7 +61,7 @@ Out (Some Lossy64) input output Refused =
     (lossy : List ℕ) × HasText input lossy × (64 < length lossy) × (output ≡ codes "buffer size exceeded\n")
 Out (Some Records) input output Fine = (parts : List (List ℕ)) × (input ≡ records_of parts) × HasLines parts output
 Out (Some Records) input output Refused = (parts : List (List ℕ)) × (rest : List ℕ) × (lines : List ℕ)
-    × (input ≡ records_of parts ++ rest) × IsCut rest × HasLines parts lines
+    × (input ≡ records_of parts ++ rest) × IsCutRecord rest × HasLines parts lines
     × (output ≡ lines ++ codes "unexpected end of input\n")
 Out None input output Usage = output ≡ codes "usage: octseq_tool check|lossy|lossy64|records\n"
 Out _ input output _ = ⊥

@@ -192,7 +192,11 @@ fn too_long(alloc: Global) -> Result<Answer, AllocError>
 
 /// Returns what a command makes of all that the reader has left.
 #[tactic(auto, using(crate::proofs::Feeding::makes))]
-fn carry_out<R: Read>(alloc: Global, command: Command, reader: &mut R) -> Result<Answer, ToolFault>
+fn run_command<R: Read>(
+    alloc: Global,
+    command: Command,
+    reader: &mut R,
+) -> Result<Answer, ToolFault>
     ensures ok { IfOk result (λ answer. Makes command (R.remaining reader.old) (R.remaining reader.new)
         answer.output.items answer.status) }
     ensures end { OnOk result (IsAtEnd (R.remaining reader.new)) }
@@ -241,7 +245,7 @@ pub fn engine<R: Read, W: Write>(
         write_all(writer, USAGE.as_bytes())?;
         return Ok(Status::Usage);
     };
-    let answer = carry_out(alloc, command, reader)?;
+    let answer = run_command(alloc, command, reader)?;
     write_all(writer, answer.output.as_slice())?;
     Ok(answer.status)
 }

@@ -1,7 +1,7 @@
 //! Writing the values of path attributes.
 ghost use Rattle.std.specs.Prelude.{◌≡◌, ◌≤◌, ◌+◌, ◌++◌, ◌↔◌, length, IsSome, IfSome};
 ghost use Rattle.octseq.specs.Limit.{IsWithin};
-ghost use Rattle.octseq_bgp.specs.Puts.{Puts, PutsSome};
+ghost use Rattle.octseq_bgp.specs.Puts.{AppendsUnlimited, AppendsSomeUnlimited};
 ghost use Rattle.octseq_bgp.specs.WrittenValue.{WrittenValue, FitsValue, value_octets, value_type};
 
 mod list;
@@ -46,7 +46,7 @@ pub trait ComposeAttribute {
         requires fit { FitsValue session.now (says self.now) }
         requires within { IsWithin B.limit (length (B.content builder.old)
             + length (value_octets session.now (says self.now))) }
-        ensures puts { PutsSome B.asks result (value_octets session.now (says self.now))
+        ensures puts { AppendsSomeUnlimited B.asks result (value_octets session.now (says self.now))
             (B.content builder.old) (B.content builder.new) }
         ensures borrows { B.borrows builder.new ≡ B.borrows builder.old };
 
@@ -63,7 +63,7 @@ pub trait ComposeAttribute {
         requires fit { FitsValue session.now (says self.now) }
         requires within { IsWithin B.limit (length (B.content builder.old)
             + length (value_octets session.now (says self.now))) }
-        ensures puts { Puts B.asks result (value_octets session.now (says self.now))
+        ensures puts { AppendsUnlimited B.asks result (value_octets session.now (says self.now))
             (B.content builder.old) (B.content builder.new) }
         ensures borrows { B.borrows builder.new ≡ B.borrows builder.old }
     {

@@ -6,7 +6,7 @@ ghost use Rattle.octseq_format.specs.Row.{row_octets};
 ghost use Rattle.octseq_bgp.specs.Capability.{ArePaths};
 ghost use Rattle.octseq_bgp.specs.ItemOctets.{tuple_octets, FitsTuple};
 ghost use Rattle.octseq_bgp.specs.TupleOf.{tuple_of};
-ghost use Rattle.octseq_bgp.specs.Puts.{PutsSome};
+ghost use Rattle.octseq_bgp.specs.Puts.{AppendsSomeUnlimited};
 ghost use Rattle.octseq_bgp.specs.WrittenCapability.{WrittenCapability as Written, FitsCapability, written_code};
 ghost use Rattle.octseq_bgp.specs.WrittenCapability.{written_value};
 
@@ -41,7 +41,7 @@ pub trait ComposeCapability {
     fn put_some<B: OctetsBuilder>(&self, builder: &mut B) -> Result<(), AllocError>
         requires fit { FitsCapability (says self.now) }
         requires within { IsWithin B.limit (length (B.content builder.old) + length (written_value (says self.now))) }
-        ensures puts { PutsSome B.asks result (written_value (says self.now))
+        ensures puts { AppendsSomeUnlimited B.asks result (written_value (says self.now))
             (B.content builder.old) (B.content builder.new) }
         ensures borrows { B.borrows builder.new ≡ B.borrows builder.old };
 }

@@ -1,6 +1,6 @@
 //! End-of-RIB markers: RFC 4724, 2.
 ghost use Rattle.std.specs.Prelude.{◌≡◌, IfSome, IsNone};
-ghost use Rattle.octseq_bgp.specs.EndOfRib.{IsEnd, UnreachesNone};
+ghost use Rattle.octseq_bgp.specs.EndOfRib.{IsEndOfRib, UnreachesNone};
 ghost use Rattle.octseq_bgp.specs.Lists.{attributes_left};
 ghost use Rattle.octseq_bgp.specs.Parsed.{update_of};
 ghost use Rattle.octseq_bgp.specs.declared.family.AfiSafiType.{AfiSafiType as Family};
@@ -39,8 +39,8 @@ fn unreaches_none<R: AsOctets + Copy>(
 impl<R: AsOctets + Copy> UpdateMessage<R> {
     /// Returns the family that this End-of-RIB marker is for, or `None` if it isn't a marker.
     pub fn is_eor(&self) -> Option<AfiSafiType>
-        ensures some { IfSome result (IsEnd (update_of self.now)) }
-        ensures none { IsNone result → (family : Family) → ¬ IsEnd (update_of self.now) family }
+        ensures some { IfSome result (IsEndOfRib (update_of self.now)) }
+        ensures none { IsNone result → (family : Family) → ¬ IsEndOfRib (update_of self.now) family }
     {
         if self.withdrawn.len() > 0 || self.announced.len() > 0 {
             return None;

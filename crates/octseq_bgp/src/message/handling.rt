@@ -40,8 +40,8 @@ impl Handling {
         }
     }
 
-    /// Returns the worse of two handlings.
-    pub fn worse(self, other: Handling) -> Handling
+    /// Returns the more severe of two handlings.
+    pub fn max(self, other: Handling) -> Handling
         ensures { rank result ≡ max (rank self) (rank other) }
     {
         if self.rank() < other.rank() {
@@ -121,8 +121,8 @@ fn type_handling(
     } else {
         malformed_handling(external, names, kind)
     };
-    let always = external_handling(external, kind).worse(opaque);
-    flags_handling(kind, flags).worse(always)
+    let always = external_handling(external, kind).max(opaque);
+    flags_handling(kind, flags).max(always)
 }
 
 /// Returns the handling of an attribute whose type has occurred before.
@@ -209,7 +209,7 @@ fn worst_handling<R: AsOctets + Copy>(
         let code = usize::from(attribute.type_code);
         let again = seen[code];
         seen[code] = true;
-        worst = worst.worse(attribute_handling(session, external, again, &attribute));
+        worst = worst.max(attribute_handling(session, external, again, &attribute));
     }
     worst
 }
@@ -228,7 +228,10 @@ fn has_type<R: AsOctets + Copy>(attributes: PathAttributes<R>, type_code: u8) ->
 }
 
 /// Whether an attribute is an MP_REACH_NLRI that has prefixes.
-fn reaches<R: AsOctets + Copy>(session: &SessionConfig, attribute: &PathAttribute<R>) -> bool
+fn is_reach_with_prefixes<R: AsOctets + Copy>(
+    session: &SessionConfig,
+    attribute: &PathAttribute<R>,
+) -> bool
     ensures { IsTrue result ↔ IsReachWithPrefixes session.now (attribute_of attribute.now) }
 {
     if attribute.type_code != 14 {
@@ -246,12 +249,15 @@ fn reaches<R: AsOctets + Copy>(session: &SessionConfig, attribute: &PathAttribut
 }
 
 /// Whether one of the attributes is an MP_REACH_NLRI that has prefixes.
-fn reaches_some<R: AsOctets + Copy>(session: &SessionConfig, attributes: PathAttributes<R>) -> bool
+fn has_reach_with_prefixes<R: AsOctets + Copy>(
+    session: &SessionConfig,
+    attributes: PathAttributes<R>,
+) -> bool
     ensures { IsTrue result ↔ ReachesSome session.now (attributes_left attributes) }
 {
     let mut ahead = attributes;
     'attributes: while let Some(attribute) = ahead.next() {
-        if reaches(session, &attribute) {
+        if is_reach_with_prefixes(session, &attribute) {
             return true;
         }
     }
@@ -276,7 +282,7 @@ impl<R: AsOctets + Copy> UpdateMessage<R> {
     {
         let attributes = self.path_attributes;
         let announces = self.announced.len() > 0;
-        let reaches = reaches_some(session, attributes);
+        let reaches = has_reach_with_prefixes(session, attributes);
         let has_both = has_type(attributes, 1) && has_type(attributes, 2);
         (announces || reaches) && !has_both || announces && !has_type(attributes, 3)
     }
@@ -288,6 +294,6 @@ impl<R: AsOctets + Copy> UpdateMessage<R> {
     {
         let session = self.path_attributes.session();
         let worst = worst_handling(&session, external, self.path_attributes);
-        worst.worse(missing_handling(self.lacks_mandatory(&session)))
+        worst.max(missing_handling(self.lacks_mandatory(&session)))
     }
 }

@@ -2,8 +2,9 @@
 ghost use Rattle.std.specs.Prelude.{◌≡◌, ◌<◌, ◌≤◌, ◌↔◌, [], length, true, IfOk, OnOk, OnErr};
 ghost use Rattle.octseq.specs.Limit.{ExceedsLimit};
 ghost use Rattle.octseq.specs.Refusal.{IsMalformed, IsShort, IsMemory, append_error, write_error};
-ghost use Rattle.octseq_bgp.specs.WrittenMessage.{limit_of, longest};
-ghost use Rattle.octseq_bgp.specs.WrittenNotification.{communication_octets, notification_octets, with_data};
+ghost use Rattle.octseq_bgp.specs.WrittenMessage.{limit_of, max_length};
+ghost use Rattle.octseq_bgp.specs.WrittenNotification.{communication_octets, notification_octets};
+ghost use Rattle.octseq_bgp.specs.WrittenNotification.{notification_with_data};
 
 use crate::compose::{Slice, extend};
 use crate::message::written::{begin, longest};
@@ -59,7 +60,7 @@ impl<B: OctetsBuilder + Truncate + AsOctetsMut> NotificationBuilder<B> {
         subcode: u8,
     ) -> Result<Self, AppendError>
         ensures message { IfOk result (λ n. n.message ≡ record { code = code; subcode = subcode; «data» = [] }) }
-        ensures most { IfOk result (λ n. n.most ≡ longest session.now.extended_message) }
+        ensures most { IfOk result (λ n. n.most ≡ max_length session.now.extended_message) }
         ensures short { IsShort append_error result ↔ ExceedsLimit B.limit 21 }
         ensures memory { IsMemory append_error result → B.asks ≡ true }
         ensures borrows { IfOk result (λ n. B.borrows n.octets ≡ B.borrows octets) }
@@ -80,10 +81,10 @@ impl<B: OctetsBuilder + Truncate + AsOctetsMut> NotificationBuilder<B> {
     /// 4,096 octets, or 65,535 if messages are extended. Otherwise `Memory` if a request for memory was refused. The
     /// message is then unchanged.
     pub fn push(&mut self, octets: &[u8]) -> Result<(), AppendError>
-        ensures ok { OnOk result (self.new.message ≡ with_data self.old.message octets.now) }
+        ensures ok { OnOk result (self.new.message ≡ notification_with_data self.old.message octets.now) }
         ensures err { OnErr result (self.new.message ≡ self.old.message) }
         ensures short { IsShort append_error result ↔ ExceedsLimit (limit_of self.old.most B.limit)
-            (length (notification_octets (with_data self.old.message octets.now))) }
+            (length (notification_octets (notification_with_data self.old.message octets.now))) }
         ensures memory { IsMemory append_error result → B.asks ≡ true }
         ensures most { self.new.most ≡ self.old.most }
         ensures borrows { B.borrows self.new.octets ≡ B.borrows self.old.octets }
@@ -99,12 +100,13 @@ impl<B: OctetsBuilder + Truncate + AsOctetsMut> NotificationBuilder<B> {
     /// `Malformed` exactly if the text has more than 255 octets. Otherwise `Short` and `Memory` as from
     /// [`push`](Self::push). The message is then unchanged.
     pub fn push_communication(&mut self, text: &str) -> Result<(), WriteError>
-        ensures ok { OnOk result (self.new.message ≡ with_data self.old.message (communication_octets text.now)) }
+        ensures ok { OnOk result
+            (self.new.message ≡ notification_with_data self.old.message (communication_octets text.now)) }
         ensures err { OnErr result (self.new.message ≡ self.old.message) }
         ensures malformed { IsMalformed write_error result ↔ (255 < length text.now) }
         ensures short { IsShort write_error result ↔ (length text.now ≤ 255)
             × ExceedsLimit (limit_of self.old.most B.limit)
-            (length (notification_octets (with_data self.old.message (communication_octets text.now)))) }
+            (length (notification_octets (notification_with_data self.old.message (communication_octets text.now)))) }
         ensures memory { IsMemory write_error result → B.asks ≡ true }
         ensures most { self.new.most ≡ self.old.most }
         ensures borrows { B.borrows self.new.octets ≡ B.borrows self.old.octets }

@@ -6,7 +6,7 @@ ghost use Rattle.octseq.specs.Limit.{ExceedsLimit, IsWithin};
 ghost use Rattle.octseq.specs.Refusal.{IsShort, IsMemory, append_error};
 ghost use Rattle.octseq_bgp.specs.OneOpen.{open_once};
 ghost use Rattle.octseq_bgp.specs.Open.{length_octets};
-ghost use Rattle.octseq_bgp.specs.Puts.{PutsSome};
+ghost use Rattle.octseq_bgp.specs.Puts.{AppendsSomeUnlimited};
 ghost use Rattle.octseq_bgp.specs.WrittenCapability.{FitsCapability, capability_octets};
 ghost use Rattle.octseq_bgp.specs.WrittenOpen.{CanFollow, FitsParameter, HoldsOpen, IsOpenWritten, PushesParameter};
 ghost use Rattle.octseq_bgp.specs.WrittenOpen.{WrittenOpen, WrittenParameter, apart_at, bare_open, front_len, lengths};
@@ -42,7 +42,8 @@ trait ComposeParameter {
     fn put_value<B: OctetsBuilder>(&self, octets: &mut B) -> Result<(), AllocError>
         requires has { has self.now }
         requires within { IsWithin B.limit (length (B.content octets.old) + length (says self.now).1) }
-        ensures puts { PutsSome B.asks result (says self.now).1 (B.content octets.old) (B.content octets.new) }
+        ensures puts { AppendsSomeUnlimited B.asks result (says self.now).1 (B.content octets.old)
+            (B.content octets.new) }
         ensures borrows { B.borrows octets.new ≡ B.borrows octets.old };
 }
 
@@ -146,7 +147,7 @@ pub(super) fn put_length<B: OctetsBuilder>(
 ) -> Result<(), AllocError>
     requires fit { len < 256 ^ length_octets long }
     requires within { IsWithin B.limit (length (B.content octets.old) + length (octets_be (length_octets long) len)) }
-    ensures puts { PutsSome B.asks result (octets_be (length_octets long) len)
+    ensures puts { AppendsSomeUnlimited B.asks result (octets_be (length_octets long) len)
         (B.content octets.old) (B.content octets.new) }
     ensures borrows { B.borrows octets.new ≡ B.borrows octets.old }
 {
@@ -166,7 +167,7 @@ fn put_some<B: OctetsBuilder, P: ComposeParameter>(
     requires fit { FitsParameter long (P.says parameter.now) }
     requires within { IsWithin B.limit (length (B.content octets.old)
         + length (parameter_octets long (P.says parameter.now))) }
-    ensures puts { PutsSome B.asks result (parameter_octets long (P.says parameter.now))
+    ensures puts { AppendsSomeUnlimited B.asks result (parameter_octets long (P.says parameter.now))
         (B.content octets.old) (B.content octets.new) }
     ensures borrows { B.borrows octets.new ≡ B.borrows octets.old }
 {

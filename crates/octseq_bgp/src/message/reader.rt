@@ -8,7 +8,7 @@ ghost use Rattle.octseq.specs.Code.{HasFront};
 ghost use Rattle.octseq_format.specs.Canonical.{AreOctets};
 ghost use Rattle.octseq_bgp.specs.Message.{IsMessage};
 ghost use Rattle.octseq_bgp.specs.Message as said;
-ghost use Rattle.octseq_bgp.specs.MessageReader.{reader_of, session_of, octets_of, is_over};
+ghost use Rattle.octseq_bgp.specs.MessageReader.{reader_of, session_of, held_octets, is_over};
 ghost use Rattle.octseq_bgp.specs.Stream.{IsFramed, IsMisframed, IsFrameCut};
 ghost use Rattle.octseq_bgp.specs.Stream.{IsMarked, longest_message, message_length};
 ghost use Rattle.octseq_bgp.specs.declared.session.SessionConfig.{SessionConfig as Session};
@@ -161,7 +161,7 @@ impl<R: Read> MessageReader<R> {
     pub fn new(alloc: Global, reader: R, session: SessionConfig) -> MessageReader<R>
         ensures reader { reader_of result ≡ reader }
         ensures session { session_of result ≡ session }
-        ensures octets { octets_of result ≡ [] }
+        ensures octets { held_octets result ≡ [] }
         ensures open { is_over result ≡ false }
     {
         MessageReader {
@@ -178,8 +178,8 @@ impl<R: Read> MessageReader<R> {
     /// session, `Memory` if a request for memory was refused, `Read` if a read failed. The reader may then be inside a
     /// message, so no further message is read.
     pub fn read_next(&mut self) -> Result<bool, ReadMessageError>
-        ensures message { result ≡ Ok true → IsFramed (session_of self.old) (octets_of self.new)
-            × Consumes (R.remaining (reader_of self.old)) (R.remaining (reader_of self.new)) (octets_of self.new) }
+        ensures message { result ≡ Ok true → IsFramed (session_of self.old) (held_octets self.new)
+            × Consumes (R.remaining (reader_of self.old)) (R.remaining (reader_of self.new)) (held_octets self.new) }
         ensures end { result ≡ Ok false → is_over self.old ≡ false → Consumes (R.remaining (reader_of self.old))
             (R.remaining (reader_of self.new)) [] × IsAtEnd (R.remaining (reader_of self.new)) }
         ensures short { result ≡ Err ReadMessageError.Short → (read : List ℕ) × IsFrameCut (session_of self.old) read
@@ -194,7 +194,7 @@ impl<R: Read> MessageReader<R> {
         ensures over { is_over self.old ≡ true → (result ≡ Ok false) × (self.new ≡ self.old) }
         ensures last { result ≢ Ok true → is_over self.new ≡ true }
         ensures on { result ≡ Ok true → is_over self.new ≡ false }
-        ensures empty { result ≢ Ok true → octets_of self.new ≡ [] }
+        ensures empty { result ≢ Ok true → held_octets self.new ≡ [] }
         ensures session { session_of self.new ≡ session_of self.old }
     {
         self.frames.read_next()
@@ -202,7 +202,7 @@ impl<R: Read> MessageReader<R> {
 
     /// Returns the octets of the last message read, or none if [`read_next`](Self::read_next) didn't return `true`.
     pub fn octets(&self) -> &[u8]
-        ensures octets { result.now ≡ octets_of self.now }
+        ensures octets { result.now ≡ held_octets self.now }
         ensures over { is_over self.now ≡ true → result.now ≡ [] }
     {
         self.frames.octets()
@@ -215,9 +215,9 @@ impl<R: Read> MessageReader<R> {
     /// `Malformed` if its octets aren't a message of the session, or if none was read: if
     /// [`read_next`](Self::read_next) didn't return `true`.
     pub fn message(&self) -> Result<Message<&[u8]>, Malformed>
-        ensures message { IfOk result (λ it. IsMessage (session_of self.now) (octets_of self.now) (message_of it)) }
+        ensures message { IfOk result (λ it. IsMessage (session_of self.now) (held_octets self.now) (message_of it)) }
         ensures malformed { IsErr result → (m : said.Message)
-            → ¬ IsMessage (session_of self.now) (octets_of self.now) m }
+            → ¬ IsMessage (session_of self.now) (held_octets self.now) m }
     {
         Message::parse(self.frames.octets(), *self.frames.framing())
     }

@@ -2,7 +2,7 @@
 ghost use Rattle.std.specs.Prelude.{◌≡◌, ◌↔◌, [], length, true, IfOk, OnOk, OnErr};
 ghost use Rattle.octseq.specs.Limit.{ExceedsLimit};
 ghost use Rattle.octseq.specs.Refusal.{IsShort, IsMemory, append_error};
-ghost use Rattle.octseq_bgp.specs.WrittenMessage.{limit_of, longest};
+ghost use Rattle.octseq_bgp.specs.WrittenMessage.{limit_of, max_length};
 ghost use Rattle.octseq_bgp.specs.WrittenRouteRefresh.{route_refresh_octets, with_orf};
 
 use crate::compose::{Slice, extend};
@@ -60,7 +60,7 @@ impl<B: OctetsBuilder + Truncate + AsOctetsMut> RouteRefreshBuilder<B> {
     ) -> Result<Self, AppendError>
         ensures message { IfOk result
             (λ r. r.message ≡ record { afi = afi; subtype = subtype; safi = safi; orf = [] }) }
-        ensures most { IfOk result (λ r. r.most ≡ longest session.now.extended_message) }
+        ensures most { IfOk result (λ r. r.most ≡ max_length session.now.extended_message) }
         ensures short { IsShort append_error result ↔ ExceedsLimit B.limit 23 }
         ensures memory { IsMemory append_error result → B.asks ≡ true }
         ensures borrows { IfOk result (λ r. B.borrows r.octets ≡ B.borrows octets) }

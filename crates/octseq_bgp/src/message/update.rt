@@ -40,12 +40,12 @@ pub struct UpdateParts<R: AsOctets> {
 type Parts = (Counted<U16Be, Nested, 0>, Counted<U16Be, Nested, 0>, Nested);
 
 impl<R: AsOctets + Copy> UpdateParts<R> {
-    ghost use Rattle.octseq_bgp.specs.Parsed.{parts_of};
+    ghost use Rattle.octseq_bgp.specs.Parsed.{update_parts_of};
 
     /// Splits all that a parser has left into the three parts of an UPDATE.
     #[inline(always)]
     pub(crate) fn parse_body(parser: Parser<R>) -> Result<UpdateParts<R>, Malformed>
-        ensures parts { IfOk result (λ it. Whole IsUpdateParts (window parser) (parts_of it)) }
+        ensures parts { IfOk result (λ it. Whole IsUpdateParts (window parser) (update_parts_of it)) }
         ensures malformed { IsErr result → (parts : Window × (Window × Window))
             → ¬ Whole IsUpdateParts (window parser) parts }
     {

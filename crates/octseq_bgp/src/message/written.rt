@@ -2,7 +2,7 @@
 ghost use Rattle.std.specs.Prelude.{◌≡◌, ◌≤◌, ◌↔◌, length, true, IfOk};
 ghost use Rattle.octseq.specs.Limit.{ExceedsLimit};
 ghost use Rattle.octseq.specs.Refusal.{IsShort, IsMemory, append_error};
-ghost use Rattle.octseq_bgp.specs.WrittenMessage.{longest};
+ghost use Rattle.octseq_bgp.specs.WrittenMessage.{max_length};
 
 use crate::session::SessionConfig;
 use octseq::{AppendError, OctetsBuilder, Truncate};
@@ -15,7 +15,7 @@ const EXTENDED_MAX: usize = 65535;
 
 /// Returns the maximum length of a message of a session that may be extended.
 pub(super) fn longest(session: &SessionConfig) -> usize
-    ensures is { result ≡ longest session.now.extended_message }
+    ensures is { result ≡ max_length session.now.extended_message }
     ensures least { 4096 ≤ result }
     ensures most { result ≤ 65535 }
 {

@@ -12,7 +12,8 @@ ghost use Rattle.octseq_bgp.specs.PathOf.{asns_left, path_of, segment_of};
 ghost use Rattle.octseq_bgp.specs.Text.{community_text, large_text, address_text};
 ghost use Rattle.octseq_bgp.specs.Value.{Value, IsValue};
 ghost use Rattle.octseq_bgp.specs.ValueOf.{value_of};
-ghost use Rattle.octseq_bgp.specs.ValueText.{flag_text, set_flags, flags_text, name_text, origin_text, numbers_text};
+ghost use Rattle.octseq_bgp.specs.ValueText.{flag_text, set_flags, flags_text, attribute_name_text, origin_text};
+ghost use Rattle.octseq_bgp.specs.ValueText.{numbers_text};
 ghost use Rattle.octseq_bgp.specs.ValueText.{segment_words, path_text, next_hop_text, aggregator_text, value_text};
 ghost use Rattle.octseq_bgp.specs.ValueText.{attribute_text, path_id_text, nlri_text};
 ghost use Rattle.octseq_bgp.specs.declared.family.Afi.TheVariants as addresses;
@@ -64,7 +65,7 @@ fn write_flag<W: fmt::Write>(f: &mut fmt::Formatter<W>, bit: u8, letter: &str) -
 
 /// Writes the name of a type, or its number.
 fn write_name<W: fmt::Write>(f: &mut fmt::Formatter<W>, type_code: u8) -> fmt::Result
-    ensures { WritesOnOk W.write_str_gives f.old result (name_text type_code) f.new }
+    ensures { WritesOnOk W.write_str_gives f.old result (attribute_name_text type_code) f.new }
 {
     match AttributeType::from_number(type_code) {
         Some(kind) => write!(f, "{kind}"),

@@ -2,7 +2,7 @@
 ghost use Rattle.std.specs.Prelude.{◌≡◌, ◌++◌, ℕ, List, Bool, IfOk, codes};
 ghost use Rattle.octseq_bgp_tool.specs.Out.{as_they_are};
 ghost use Rattle.octseq_bgp_tool.specs.Records.{IsRecordPiece, IsRecordsEnd, IsRecordsRest};
-ghost use Rattle.octseq_bgp_tool.specs.Records.{IsEventNote, IsTakenEvent, IsTakenValue, IsValueNote, IsWritten};
+ghost use Rattle.octseq_bgp_tool.specs.Records.{IsEventNote, IsTakenEvent, IsTakenValue, IsValueNote, IsRecordOutput};
 ghost use Rattle.octseq_bgp_tool.specs.declared.engine.records.Records.{Records};
 ghost use Rattle.octseq_mrt.specs.Parsed.{event_of, record_of, value_of};
 ghost use Rattle.octseq_mrt.specs.Record.{AreRecord};
@@ -128,7 +128,7 @@ fn written_of<R: AsOctets + Copy>(
     it: &Record<R>,
     value: &RecordValue<R>,
 ) -> Result<Vec<u8>, AllocError>
-    ensures { IfOk result (λ written. IsWritten command (record_of it.now) (value_of value.now) written.items) }
+    ensures { IfOk result (λ written. IsRecordOutput command (record_of it.now) (value_of value.now) written.items) }
 {
     match command {
         Records::Shown => shown_record(alloc, it),

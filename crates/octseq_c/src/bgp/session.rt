@@ -1,6 +1,6 @@
 //! The session of BGP messages, as flags.
 ghost use Rattle.std.specs.Prelude.{◌≡◌, ◌≤◌};
-ghost use Rattle.octseq_c.specs.BgpSession.{flags_of, is_set, session_of, weight_of};
+ghost use Rattle.octseq_c.specs.BgpSession.{session_flags, is_set, session_of, weight_of};
 
 use octseq_bgp::session::{AddPath, SessionConfig};
 
@@ -56,7 +56,7 @@ fn weight_of(set: bool, weight: u32) -> u32
 
 /// Returns the flags of a session.
 pub fn flags_of(session: &SessionConfig) -> u32
-    ensures { result ≡ flags_of session.now }
+    ensures { result ≡ session_flags session.now }
 {
     let paths = session.add_path;
     let width = weight_of(!session.four_octet_asn, TWO_OCTET_ASN);

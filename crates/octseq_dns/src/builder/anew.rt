@@ -8,7 +8,7 @@ ghost use Rattle.octseq_dns_compress.specs.State.{with_entries};
 ghost use Rattle.octseq_dns_message.specs.Parsed.{questions_of, records_of};
 ghost use Rattle.octseq_dns.specs.Appended.{Appended};
 ghost use Rattle.octseq_dns.specs.Contents.{Message as Contents, Question as Asked, Record as Written};
-ghost use Rattle.octseq_dns.specs.Contents.{FitsHeader, FitsQuestion, FitsRecord, with_only_header, octets_of};
+ghost use Rattle.octseq_dns.specs.Contents.{FitsHeader, FitsQuestion, FitsRecord, with_only_header, message_octets};
 ghost use Rattle.octseq_dns.specs.Contents.{question_entry, record_entry};
 ghost use Rattle.octseq_dns.specs.Labels.{labels_in, question_labels, record_labels};
 ghost use Rattle.octseq_dns.specs.Moved.{CanMove};
@@ -125,7 +125,7 @@ pub(crate) fn compose_anew<
     ensures movable { OnOk result (CanMove (records_of source.now)) }
     ensures immovable { IsMalformed rewrite_error result → ¬ CanMove (records_of source.now) }
     ensures short { IsShort rewrite_error result → (m : Contents) → IsContentsOf source.now m
-        → ExceedsLimit (message_limit B.limit) (length (octets_of T.most m)) }
+        → ExceedsLimit (message_limit B.limit) (length (message_octets T.most m)) }
     ensures memory { IsMemory rewrite_error result → (B.asks ≡ true) ⊎ (T.asks ≡ true) }
     ensures borrows { IfOk result (λ b. B.borrows b.octets ≡ B.borrows octets) }
     ensures on { turns.old ≤ turns.new }

@@ -4,7 +4,7 @@ ghost use Rattle.octseq.specs.Limit.{ExceedsLimit, IsWithin};
 ghost use Rattle.octseq.specs.Refusal.{IsShort, IsMemory, append_error};
 ghost use Rattle.octseq_dns_compress.specs.Composed.{message_limit};
 ghost use Rattle.octseq_dns.specs.Answering.{answer_header, answer_to};
-ghost use Rattle.octseq_dns.specs.Contents.{octets_of};
+ghost use Rattle.octseq_dns.specs.Contents.{message_octets};
 ghost use Rattle.octseq_dns.specs.Writes.{ComposesMessage, least_limit};
 
 use crate::builder::anew::append_questions;
@@ -50,7 +50,7 @@ impl<B: OctetsBuilder + Truncate + AsOctetsMut, T: Compressor> MessageBuilder<B,
         ensures push_limit { IfOk result (λ b. b.push_limit ≡ self.push_limit) }
         ensures has_opt { IfOk result (λ b. b.has_opt ≡ self.has_opt) }
         ensures short { IsShort append_error result → ExceedsLimit (least_limit self.push_limit (message_limit B.limit))
-            (length (octets_of T.most (answer_to message.now rcode))) }
+            (length (message_octets T.most (answer_to message.now rcode))) }
         ensures memory { IsMemory append_error result → (B.asks ≡ true) ⊎ (T.asks ≡ true) }
         ensures borrows { IfOk result (λ b. B.borrows b.octets ≡ B.borrows self.octets) }
     {

@@ -1,7 +1,7 @@
 //! The values of service parameters, by key: RFC 9460, 7 and 8.
 ghost use Rattle.std.specs.Prelude.{◌≡◌, ℕ, List, [], IfOk};
 ghost use Rattle.octseq.specs.Refusal.{IsMalformed, read_error};
-ghost use Rattle.octseq_dns_text.specs.ParamText.{IsEchText, IsPortText, IsValueText};
+ghost use Rattle.octseq_dns_text.specs.ParamText.{IsEchText, IsPortText, IsParamValueText};
 
 use crate::params::addresses::{scan_ipv4_hints, scan_ipv6_hints};
 use crate::params::ids::scan_ids;
@@ -16,8 +16,8 @@ use std::alloc::Global;
 
 /// Reads a value as its key says, from what the text says of it.
 pub(crate) fn scan_value(alloc: Global, key: u16, said: Vec<u8>) -> Result<Vec<u8>, ReadError>
-    ensures ok { IfOk result (λ value. IsValueText key said.items value.items) }
-    ensures malformed { IsMalformed read_error result → (value : List ℕ) → ¬ (IsValueText key said.items value) }
+    ensures ok { IfOk result (λ value. IsParamValueText key said.items value.items) }
+    ensures malformed { IsMalformed read_error result → (value : List ℕ) → ¬ (IsParamValueText key said.items value) }
 {
     match key {
         MANDATORY => scan_mandatory(alloc, said.as_slice()),

@@ -2,7 +2,7 @@
 ghost use Rattle.std.specs.Prelude.{◌≡◌, ◌≤◌, ℕ, List, [], length, Bool, true, false, IfOk};
 ghost use Rattle.octseq.specs.Part.{part_of};
 ghost use Rattle.octseq_dns.specs.Frames.{FitsStream};
-ghost use Rattle.octseq_dns_tool.specs.Taken.{IsEnd, IsPiece, IsRest, left_line};
+ghost use Rattle.octseq_dns_tool.specs.Taken.{IsEnd, IsPiece, IsStreamRest, left_line};
 ghost use Rattle.octseq_dns_tool.specs.declared.engine.stream.Messages.{Messages};
 ghost use Rattle.octseq_dns_tool.specs.declared.engine.stream.Messages.TheVariants as messages;
 
@@ -154,7 +154,7 @@ impl FrameCommand for Messages {
 impl StreamCommand for Messages {
     ghost code = { λ _. part_of 2 };
 
-    ghost is_rest = { λ _. IsRest };
+    ghost is_rest = { λ _. IsStreamRest };
 
     ghost is_end = { IsEnd };
 

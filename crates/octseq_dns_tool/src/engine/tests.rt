@@ -165,7 +165,7 @@ fn short_help_and_the_version(rt: HostRuntime) {
     assert_true!(&rt, errors.is_empty());
     let (answer, written, errors) = reported(rt.alloc(), "--version", b"a", 0);
     assert_equal!(&rt, answer, Ok(Status::Fine));
-    let version = b"octseq 0.1.0, proved with rattle-kit-13b, BSD 3-Clause License\n";
+    let version = b"octseq 0.1.0, proved with rattle-kit-13f, BSD 3-Clause License\n";
     assert_equal!(&rt, written.as_slice(), version.as_slice());
     assert_true!(&rt, errors.is_empty());
 }

@@ -7,7 +7,7 @@ ghost use Rattle.octseq.specs.Parts.{StartsWith};
 ghost use Rattle.octseq.specs.Refusal.{IsShort, IsMemory, append_error};
 ghost use Rattle.octseq_format.specs.Optional.{optional_octets};
 ghost use Rattle.octseq_bgp.specs.Path.{asn_size};
-ghost use Rattle.octseq_mrt.specs.Joined.{body_limit, joined, with_count};
+ghost use Rattle.octseq_mrt.specs.Joined.{body_limit, parts_joined, with_count};
 ghost use Rattle.octseq_mrt.specs.Written.{FitsOptional};
 
 use octseq::builder::AsOctetsMut;
@@ -19,7 +19,7 @@ pub(crate) const BODY_MAX: usize = 0xFFFF_FFFF;
 
 /// Whether parts have at most `most` octets.
 fn are_within(parts: &[&[u8]], most: usize) -> bool
-    ensures { IsTrue result ↔ (length (joined parts.now) ≤ most) }
+    ensures { IsTrue result ↔ (length (parts_joined parts.now) ≤ most) }
 {
     let mut left = most;
     for part in parts {
@@ -33,8 +33,8 @@ fn are_within(parts: &[&[u8]], most: usize) -> bool
 
 /// Appends parts. On an error it may have appended some.
 fn put_parts<B: OctetsBuilder>(builder: &mut B, parts: &[&[u8]]) -> Result<(), AllocError>
-    requires { IsWithin B.limit (length (B.content builder.now) + length (joined parts.now)) }
-    ensures ok { OnOk result (B.content builder.new ≡ B.content builder.old ++ joined parts.now) }
+    requires { IsWithin B.limit (length (B.content builder.now) + length (parts_joined parts.now)) }
+    ensures ok { OnOk result (B.content builder.new ≡ B.content builder.old ++ parts_joined parts.now) }
     ensures err { OnErr result (StartsWith (B.content builder.old) (B.content builder.new)) }
     ensures memory { IsErr result → B.asks ≡ true }
     ensures borrows { B.borrows builder.new ≡ B.borrows builder.old }
@@ -53,11 +53,11 @@ pub(crate) fn append_parts<B: OctetsBuilder + Truncate>(
     parts: &[&[u8]],
     most: usize,
 ) -> Result<(), AppendError>
-    ensures ok { OnOk result (B.content builder.new ≡ B.content builder.old ++ joined parts.now) }
-    ensures few { OnOk result (length (joined parts.now) ≤ most) }
+    ensures ok { OnOk result (B.content builder.new ≡ B.content builder.old ++ parts_joined parts.now) }
+    ensures few { OnOk result (length (parts_joined parts.now) ≤ most) }
     ensures err { OnErr result (B.content builder.new ≡ B.content builder.old) }
-    ensures short { IsShort append_error result ↔ (most < length (joined parts.now))
-        ⊎ ExceedsLimit B.limit (length (B.content builder.old) + length (joined parts.now)) }
+    ensures short { IsShort append_error result ↔ (most < length (parts_joined parts.now))
+        ⊎ ExceedsLimit B.limit (length (B.content builder.old) + length (parts_joined parts.now)) }
     ensures memory { IsMemory append_error result → B.asks ≡ true }
     ensures borrows { B.borrows builder.new ≡ B.borrows builder.old }
 {
@@ -99,11 +99,11 @@ pub(crate) fn push_item<B: OctetsBuilder + Truncate + AsOctetsMut>(
     requires few { length (B.content octets.old) ≤ 4294967295 }
     ensures count { IfOk result (λ n. (n ≡ count + 1) × (n ≤ 65535)) }
     ensures ok { OnOk result (B.content octets.new
-        ≡ with_count count_at (count + 1) (B.content octets.old ++ joined item.now)) }
-    ensures within { OnOk result (length (B.content octets.old) + length (joined item.now) ≤ 4294967295) }
+        ≡ with_count count_at (count + 1) (B.content octets.old ++ parts_joined item.now)) }
+    ensures within { OnOk result (length (B.content octets.old) + length (parts_joined item.now) ≤ 4294967295) }
     ensures err { OnErr result (B.content octets.new ≡ B.content octets.old) }
     ensures short { IsShort append_error result ↔ (65535 ≤ count)
-        ⊎ ExceedsLimit (body_limit B.limit) (length (B.content octets.old) + length (joined item.now)) }
+        ⊎ ExceedsLimit (body_limit B.limit) (length (B.content octets.old) + length (parts_joined item.now)) }
     ensures memory { IsMemory append_error result → B.asks ≡ true }
     ensures borrows { B.borrows octets.new ≡ B.borrows octets.old }
 {

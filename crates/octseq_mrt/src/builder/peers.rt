@@ -3,7 +3,7 @@ ghost use Rattle.std.specs.Prelude.{◌≡◌, ◌≤◌, ◌<◌, ◌+◌, ◌�
 ghost use Rattle.octseq.specs.Limit.{ExceedsLimit};
 ghost use Rattle.octseq.specs.Refusal.{IsShort, IsMemory, IsMalformed, append_error, write_error};
 ghost use Rattle.octseq_mrt.specs.Building.{TableWritten, table_once, with_peer};
-ghost use Rattle.octseq_mrt.specs.Joined.{body_limit, joined};
+ghost use Rattle.octseq_mrt.specs.Joined.{body_limit, parts_joined};
 ghost use Rattle.octseq_mrt.specs.Parsed.{peer_of};
 ghost use Rattle.octseq_mrt.specs.Written.{FitsPeer, FitsPeerTable, peer_octets, peer_table_octets};
 
@@ -101,7 +101,7 @@ impl<B: OctetsBuilder + Truncate + AsOctetsMut> PeerTableBuilder<B> {
     /// Pushes a peer with these octets.
     fn push_parts(&mut self, peer: &PeerEntry, parts: &[&[u8]]) -> Result<(), AppendError>
         requires fits { FitsPeer (peer_of peer.now) }
-        requires octets { joined parts.now ≡ peer_octets (peer_of peer.now) }
+        requires octets { parts_joined parts.now ≡ peer_octets (peer_of peer.now) }
         ensures ok { OnOk result (table_in self.new ≡ with_peer (table_in self.old) (peer_of peer.now)) }
         ensures err { OnErr result (table_in self.new ≡ table_in self.old) }
         ensures short { IsShort append_error result ↔ (65535 ≤ length (table_in self.old).peers)

@@ -9,8 +9,8 @@ ghost use Rattle.octseq_bgp.specs.Prefix.{most_bits};
 ghost use Rattle.octseq_bgp.specs.Written.{written_prefix};
 ghost use Rattle.octseq_mrt.specs.Building.{FitsPrefix, RibWritten, address_bits, begun_rib, pushed_route, rib_once};
 ghost use Rattle.octseq_mrt.specs.Building.{with_route};
-ghost use Rattle.octseq_mrt.specs.Joined.{body_limit, joined};
-ghost use Rattle.octseq_mrt.specs.Rib.{path_of};
+ghost use Rattle.octseq_mrt.specs.Joined.{body_limit, parts_joined};
+ghost use Rattle.octseq_mrt.specs.Rib.{path_id_of};
 ghost use Rattle.octseq_mrt.specs.Written.{FitsOptional, FitsRib, FitsRoute, rib_octets, route_octets};
 ghost use Rattle.octseq_mrt.specs.declared.kind.RecordKind.TheVariants as kind;
 
@@ -56,8 +56,8 @@ fn prefix_octets(prefix: &Prefix) -> ([u8; 16], usize)
 
 /// Returns the number of a path id.
 fn path_number(path_id: Option<PathId>) -> Option<u32>
-    ensures number { result ≡ path_of path_id }
-    ensures fits { FitsOptional (is_some path_id) (path_of path_id) }
+    ensures number { result ≡ path_id_of path_id }
+    ensures fits { FitsOptional (is_some path_id) (path_id_of path_id) }
 {
     match path_id {
         Some(id) => Some(id.0),
@@ -186,7 +186,7 @@ impl<B: OctetsBuilder + Truncate + AsOctetsMut> RibBuilder<B> {
     ) -> Result<(), AppendError>
         requires fits { FitsRoute (has_paths self.old)
             (pushed_route peer_index originated_time path_id attributes.now) }
-        requires octets { joined parts.now
+        requires octets { parts_joined parts.now
             ≡ route_octets (pushed_route peer_index originated_time path_id attributes.now) }
         ensures ok { OnOk result (rib_in self.new
             ≡ with_route (rib_in self.old) (pushed_route peer_index originated_time path_id attributes.now)) }

@@ -4,7 +4,7 @@ ghost use Rattle.std.specs.Fmt.{WritesOnOk, HasWritten, IsPlainFormatter};
 ghost use Rattle.octseq.specs.Parser.{window};
 ghost use Rattle.octseq_bgp.specs.MessageText.{line};
 ghost use Rattle.octseq_mrt.specs.Parsed.{attribute_of, attributes_left, rib_value_of, entry_of, entries_left, rib_of};
-ghost use Rattle.octseq_mrt.specs.RecordText.{hops_of, hops_line, rib_attribute_lines, AreRibAttributeLines};
+ghost use Rattle.octseq_mrt.specs.RecordText.{next_hop_of, hops_line, rib_attribute_lines, AreRibAttributeLines};
 ghost use Rattle.octseq_mrt.specs.RecordText.{IsEntryText, AreEntryLines, rib_text, IsRibText};
 ghost use Rattle.octseq_mrt.specs.Rib.{is_next_hop_size, IsRibValue};
 ghost use Rattle.octseq_mrt.specs.Text.{entry_text};
@@ -30,7 +30,7 @@ fn address<const N: usize>(octets: &[u8]) -> [u8; N]
 /// Returns next hops, by their number of octets.
 fn hops_of(octets: &[u8]) -> NextHop
     requires { is_next_hop_size (length octets.now) }
-    ensures { result ≡ hops_of octets.now }
+    ensures { result ≡ next_hop_of octets.now }
 {
     match octets.len() {
         4 => NextHop::Ipv4(address(octets)),

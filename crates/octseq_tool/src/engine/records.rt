@@ -2,7 +2,7 @@
 ghost use Rattle.std.specs.Prelude.{◌≡◌, ℕ, ◌<◌, List, ◌∷◌, ◌++◌, length, codes, Some, IfOk, OnOk, OnErr};
 ghost use Rattle.octseq.specs.Parser.{window};
 ghost use Rattle.octseq.specs.Window.{left, rest};
-ghost use Rattle.octseq_tool.specs.Out.{HasText, IsCut, Out};
+ghost use Rattle.octseq_tool.specs.Out.{HasText, IsCutRecord, Out};
 ghost use Rattle.octseq_tool.specs.declared.engine.Command.TheVariants.{Records};
 ghost use Rattle.octseq_tool.specs.declared.engine.Status.TheVariants.{Refused};
 
@@ -16,7 +16,7 @@ fn next_part<'a>(parser: &mut Parser<&'a [u8]>) -> Result<Parser<&'a [u8]>, Shor
     ensures ok { IfOk result (λ part. rest (window parser.old)
         ≡ length (rest (window part)) ∷ rest (window part) ++ rest (window parser.new)) }
     ensures less { OnOk result (left (window parser.new) < left (window parser.old)) }
-    ensures err { OnErr result (0 < left (window parser.old) → IsCut (rest (window parser.old))) }
+    ensures err { OnErr result (0 < left (window parser.old) → IsCutRecord (rest (window parser.old))) }
 {
     parse::nothing_is_lost();
     parser.parse_part_u8()

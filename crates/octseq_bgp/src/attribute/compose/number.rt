@@ -4,7 +4,7 @@ ghost use Rattle.octseq.specs.Integer.{octets_be};
 ghost use Rattle.octseq.specs.Limit.{IsWithin};
 ghost use Rattle.octseq_bgp.specs.OriginType.{origin_number};
 ghost use Rattle.octseq_bgp.specs.Path.{asn_size};
-ghost use Rattle.octseq_bgp.specs.Puts.{PutsSome};
+ghost use Rattle.octseq_bgp.specs.Puts.{AppendsSomeUnlimited};
 ghost use Rattle.octseq_bgp.specs.WrittenValue.{WrittenValue as Written, FitsAggregator, aggregator_octets};
 
 use crate::attribute::attribute_type::AttributeType;
@@ -215,7 +215,7 @@ fn put_aggregator<B: OctetsBuilder>(
     requires fit { FitsAggregator (asn_size wide) (aggregator.now.asn.0, aggregator.now.address) }
     requires within { IsWithin B.limit (length (B.content builder.old)
         + length (aggregator_octets (asn_size wide) (aggregator.now.asn.0, aggregator.now.address))) }
-    ensures puts { PutsSome B.asks result
+    ensures puts { AppendsSomeUnlimited B.asks result
         (aggregator_octets (asn_size wide) (aggregator.now.asn.0, aggregator.now.address))
         (B.content builder.old) (B.content builder.new) }
     ensures borrows { B.borrows builder.new ≡ B.borrows builder.old }

@@ -3,9 +3,9 @@ ghost use Rattle.std.specs.Prelude.{◌≡◌, ◌≤◌, ◌+◌, ◌++◌, Lis
 ghost use Rattle.octseq.specs.Limit.{IsWithin};
 ghost use Rattle.octseq.specs.Parser.{window};
 ghost use Rattle.octseq.specs.Window.{left};
-ghost use Rattle.octseq_format.specs.Canonical.{IsSound};
+ghost use Rattle.octseq_format.specs.Canonical.{IsSoundWindow};
 ghost use Rattle.octseq_bgp.specs.Lists.{attribute_of, attributes_left, attributes_session, prefixes_left};
-ghost use Rattle.octseq_bgp.specs.Puts.{PutsSome};
+ghost use Rattle.octseq_bgp.specs.Puts.{AppendsSomeUnlimited};
 ghost use Rattle.octseq_bgp.specs.Rewritten.{AreAttributesAnew, AreFew, AreSound, IsAttributeAnew, IsWritable};
 ghost use Rattle.octseq_bgp.specs.Rewritten.{attribute_size, attributes_size, flags_anew, prefixes_anew, value_anew};
 ghost use Rattle.octseq_bgp.specs.RewrittenOpen.{AppendedRow};
@@ -64,7 +64,7 @@ fn put_head<B: OctetsBuilder>(
     requires few { len ≤ 65535 }
     requires within { IsWithin B.limit (length (B.content builder.old)
         + length (head_octets (flags_anew flags len) type_code len)) }
-    ensures puts { PutsSome B.asks result (head_octets (flags_anew flags len) type_code len)
+    ensures puts { AppendsSomeUnlimited B.asks result (head_octets (flags_anew flags len) type_code len)
         (B.content builder.old) (B.content builder.new) }
     ensures borrows { B.borrows builder.new ≡ B.borrows builder.old }
 {
@@ -86,7 +86,7 @@ fn put_reach<R: AsOctets + Copy, B: OctetsBuilder>(
     requires within { IsWithin B.limit (length (B.content builder.old)
         + length (reach_front reach.now.family reach.now.next_hop
         ++ prefixes_octets (prefixes_anew (prefixes_left reach.now.prefixes)))) }
-    ensures puts { PutsSome B.asks result (reach_front reach.now.family reach.now.next_hop
+    ensures puts { AppendsSomeUnlimited B.asks result (reach_front reach.now.family reach.now.next_hop
         ++ prefixes_octets (prefixes_anew (prefixes_left reach.now.prefixes)))
         (B.content builder.old) (B.content builder.new) }
     ensures borrows { B.borrows builder.new ≡ B.borrows builder.old }
@@ -114,7 +114,7 @@ fn put_unreach<R: AsOctets + Copy, B: OctetsBuilder>(
     requires few { AreFew (prefixes_left unreach.now.prefixes) }
     requires within { IsWithin B.limit (length (B.content builder.old) + length (unreach_front unreach.now.family
         ++ prefixes_octets (prefixes_anew (prefixes_left unreach.now.prefixes)))) }
-    ensures puts { PutsSome B.asks result (unreach_front unreach.now.family
+    ensures puts { AppendsSomeUnlimited B.asks result (unreach_front unreach.now.family
         ++ prefixes_octets (prefixes_anew (prefixes_left unreach.now.prefixes)))
         (B.content builder.old) (B.content builder.new) }
     ensures borrows { B.borrows builder.new ≡ B.borrows builder.old }
@@ -133,7 +133,7 @@ fn put_value<R: AsOctets + Copy, B: OctetsBuilder>(
     requires fits { IsWritable (value_of value.now) }
     requires within { IsWithin B.limit (length (B.content builder.old)
         + length (value_anew (window octets) (value_of value.now))) }
-    ensures puts { PutsSome B.asks result (value_anew (window octets) (value_of value.now))
+    ensures puts { AppendsSomeUnlimited B.asks result (value_anew (window octets) (value_of value.now))
         (B.content builder.old) (B.content builder.new) }
     ensures borrows { B.borrows builder.new ≡ B.borrows builder.old }
 {
@@ -150,7 +150,7 @@ fn put_attribute<R: AsOctets + Copy, B: OctetsBuilder>(
     attribute: &PathAttribute<R>,
 ) -> Result<(), AllocError>
     requires few { left (window attribute.now.value) ≤ 65535 }
-    requires sound { IsSound (window attribute.now.value) }
+    requires sound { IsSoundWindow (window attribute.now.value) }
     requires within { IsWithin B.limit (length (B.content builder.old)
         + attribute_size (left (window attribute.now.value))) }
     ensures ok { OnOk result ((anew : WrittenAttribute)

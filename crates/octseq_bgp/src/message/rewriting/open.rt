@@ -6,7 +6,7 @@ ghost use Rattle.octseq.specs.Limit.{ExceedsLimit, IsWithin};
 ghost use Rattle.octseq.specs.Parser.{window};
 ghost use Rattle.octseq.specs.Refusal.{IsShort, IsMemory, append_error};
 ghost use Rattle.octseq.specs.Window.{Window, left, rest};
-ghost use Rattle.octseq_format.specs.Canonical.{IsSound};
+ghost use Rattle.octseq_format.specs.Canonical.{IsSoundWindow};
 ghost use Rattle.octseq_format.specs.Row.{row_octets};
 ghost use Rattle.octseq_bgp.specs.CapabilityOf.{capabilities_left, capability_of, capability_value_of, restart_of};
 ghost use Rattle.octseq_bgp.specs.ItemOctets.{tuple_octets};
@@ -15,7 +15,7 @@ ghost use Rattle.octseq_bgp.specs.Lists.{parameter_of, parameters_left};
 ghost use Rattle.octseq_bgp.specs.OneOpen.{says_parameter};
 ghost use Rattle.octseq_bgp.specs.Open.{IsOpen, length_octets};
 ghost use Rattle.octseq_bgp.specs.Parsed.{open_of};
-ghost use Rattle.octseq_bgp.specs.Puts.{PutsSome};
+ghost use Rattle.octseq_bgp.specs.Puts.{AppendsSomeUnlimited};
 ghost use Rattle.octseq_bgp.specs.RewrittenOpen.{AppendedRow, AreItemsSound, Each, IsCapabilityAnew, IsOpenRewritten};
 ghost use Rattle.octseq_bgp.specs.RewrittenOpen.{IsParameterAnew, capability_anew, family_anew, needs_long, open_front};
 ghost use Rattle.octseq_bgp.specs.RewrittenOpen.{open_numbers, restart_anew, said_octets};
@@ -134,7 +134,7 @@ fn put_families<R: AsOctets + Copy, B: OctetsBuilder>(
 ) -> Result<(), AllocError>
     requires within { IsWithin B.limit (length (B.content octets.old)
         + length (row_octets tuple_octets (map family_anew (items_left families)))) }
-    ensures puts { PutsSome B.asks result (row_octets tuple_octets (map family_anew (items_left families)))
+    ensures puts { AppendsSomeUnlimited B.asks result (row_octets tuple_octets (map family_anew (items_left families)))
         (B.content octets.old) (B.content octets.new) }
     ensures borrows { B.borrows octets.new ≡ B.borrows octets.old }
 {
@@ -157,7 +157,7 @@ fn put_restart<R: AsOctets + Copy, B: OctetsBuilder>(
 ) -> Result<(), AllocError>
     requires within { IsWithin B.limit (length (B.content octets.old)
         + length (restart_anew (restart_of restart))) }
-    ensures puts { PutsSome B.asks result (restart_anew (restart_of restart))
+    ensures puts { AppendsSomeUnlimited B.asks result (restart_anew (restart_of restart))
         (B.content octets.old) (B.content octets.new) }
     ensures borrows { B.borrows octets.new ≡ B.borrows octets.old }
 {
@@ -173,7 +173,7 @@ fn put_value<R: AsOctets + Copy, B: OctetsBuilder>(
 ) -> Result<(), AllocError>
     requires within { IsWithin B.limit (length (B.content octets.old)
         + length (capability_anew (capability_value_of value) read.now)) }
-    ensures puts { PutsSome B.asks result (capability_anew (capability_value_of value) read.now)
+    ensures puts { AppendsSomeUnlimited B.asks result (capability_anew (capability_value_of value) read.now)
         (B.content octets.old) (B.content octets.new) }
     ensures borrows { B.borrows octets.new ≡ B.borrows octets.old }
 {
@@ -201,7 +201,7 @@ fn put_head<B: OctetsBuilder>(
     requires fit { len < 256 ^ length_octets long }
     requires within { IsWithin B.limit (length (B.content octets.old)
         + length (octets_be 1 kind ++ octets_be (length_octets long) len)) }
-    ensures puts { PutsSome B.asks result (octets_be 1 kind ++ octets_be (length_octets long) len)
+    ensures puts { AppendsSomeUnlimited B.asks result (octets_be 1 kind ++ octets_be (length_octets long) len)
         (B.content octets.old) (B.content octets.new) }
     ensures borrows { B.borrows octets.new ≡ B.borrows octets.old }
 {
@@ -214,7 +214,7 @@ fn put_capability<R: AsOctets + Copy, B: OctetsBuilder>(
     octets: &mut B,
     capability: &Capability<R>,
 ) -> Result<(), AllocError>
-    requires sound { IsSound (window capability.now.octets) }
+    requires sound { IsSoundWindow (window capability.now.octets) }
     requires within { IsWithin B.limit (length (B.content octets.old)
         + length (parameter_octets false (says_parameter (capability_of capability.now)))) }
     ensures ok { OnOk result ((c : WrittenParameter) × IsCapabilityAnew (capability_of capability.now) c
@@ -253,7 +253,7 @@ fn put_inside<R: AsOctets + Copy, B: OctetsBuilder>(
     octets: &mut B,
     parameter: &Parameter<R>,
 ) -> Result<(), AllocError>
-    requires sound { IsSound (window parameter.now.value) }
+    requires sound { IsSoundWindow (window parameter.now.value) }
     requires within { IsWithin B.limit (length (B.content octets.old)
         + length (rest (window parameter.now.value))) }
     ensures ok { OnOk result ((p : WrittenParameter) × IsParameterAnew (parameter_of parameter.now) p
@@ -273,7 +273,7 @@ fn put_parameter<R: AsOctets + Copy, B: OctetsBuilder>(
     long: bool,
     parameter: &Parameter<R>,
 ) -> Result<(), AllocError>
-    requires sound { IsSound (window parameter.now.value) }
+    requires sound { IsSoundWindow (window parameter.now.value) }
     requires fit { length (rest (window parameter.now.value)) < 256 ^ length_octets long }
     requires within { IsWithin B.limit (length (B.content octets.old)
         + length (parameter_octets long (says_parameter (parameter_of parameter.now)))) }
@@ -314,7 +314,7 @@ fn put_parameters<R: AsOctets + Copy, B: OctetsBuilder>(
 fn put_lengths<B: OctetsBuilder>(octets: &mut B, long: bool, len: usize) -> Result<(), AllocError>
     requires fit { len ≤ most_parameters long }
     requires within { IsWithin B.limit (length (B.content octets.old) + length (lengths long len)) }
-    ensures puts { PutsSome B.asks result (lengths long len) (B.content octets.old) (B.content octets.new) }
+    ensures puts { AppendsSomeUnlimited B.asks result (lengths long len) (B.content octets.old) (B.content octets.new) }
     ensures borrows { B.borrows octets.new ≡ B.borrows octets.old }
 {
     if long {
@@ -330,7 +330,7 @@ fn put_numbers<R: AsOctets + Copy, B: OctetsBuilder>(
 ) -> Result<(), AllocError>
     requires within { IsWithin B.limit (length (B.content octets.old)
         + length (open_numbers (open_of message.now))) }
-    ensures puts { PutsSome B.asks result (open_numbers (open_of message.now))
+    ensures puts { AppendsSomeUnlimited B.asks result (open_numbers (open_of message.now))
         (B.content octets.old) (B.content octets.new) }
     ensures borrows { B.borrows octets.new ≡ B.borrows octets.old }
 {
@@ -351,7 +351,7 @@ fn put_front<R: AsOctets + Copy, B: OctetsBuilder>(
     requires fit { len ≤ most_parameters long }
     requires within { IsWithin B.limit (length (B.content octets.old)
         + length (open_front (open_of message.now) long len)) }
-    ensures puts { PutsSome B.asks result (open_front (open_of message.now) long len)
+    ensures puts { AppendsSomeUnlimited B.asks result (open_front (open_of message.now) long len)
         (B.content octets.old) (B.content octets.new) }
     ensures borrows { B.borrows octets.new ≡ B.borrows octets.old }
 {
@@ -381,7 +381,7 @@ pub(super) fn rewrite_open<R: AsOctets + Copy, B: OctetsBuilder + Truncate>(
     message: &OpenMessage<R>,
     mut octets: B,
 ) -> Result<B, AppendError>
-    requires { (w : Window) × IsOpen w (open_of message.now) × IsSound w × (left w ≤ 4077) }
+    requires { (w : Window) × IsOpen w (open_of message.now) × IsSoundWindow w × (left w ≤ 4077) }
     ensures rewritten { IfOk result (λ b. IsOpenRewritten (open_of message.now) (B.content b)) }
     ensures short { IsShort append_error result ↔ (out : List ℕ) × IsOpenRewritten (open_of message.now) out
         × ExceedsLimit B.limit (length out) }

@@ -2,7 +2,7 @@
 ghost use Rattle.std.specs.Prelude.{◌≡◌, ◌≤◌, ◌+◌, length};
 ghost use Rattle.octseq.specs.Limit.{IsWithin};
 ghost use Rattle.octseq_bgp.specs.Lists.{nlri_of, prefixes_left};
-ghost use Rattle.octseq_bgp.specs.Puts.{PutsSome};
+ghost use Rattle.octseq_bgp.specs.Puts.{AppendsSomeUnlimited};
 ghost use Rattle.octseq_bgp.specs.Rewritten.{AreFew, prefix_anew, prefixes_anew};
 ghost use Rattle.octseq_bgp.specs.Written.{prefix_octets, prefixes_octets};
 
@@ -43,7 +43,7 @@ fn put_prefix<R: AsOctets + Copy, B: OctetsBuilder>(
     requires bits { nlri.now.len ≤ 128 }
     requires within { IsWithin B.limit (length (B.content builder.old)
         + length (prefix_octets (prefix_anew (nlri_of nlri.now)))) }
-    ensures puts { PutsSome B.asks result (prefix_octets (prefix_anew (nlri_of nlri.now)))
+    ensures puts { AppendsSomeUnlimited B.asks result (prefix_octets (prefix_anew (nlri_of nlri.now)))
         (B.content builder.old) (B.content builder.new) }
     ensures borrows { B.borrows builder.new ≡ B.borrows builder.old }
 {
@@ -60,7 +60,7 @@ pub(super) fn put_prefixes<R: AsOctets + Copy, B: OctetsBuilder>(
     requires few { AreFew (prefixes_left prefixes) }
     requires within { IsWithin B.limit (length (B.content builder.old)
         + length (prefixes_octets (prefixes_anew (prefixes_left prefixes)))) }
-    ensures puts { PutsSome B.asks result (prefixes_octets (prefixes_anew (prefixes_left prefixes)))
+    ensures puts { AppendsSomeUnlimited B.asks result (prefixes_octets (prefixes_anew (prefixes_left prefixes)))
         (B.content builder.old) (B.content builder.new) }
     ensures borrows { B.borrows builder.new ≡ B.borrows builder.old }
 {

@@ -4,11 +4,11 @@ ghost use Rattle.octseq.specs.Limit.{ExceedsLimit, IsWithin};
 ghost use Rattle.octseq.specs.Part.{part_of};
 ghost use Rattle.octseq.specs.Refusal.{IsShort, IsMemory, append_error};
 ghost use Rattle.octseq.specs.Window.{Window, left};
-ghost use Rattle.octseq_format.specs.Canonical.{IsSound};
+ghost use Rattle.octseq_format.specs.Canonical.{IsSoundWindow};
 ghost use Rattle.octseq_bgp.specs.Composed.{header_octets};
 ghost use Rattle.octseq_bgp.specs.Lists.{attributes_left, attributes_session, prefixes_left};
 ghost use Rattle.octseq_bgp.specs.Parsed.{update_of};
-ghost use Rattle.octseq_bgp.specs.Puts.{PutsSome};
+ghost use Rattle.octseq_bgp.specs.Puts.{AppendsSomeUnlimited};
 ghost use Rattle.octseq_bgp.specs.Rewritten.{AreAttributesAnew, AreFew, AreSound, IsReady, IsUpdateRewritten};
 ghost use Rattle.octseq_bgp.specs.Rewritten.{attributes_size, prefixes_anew, update_size};
 ghost use Rattle.octseq_bgp.specs.Update.{IsUpdate};
@@ -68,7 +68,7 @@ fn put_withdrawn<R: AsOctets + Copy, B: OctetsBuilder>(
     requires few { AreFew (prefixes_left withdrawn) }
     requires within { IsWithin B.limit (length (B.content builder.old) + length (header_octets total 2
         ++ part_of 2 (prefixes_octets (prefixes_anew (prefixes_left withdrawn))))) }
-    ensures puts { PutsSome B.asks result (header_octets total 2
+    ensures puts { AppendsSomeUnlimited B.asks result (header_octets total 2
         ++ part_of 2 (prefixes_octets (prefixes_anew (prefixes_left withdrawn))))
         (B.content builder.old) (B.content builder.new) }
     ensures borrows { B.borrows builder.new ≡ B.borrows builder.old }
@@ -134,7 +134,7 @@ pub(super) fn rewrite_update<R: AsOctets + Copy, B: OctetsBuilder + Truncate>(
     update: &UpdateMessage<R>,
     builder: B,
 ) -> Result<B, AppendError>
-    requires { (s : Session) × (w : Window) × IsUpdate s w (update_of update.now) × IsSound w × (left w ≤ 65516) }
+    requires { (s : Session) × (w : Window) × IsUpdate s w (update_of update.now) × IsSoundWindow w × (left w ≤ 65516) }
     ensures rewritten { IfOk result (λ b. IsUpdateRewritten (update_of update.now) (B.content b)) }
     ensures short { IsShort append_error result
         ↔ ((out : List ℕ) × IsUpdateRewritten (update_of update.now) out × ExceedsLimit B.limit (length out)) }

@@ -17,13 +17,13 @@ pub(crate) struct Front {
 }
 
 /// Returns two addresses, one after the other.
-fn both(first: &[u8; 16], second: &[u8; 16]) -> [u8; 32]
+fn joined(first: &[u8; 16], second: &[u8; 16]) -> [u8; 32]
     ensures { result ≡ first.now ++ second.now }
 {
-    let mut both = [0; 32];
-    both[0..16].copy_from_slice(first);
-    both[16..32].copy_from_slice(second);
-    both
+    let mut octets = [0; 32];
+    octets[0..16].copy_from_slice(first);
+    octets[16..32].copy_from_slice(second);
+    octets
 }
 
 impl Front {
@@ -41,7 +41,7 @@ impl Front {
             }
             NextHop::Ipv6(address) => Some(Front::new(family, address)),
             NextHop::Ipv6LinkLocal(address, link_local) => {
-                Some(Front::new(family, &both(address, link_local)))
+                Some(Front::new(family, &joined(address, link_local)))
             }
         }
     }

@@ -3,7 +3,7 @@ use Rattle.std.proofs.KnownBytes.{Consumes-trans}
 use Rattle.std.proofs.lemmas.Bool.Decides.{nat_tests}
 use Rattle.octseq.proofs.Errors.{on_err}
 use Rattle.octseq_cli.proofs.TextSteps.{last_more, text_more}
-use Rattle.octseq_cli.specs.Texts.{EndsWithLineFeed, IsText}
+use Rattle.octseq_cli.specs.Texts.{EndsWithLineFeed, IsLineText}
 use Rattle.octseq_cli.proofs.texts.append_lines.Goals as goal
 use Rattle.octseq_cli.proofs.texts.append_lines.Goals.{else-is_ended-via-then-is_ended+else-is_feed}
 use Rattle.octseq_cli.proofs.texts.append_lines.Goals.{else-is_ended-via-else-is_ended}
@@ -36,7 +36,7 @@ loop-preserved g c =
       | else-is_ended-via-else-is_ended w ↦ λ e. absurd (so_far.is_open w.if-is_ended.false e)
     ] in
     record {
-      text = subst IsText (sym grown) (text_more text octet so_far.text next);
+      text = subst IsLineText (sym grown) (text_more text octet so_far.text next);
       is_ended = λ e. subst EndsWithLineFeed (sym grown) (last_more 10 text octet ∙ feed_is octet e);
       is_open = λ e ended. no_feed_is octet e (sym (last_more 10 text octet) ∙ subst EndsWithLineFeed grown ended);
       read = (

@@ -4,13 +4,13 @@ use Rattle.std.proofs.Common.{append_assoc}
 use Rattle.std.proofs.KnownBytes.{Consumes-trans}
 use Rattle.std.specs.Io.KnownBytes.{Consumes, IsAtEnd}
 use Rattle.std.specs.Prelude.{IfOk, OnErr, OnOk}
-use Rattle.octseq_cli.specs.Texts.{AreFeeds, EndsWithLineFeed, IsNextText, IsText}
+use Rattle.octseq_cli.specs.Texts.{AreFeeds, EndsWithLineFeed, IsNextText, IsLineText}
 use Rattle.octseq_cli.proofs.texts.read_text.Goals as goal
 
 -- the text that follows empty lines, of which the first octet was read
 text_read : {E : Type 0} (given mid left : Option (List ℕ)) (feeds begun text : List ℕ) (octet : ℕ)
     (result : Result Bool E) → AreFeeds feeds → Consumes given mid (feeds ++ octet ∷ []) → begun ≡ octet ∷ []
-    → OnOk result (IsText text)
+    → OnOk result (IsLineText text)
     → (result ≡ Ok false → EndsWithLineFeed text × (more : List ℕ) × (text ≡ begun ++ more)
     × Consumes mid left (more ++ 10 ∷ []))
     → (result ≡ Ok true → IsAtEnd left × (more : List ℕ) × (text ≡ begun ++ more) × Consumes mid left more)

@@ -1,6 +1,6 @@
 use Rattle.std.proofs.Common.{◌≡◌, [], ◌∷◌, ap, ◌∙◌, rules}
 use Rattle.std.proofs.lemmas.Option.{IfSome_then}
-use Rattle.octseq_dns_scan.specs.Spelled.{SpellsOctet}
+use Rattle.octseq_dns_scan.specs.Spelled.{SpellsOctetBut}
 use Rattle.octseq_dns_scan.proofs.string.next_octet.Goals as goal
 
 pub returns-then-first-eq92-clause-some : goal.returns-then-first-eq92-clause-some
@@ -10,4 +10,4 @@ returns-then-first-eq92-clause-some c =
     (λ taken is. let it = is c.args.quoted in (92 ∷ it.0, here ∙ ap (λ l. 92 ∷ l) it.1, it.2))
 
 pub returns-clause-some : goal.returns-clause-some
-returns-clause-some c = (c.in_ok-first.first.now ∷ [], search rules, SpellsOctet.plain (search rules))
+returns-clause-some c = (c.in_ok-first.first.now ∷ [], search rules, SpellsOctetBut.plain (search rules))

@@ -1,7 +1,7 @@
 use Rattle.std.proofs.Common.{◌<◌, length, refl, sym, ap, subst, arith, rules}
 use Rattle.octseq_dns_text.specs.KeyText.{IsKeyText}
 use Rattle.octseq_dns_text.specs.ParamText.{Says}
-use Rattle.octseq_dns_text.specs.Split.{octets_after, octets_before}
+use Rattle.octseq_dns_text.specs.Split.{split_after, octets_before}
 use Rattle.octseq_dns_text.proofs.KeyTexts.{key_once}
 use Rattle.octseq_dns_text.proofs.ValueTexts.{says_once, value_at, value_once}
 use Rattle.octseq_dns_text.proofs.params.scan_param.Goals as goal
@@ -17,7 +17,7 @@ returns-in-Err-scan_value-clause-malformed c = λ malformed param is.
     let named = subst (λ n. IsKeyText n c.in-Some.key) c.split_first.ensures.before c.in-Some.ensures.some in
     let says = subst (λ t. Says t c.in-Ok.said.items) c.split_first.ensures.after c.in-Ok.ensures.ok in
     let key = key_once (octets_before 61 word) param.0 c.in-Some.key is.key named in
-    let said = says_once (octets_after 61 word) is.said c.in-Ok.said.items is.says says in
+    let said = says_once (split_after 61 word) is.said c.in-Ok.said.items is.says says in
     c.in-Err-scan_value.ensures.malformed malformed param.1 (value_at _ _ _ _ param.1 key said is.value)
 
 pub returns-then-len-gt-VALUE_MAX-clause-malformed : goal.returns-then-len-gt-VALUE_MAX-clause-malformed
@@ -26,7 +26,7 @@ returns-then-len-gt-VALUE_MAX-clause-malformed c = λ _ param is.
     let named = subst (λ n. IsKeyText n c.in-Some.key) c.split_first.ensures.before c.in-Some.ensures.some in
     let says = subst (λ t. Says t c.in-Ok.said.items) c.split_first.ensures.after c.in-Ok.ensures.ok in
     let key = key_once (octets_before 61 word) param.0 c.in-Some.key is.key named in
-    let said = says_once (octets_after 61 word) is.said c.in-Ok.said.items is.says says in
+    let said = says_once (split_after 61 word) is.said c.in-Ok.said.items is.says says in
     let again = value_at _ _ _ _ param.1 key said is.value in
     let same = value_once c.in-Some.key c.in-Ok.said.items param.1 c.in-Ok-scan_value.value.items again
     c.in-Ok-scan_value.ensures.ok in

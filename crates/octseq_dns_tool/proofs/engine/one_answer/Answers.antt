@@ -1,10 +1,10 @@
 use Rattle.octseq_cli.proofs.Naming.{one_named}
 use Rattle.octseq_dns_tool.proofs.OneAnswer.{same_name, one_output}
-use Rattle.octseq_dns_tool.specs.Out.{name_of}
+use Rattle.octseq_dns_tool.specs.Out.{command_name}
 use Rattle.octseq_dns_tool.proofs.engine.one_answer.Goals as goal
 
 pub returns-clause-command : goal.returns-clause-command
-returns-clause-command c = one_named name_of same_name
+returns-clause-command c = one_named command_name same_name
 
 pub returns-clause-output : goal.returns-clause-output
 returns-clause-output c =

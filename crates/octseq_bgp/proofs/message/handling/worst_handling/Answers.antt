@@ -28,7 +28,7 @@ attributes-preserved g c =
     let bound : c.from-code.result < 256 = omega arith in
     let room : c.from-code.result < length c.attributes.seen = let long = so_far.3 in omega (arith, bound, long) in
     let marks = so_far.1 c.from-code.result bound in
-    let worse = c.worse-worst.ensures in (
+    let worse = c.max-worst.ensures in (
       e ∷ so_far.0,
       marked c.attributes.seen so_far.0 e c.from-code.result code room so_far.1,
       λ n is.
@@ -44,7 +44,7 @@ attributes-preserved g c =
             is,
             refl,
           )) in
-          let same : max (rank c.attributes.worst) (max x n) ≡ max (rank c.worse-worst.result) n = omega
+          let same : max (rank c.attributes.worst) (max x n) ≡ max (rank c.max-worst.result) n = omega
           (arith, worse) in
           subst (IsWorst s external [] (attributes_left c.args.attributes)) same all,
       length-set c.attributes.seen c.from-code.result true ∙ so_far.3,

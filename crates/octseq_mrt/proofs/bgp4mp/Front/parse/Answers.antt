@@ -5,7 +5,7 @@ use Rattle.octseq_format.proofs.Nones.{none_second}
 use Rattle.octseq_bgp.specs.OneParts.{one_number}
 use Rattle.octseq_bgp.specs.Parts.{IsNumber}
 use Rattle.octseq_bgp.specs.Path.{asn_size}
-use Rattle.octseq_mrt.specs.Address.{IsOptional}
+use Rattle.octseq_mrt.specs.Address.{IsNumberIf}
 use Rattle.octseq_mrt.specs.Bgp4Mp.{ArePeers}
 use Rattle.octseq_mrt.specs.OneListed.{one_optional}
 use Rattle.octseq_mrt.proofs.bgp4mp.Front.parse.Goals as goal
@@ -19,7 +19,7 @@ returns-in_err-addresses-clause-malformed g c = λ _.
     let asn = IsNumber (asn_size c.args.wide) in
     let one = one_number (asn_size c.args.wide) in
     let more = IsNumber 2 then ArePeers in
-    none_second (IsOptional c.args.extended) (asn then asn then more) (window c.args.parser.now)
+    none_second (IsNumberIf c.args.extended) (asn then asn then more) (window c.args.parser.now)
     (window c.parse_optional.new.parser) c.in_ok-microseconds.microseconds (one_optional c.args.extended)
     c.in_ok-microseconds.ensures.number
     (none_second asn (asn then more) (window c.parse_optional.new.parser) (window c.parse_asn.new.parser)

@@ -1,7 +1,7 @@
 use Rattle.std.proofs.Common.{◌≡◌, ◌++◌, refl, ap, arith}
 use Rattle.std.proofs.lemmas.List.{length-append}
 use Rattle.octseq.specs.Integer.{be}
-use Rattle.octseq_mrt.specs.OneFrame.{record_octets}
+use Rattle.octseq_mrt.specs.OneFrame.{whole_record}
 use Rattle.octseq_mrt.specs.Records.{record_length}
 use Rattle.octseq_stream.proofs.Headers.{range_in_front}
 use Rattle.octseq_mrt.proofs.reader.RecordFramingFraming.parse_header.Goals as goal
@@ -19,6 +19,6 @@ returns-clause-header c =
           let both = length-append header octets in
           let kept : record_length (header ++ octets) ≡ record_length header =
           ap be (range_in_front header octets 8 12 (omega arith) (omega (arith, may, there))) in
-          record_octets (header ++ octets) (omega (arith, may, there, says, all, both, kept));
+          whole_record (header ++ octets) (omega (arith, may, there, says, all, both, kept));
       whole = λ _ _. refl;
     }

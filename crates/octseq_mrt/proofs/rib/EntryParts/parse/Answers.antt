@@ -6,13 +6,13 @@ use Rattle.octseq_bgp.specs.OneParts.{one_number}
 use Rattle.octseq_bgp.specs.Parts.{IsNumber, IsCounted}
 use Rattle.octseq_bgp.proofs.Moves.{onward_number}
 use Rattle.octseq_bgp.proofs.Wholes.{counted_left}
-use Rattle.octseq_mrt.specs.Address.{IsOptional}
+use Rattle.octseq_mrt.specs.Address.{IsNumberIf}
 use Rattle.octseq_mrt.specs.OneListed.{one_optional, onward_optional}
 use Rattle.octseq_mrt.proofs.rib.EntryParts.parse.Goals as goal
 
 pub returns-in_err-octets-clause-malformed : goal.returns-in_err-octets-clause-malformed
 returns-in_err-octets-clause-malformed g c = λ _.
-    let optional = IsOptional c.args.paths in
+    let optional = IsNumberIf c.args.paths in
     none_second (IsNumber 2) (IsNumber 4 then optional then IsCounted 2) (window c.args.parser.now)
     (window c.parse.new.parser) c.in_ok-peer_index.peer_index (one_number 2) c.in_ok-peer_index.ensures.value
     (none_second (IsNumber 4) (optional then IsCounted 2) (window c.parse.new.parser) (window c.parse-2.new.parser)

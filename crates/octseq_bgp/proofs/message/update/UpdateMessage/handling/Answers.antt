@@ -19,5 +19,5 @@ returns g c =
         λ is. subst (λ s. LacksMandatory s (update_of self)) same (c.lacks_mandatory.ensures.0 is),
         λ is. c.lacks_mandatory.ensures.1 (subst (λ s. LacksMandatory s (update_of self)) (sym same) is),
       );
-      is = c.worse.ensures ∙ ap (λ n. max worst n) c.missing_handling.ensures;
+      is = c.max.ensures ∙ ap (λ n. max worst n) c.missing_handling.ensures;
     }

@@ -2,7 +2,7 @@ use Rattle.std.proofs.Common.{refl, subst}
 use Rattle.octseq.specs.Parser.{window}
 use Rattle.octseq_bgp.specs.Parts.{IsAttribute}
 use Rattle.octseq_bgp.specs.Fills.{Fills}
-use Rattle.octseq_bgp.specs.Parsed.{parts_of}
+use Rattle.octseq_bgp.specs.Parsed.{update_parts_of}
 use Rattle.octseq_bgp.specs.Prefix.{ArePrefixes}
 use Rattle.octseq_bgp.specs.Update.{IsUpdateParts}
 use Rattle.octseq_bgp.specs.declared.family.AfiSafiType.TheVariants as family
@@ -15,28 +15,31 @@ returns-in_err-parts-clause-malformed g c = λ _ u is. c.in_err-parts.ensures.ma
 
 pub returns-in_err-withdrawn-clause-malformed : goal.returns-in_err-withdrawn-clause-malformed
 returns-in_err-withdrawn-clause-malformed g c = λ _ u is.
-    let same = one_whole IsUpdateParts one_parts (window c.args.parser) is.parts (parts_of c.in_ok-parts.parts) is.are
+    let same = one_whole IsUpdateParts one_parts (window c.args.parser) is.parts
+    (update_parts_of c.in_ok-parts.parts) is.are
     c.in_ok-parts.ensures.parts in
     c.in_err-withdrawn.ensures.malformed refl u.withdrawn
     (subst (λ p. ArePrefixes c.args.session family.Ipv4Unicast p.0 u.withdrawn) same is.withdrawn)
 
 pub returns-in_err-path_attributes-clause-malformed : goal.returns-in_err-path_attributes-clause-malformed
 returns-in_err-path_attributes-clause-malformed g c = λ _ u is.
-    let same = one_whole IsUpdateParts one_parts (window c.args.parser) is.parts (parts_of c.in_ok-parts.parts) is.are
+    let same = one_whole IsUpdateParts one_parts (window c.args.parser) is.parts
+    (update_parts_of c.in_ok-parts.parts) is.are
     c.in_ok-parts.ensures.parts in
     c.in_err-path_attributes.ensures.malformed refl u.attributes
     (subst (λ p. Fills IsAttribute p.1.0 u.attributes) same is.attributes)
 
 pub returns-in_err-announced-clause-malformed : goal.returns-in_err-announced-clause-malformed
 returns-in_err-announced-clause-malformed g c = λ _ u is.
-    let same = one_whole IsUpdateParts one_parts (window c.args.parser) is.parts (parts_of c.in_ok-parts.parts) is.are
+    let same = one_whole IsUpdateParts one_parts (window c.args.parser) is.parts
+    (update_parts_of c.in_ok-parts.parts) is.are
     c.in_ok-parts.ensures.parts in
     c.in_err-announced.ensures.malformed refl u.announced
     (subst (λ p. ArePrefixes c.args.session family.Ipv4Unicast p.1.1 u.announced) same is.announced)
 
 pub returns-clause-update : goal.returns-clause-update
 returns-clause-update g c = record {
-  parts = parts_of c.in_ok-parts.parts;
+  parts = update_parts_of c.in_ok-parts.parts;
   are = c.in_ok-parts.ensures.parts;
   of_session = c.in_ok-path_attributes.ensures.session;
   withdrawn = c.in_ok-withdrawn.ensures.prefixes;

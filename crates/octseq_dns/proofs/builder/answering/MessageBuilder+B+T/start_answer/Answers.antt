@@ -9,7 +9,8 @@ use Rattle.octseq_dns_message.specs.declared.header.Header.{Header}
 use Rattle.octseq_dns_message.specs.declared.header.HeaderCounts.{HeaderCounts}
 use Rattle.octseq_dns.specs.Answering.{answer_header, answer_with, answer_to}
 use Rattle.octseq_dns.specs.Appended.{Appended}
-use Rattle.octseq_dns.specs.Contents.{FitsHeader, FitsQuestion, counts_of, with_only_header, octets_of, question_entry}
+use Rattle.octseq_dns.specs.Contents.{FitsHeader, FitsQuestion, counts_of, with_only_header, message_octets}
+use Rattle.octseq_dns.specs.Contents.{question_entry}
 use Rattle.octseq_dns.specs.Labels.{question_labels}
 use Rattle.octseq_dns.specs.ReadBack.{bare}
 use Rattle.octseq_dns.specs.Rewritten.{IsQuestionOf}
@@ -65,8 +66,8 @@ returns-then-is_past-clause-short g c short =
     (counted (header_of message) qs c.args.rcode _ c.self.invariant.1 c.header_counts-qdcount.ensures.qdcount)
     (begun_anew _ _ c.self.invariant c.octets_of.ensures.octets c.put_header.ensures.state)
     (c.in_ok-append_questions.ensures.appended.is (map bare qs) (zip_bare qs)) in
-    past_first c.args.self.push_limit (message_limit g.B.AsOctets.limit) (length (octets_of g.T.Compressor.most m))
-    (subst (λ v. ExceedsLimit v.push_limit (length (octets_of g.T.Compressor.most m))) c.self.view_is
+    past_first c.args.self.push_limit (message_limit g.B.AsOctets.limit) (length (message_octets g.T.Compressor.most m))
+    (subst (λ v. ExceedsLimit v.push_limit (length (message_octets g.T.Compressor.most m))) c.self.view_is
     (subst (ExceedsLimit c.self.inside.push_limit) (ap length c.as_slice.ensures ∙ ap (λ s. length s.octets) whole)
     (c.is_past.ensures.past (search rules))))
 

@@ -6,7 +6,7 @@ use Rattle.octseq_dns_data.proofs.PlainNames.{plain_long, plain_by_length}
 use Rattle.octseq_dns_name.specs.Name.{Name, wire_length}
 use Rattle.octseq_dns_name.specs.NameFormat.{one_named}
 use Rattle.octseq_dns_name.specs.Read.{labels_of, name_of}
-use Rattle.octseq_format.specs.Canonical.{IsSound}
+use Rattle.octseq_format.specs.Canonical.{IsSoundWindow}
 use Rattle.octseq_dns_data.proofs.data.uncompressed_name.UncompressedNameFormat.parse_counted.Goals as goal
 
 pub returns-in_err-name-clause-malformed : goal.returns-in_err-name-clause-malformed
@@ -18,7 +18,7 @@ returns-then-pos-len-clause-malformed g c = λ _ other end is.
     let w = window c.args.parser.now in
     let here = one_named.same w (name_of c.in_ok-name.name) other (window c.parse_counted.new.parser) end
     c.in_ok-name.ensures.value (named w end other is) in
-    let sound : IsSound w = record { each = search rules; ordered = search rules; within = search rules } in
+    let sound : IsSoundWindow w = record { each = search rules; ordered = search rules; within = search rules } in
     let long = plain_long w.position w end other.labels 0 sound refl is.1.has_labels in
     let labels = ap (λ (n : Name). wire_length n.labels) here.0 in
     let ends = ap (λ (v : Window). v.position) here.1 in
@@ -36,7 +36,7 @@ returns-clause-value g c =
     let from = c.pos-2.ensures.position in
     let same_len = c.if-pos-len.false in
     let is = c.in_ok-name.ensures.value in
-    let sound : IsSound w = record { each = search rules; ordered = search rules; within = search rules } in (
+    let sound : IsSoundWindow w = record { each = search rules; ordered = search rules; within = search rules } in (
       is.0,
       record {
         has_labels = plain_by_length w.position w (window c.parse_counted.new.parser) (labels_of c.in_ok-name.name)

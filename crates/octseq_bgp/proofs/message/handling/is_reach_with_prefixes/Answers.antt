@@ -3,7 +3,7 @@ use Rattle.octseq.specs.Parser.{window}
 use Rattle.octseq_bgp.specs.Value.{Reach}
 use Rattle.octseq_bgp.specs.ValueOf.{reach_of}
 use Rattle.octseq_bgp.proofs.Values.{one_reach}
-use Rattle.octseq_bgp.proofs.message.handling.reaches.Goals as goal
+use Rattle.octseq_bgp.proofs.message.handling.is_reach_with_prefixes.Goals as goal
 
 pub returns : goal.returns
 returns g c = (

@@ -1,7 +1,7 @@
 //! A fixed number.
 ghost use Rattle.std.specs.Prelude.{◌≡◌};
-ghost use Rattle.octseq_format.specs.Exactly.{IsExactly, coded_unit, one_exactly, onward_exactly};
-ghost use Rattle.octseq_format.specs.Exactly.{delimited_exactly, exactly_read_back, canonical_exactly};
+ghost use Rattle.octseq_format.specs.Constant.{IsConstant, coded_unit, one_constant, onward_constant};
+ghost use Rattle.octseq_format.specs.Constant.{delimited_constant, constant_read_back, canonical_constant};
 ghost use Rattle.octseq_format.specs.Stop.{stops_here};
 
 use crate::answer::Yes;
@@ -28,7 +28,7 @@ impl<R: AsOctets + Copy, L: Number, const N: usize> Format<R> for Const<L, N> {
 
     ghost found = { λ a. a };
 
-    ghost is_at = { IsExactly L.is_at N };
+    ghost is_at = { IsConstant L.is_at N };
 
     ghost Said = { Unit {0} };
 
@@ -38,7 +38,7 @@ impl<R: AsOctets + Copy, L: Number, const N: usize> Format<R> for Const<L, N> {
 
     ghost fits = { λ _. L.fits N };
 
-    ghost one = { one_exactly N L.one };
+    ghost one = { one_constant N L.one };
 
     ghost found_code = { coded_unit };
 
@@ -55,7 +55,7 @@ impl<R: AsOctets + Copy, L: Number, const N: usize> Format<R> for Const<L, N> {
     ghost stops = { stops_here };
 
     #[inline(always)]
-    #[tactic(auto, using(crate::specs::Exactly::other_exactly))]
+    #[tactic(auto, using(crate::specs::Constant::other_constant))]
     fn parse_counted(parser: &mut Parser<R>, _turns: &mut Turns) -> Result<(), Malformed> {
         let mut ahead = *parser;
         if L::parse_number(&mut ahead)? != N {
@@ -101,13 +101,13 @@ impl<R: AsOctets + Copy, L: Number, const N: usize> Format<R> for Const<L, N> {
 
     ghost one_way = { L.one_way };
 
-    ghost canonical = { λ yes. canonical_exactly N (L.canonical yes) };
+    ghost canonical = { λ yes. canonical_constant N (L.canonical yes) };
 
-    ghost onward = { onward_exactly N L.onward };
+    ghost onward = { onward_constant N L.onward };
 
-    ghost read_back = { exactly_read_back N L.delimited };
+    ghost read_back = { constant_read_back N L.delimited };
 
-    ghost delimited = { λ _. delimited_exactly N L.delimited };
+    ghost delimited = { λ _. delimited_constant N L.delimited };
 
     ghost moving = { λ _. L.moving };
 }

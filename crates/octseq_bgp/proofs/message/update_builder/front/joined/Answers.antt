@@ -1,6 +1,6 @@
 use Rattle.std.proofs.Common.{◌++◌, ◌∷◌, [], refl, ap, ◌∙◌}
 use Rattle.octseq_bgp.proofs.Fronts.{second_put}
-use Rattle.octseq_bgp.proofs.message.update_builder.front.both.Goals as goal
+use Rattle.octseq_bgp.proofs.message.update_builder.front.joined.Goals as goal
 
 pub returns : goal.returns
 returns c =
