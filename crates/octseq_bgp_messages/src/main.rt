@@ -1,14 +1,14 @@
-//! Shows each message of standard input as its session reads it, and an empty line after it. What is no message shows
-//! as `malformed`. Then a line for each message of at most 512 octets says what becomes of it where it is cut off at
-//! each length, with that length in its header, and where each octet in turn is changed to each of five others: how
-//! many that are, how many of them are malformed, and a digest of all that they show as.
+//! Shows each message of standard input, as its session reads it, followed by an empty line. What isn't a message is
+//! shown as `malformed`. Then a line for each message of at most 512 octets reports what is read if it is truncated to
+//! each length, with that length in its header, and if each octet in turn is changed to each of five others: how many
+//! readings there are, how many of them are malformed, and a digest of all that they show.
 //!
-//! Before the octets of each message of standard input there are three others. The first one is its session, a sum: 1
-//! where AS numbers have two octets, 2 where prefixes have path ids, 4 where messages may have 65,535 octets. The other
-//! two are the length of the message, whatever its own header says that it is.
+//! Each message of standard input is preceded by three octets. The first is its session, a sum: 1 if AS numbers have
+//! two octets, 2 if prefixes have path ids, 4 if messages may have 65,535 octets. The other two are the length of the
+//! message, whatever its own header says.
 //!
 //! It is a test of `octseq_bgp`: `stdin` has 187 messages of five daemons, which spoke to each other and to a script,
-//! and of captures, and after them 131 that were made, most of them odd in one way; `stdout` is what the readers of
+//! and of captures, followed by 131 that were made, most of them odd in one way; `stdout` is what the readers of
 //! mrtparse make of them.
 #![tactic(auto)]
 
@@ -25,7 +25,7 @@ use std::process::ExitCode;
 
 mod variants;
 
-/// Longer messages are neither cut off nor changed, as that would take most of the time.
+/// Longer messages are neither truncated nor changed, as that would take most of the time.
 const LONGEST: usize = 512;
 
 /// A message as it is in a stream: its session, and its octets.
@@ -35,7 +35,7 @@ struct Entry<'a> {
     octets: &'a [u8],
 }
 
-/// The session that a number stands for.
+/// Returns the session of a number.
 fn session_of(number: u8) -> SessionConfig {
     SessionConfig {
         four_octet_asn: number & 1 == 0,
@@ -44,7 +44,7 @@ fn session_of(number: u8) -> SessionConfig {
     }
 }
 
-/// The first message of a stream, and what is after it.
+/// Returns the first message of a stream, and what follows it.
 fn split_message(stream: &[u8]) -> Option<(Entry<'_>, &[u8])> {
     let ([number, upper, lower], after) = stream.split_first_chunk::<3>()?;
     let len = u16::from_be_bytes([*upper, *lower]);
@@ -53,7 +53,7 @@ fn split_message(stream: &[u8]) -> Option<(Entry<'_>, &[u8])> {
     Some((Entry { session, octets }, rest))
 }
 
-/// Appends the text of a message and an empty line, and answers whether it is one.
+/// Appends the text of a message and an empty line, and returns whether it is one.
 fn append_message<R: Octets + Copy>(
     text: &mut StrBuilder<Vec<u8>>,
     session: SessionConfig,
@@ -86,7 +86,7 @@ fn append_messages(text: &mut StrBuilder<Vec<u8>>, stream: &[u8]) -> Result<(), 
     Ok(())
 }
 
-/// The line of a message, about what becomes of it.
+/// The line that reports on a message.
 #[derive(Drop)]
 struct Line {
     cuts: Shown,
@@ -100,7 +100,7 @@ impl fmt::Display for Line {
     }
 }
 
-/// The same octets, in a vector.
+/// Returns a vector with the octets.
 fn copy_of(alloc: Global, octets: &[u8]) -> Result<Vec<u8>, DisplayError> {
     let mut copy = Vec::new(alloc);
     copy.extend_from_slice(octets)
@@ -108,7 +108,7 @@ fn copy_of(alloc: Global, octets: &[u8]) -> Result<Vec<u8>, DisplayError> {
     Ok(copy)
 }
 
-/// The line of a message, which is shown in a text of no use after it.
+/// Returns the line for a message. The readings are shown in `shown`, whose content is overwritten.
 fn line_of(
     alloc: Global,
     shown: &mut StrBuilder<Vec<u8>>,
@@ -141,12 +141,12 @@ fn append_lines(
     Ok(())
 }
 
-/// A text that is empty.
+/// Returns an empty text.
 fn new_text(alloc: Global) -> Result<StrBuilder<Vec<u8>>, DisplayError> {
     Ok(StrBuilder::new(alloc).map_err(|_| AppendError::Memory)?)
 }
 
-/// All that is said of a stream.
+/// Returns the whole output for a stream.
 fn text_of(alloc: Global, stream: &[u8]) -> Result<StrBuilder<Vec<u8>>, DisplayError> {
     let mut text = new_text(alloc)?;
     append_messages(&mut text, stream)?;

@@ -1,15 +1,15 @@
-//! What becomes of a message that is cut off, and of one with an octet changed.
+//! Messages that are truncated, and messages with an octet changed.
 use crate::append_message;
 use octseq::StrBuilder;
 use octseq::str::DisplayError;
 use octseq_bgp::session::SessionConfig;
 use std::fmt;
 
-/// What an octet is changed to: lengths that are none, the least and the most, and both sides of the first bit.
+/// What an octet is changed to: the least and the greatest numbers, and those on both sides of the highest bit.
 const CHANGES: [u8; 5] = [0x00, 0x01, 0x7F, 0x80, 0xFF];
 
-/// What octets were read as: how often, how many of them were malformed, and the digest FNV-1a of 64 bits of all that
-/// they showed as, one after another.
+/// What octets were read as: how many readings there were, how many of them were malformed, and the 64-bit FNV-1a
+/// digest of all that they showed, one after another.
 #[derive(Drop)]
 pub(crate) struct Shown {
     count: u64,
@@ -29,7 +29,7 @@ impl fmt::Display for Shown {
     }
 }
 
-/// A digest that goes on over octets.
+/// Continues a digest with octets.
 fn digest_on(digest: u64, octets: &[u8]) -> u64 {
     let mut digest = digest;
     for octet in octets {
@@ -39,7 +39,7 @@ fn digest_on(digest: u64, octets: &[u8]) -> u64 {
 }
 
 impl Shown {
-    /// Nothing that was read.
+    /// Returns the value before any reading.
     fn new() -> Shown {
         Shown {
             count: 0,
@@ -48,7 +48,7 @@ impl Shown {
         }
     }
 
-    /// Reads octets and shows them in a text of no use after it.
+    /// Reads octets and shows them in `text`, whose content is overwritten.
     fn read(
         &mut self,
         text: &mut StrBuilder<Vec<u8>>,
@@ -66,7 +66,7 @@ impl Shown {
     }
 }
 
-/// Reads each front of a message but the whole, after the length of the front was written into the header.
+/// Reads each prefix of a message except the whole, once the length of the prefix is in its header.
 pub(crate) fn read_cuts(
     text: &mut StrBuilder<Vec<u8>>,
     session: SessionConfig,
@@ -99,7 +99,7 @@ pub(crate) fn read_changes(
     Ok(shown)
 }
 
-/// Sets the octet at an offset, and answers what it was.
+/// Sets the octet at an offset, and returns the one that was there.
 fn exchange(octets: &mut [u8], offset: usize, octet: u8) -> u8 {
     match octets.get_mut(offset) {
         Some(found) => std::mem::replace(found, octet),

@@ -19,7 +19,7 @@ pub fn put_u16_be<B: AsOctetsMut>(octets: &mut B, at: usize, value: u16)
     octets.as_mut()[at..at + 2].copy_from_slice(&value.to_be_bytes());
 }
 
-/// Appends a frame piece by piece. On an error the content may end with a front of it.
+/// Appends a frame piece by piece. On an error the content may end with a prefix of it.
 fn append_pieces<B: OctetsBuilder + AsOctetsMut>(
     builder: &mut B,
     name: &[u8],

@@ -12,7 +12,7 @@ use octseq::builder::{AppendError, OctetsBuilder};
 /// # Errors
 ///
 /// `Short` if the text with all of them would exceed the limit of its type, or `Memory` if a request for memory was
-/// refused. If both apply, it may be either. The text then ends with a front of what was to be appended.
+/// refused. If both apply, it may be either. The text then ends with a prefix of what was to be appended.
 pub fn join<B: OctetsBuilder>(
     text: &mut StrBuilder<B>,
     words: &[&str],

@@ -56,7 +56,7 @@ pub fn read_note<R: Octets>(parser: &mut Parser<R>) -> Result<Note<R::Range>>
     Ok(Note { number, words })
 }
 
-/// Appends a note piece by piece. On an error the content may end with a front of it.
+/// Appends a note piece by piece. On an error the content may end with a prefix of it.
 fn append_pieces<B: OctetsBuilder + Truncate>(
     builder: &mut B,
     number: u16,

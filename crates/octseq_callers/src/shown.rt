@@ -11,7 +11,7 @@ use std::fmt::{self, Write};
 ///
 /// # Errors
 ///
-/// `fmt::Error` if the text has no room for all of it, or memory was refused. The text may then end with a front of it.
+/// `fmt::Error` if the text has no room for it all, or memory was refused. Then the text may end with a prefix of it.
 pub fn write_number<B: OctetsBuilder>(text: &mut StrBuilder<B>, n: u32) -> fmt::Result
     ensures { OnOk result (B.content text.new ≡ B.content text.old ++ decimal n) }
 {

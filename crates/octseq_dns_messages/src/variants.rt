@@ -61,7 +61,7 @@ impl Shown {
     }
 }
 
-/// Reads each front of a message except the whole.
+/// Reads each prefix of a message except the whole.
 pub(crate) fn read_cuts(
     text: &mut StrBuilder<Vec<u8>>,
     message: &[u8],

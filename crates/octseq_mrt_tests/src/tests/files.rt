@@ -180,7 +180,7 @@ fn fails_at(
 }
 
 #[test]
-fn what_a_failing_sink_took_is_a_front(rt: HostRuntime) {
+fn what_a_failing_sink_took_is_a_prefix(rt: HostRuntime) {
     // (a header and what follows it are a write each)
     for write in 1..12 {
         let failed = fails_at(&rt, write, 1000, ErrorKind::BrokenPipe);

@@ -18,7 +18,7 @@ fn narrow(alloc: Global, calls: usize) -> ShortWrites {
     }
 }
 
-/// Runs a command over writers that fail after no call, after one, and so on, and checks that a front of the output is
+/// Runs a command over writers that fail after no call, after one, and so on, and checks that a prefix of the output is
 /// written. Returns after how many calls it succeeds.
 fn calls_needed(rt: &impl Abort, alloc: Global, word: &str, octets: &[u8], output: &[u8]) -> usize {
     for calls in 0..256 {
@@ -38,7 +38,7 @@ fn calls_needed(rt: &impl Abort, alloc: Global, word: &str, octets: &[u8], outpu
 }
 
 #[test]
-fn a_failed_write_leaves_a_front(rt: HostRuntime) {
+fn a_failed_write_leaves_a_prefix(rt: HostRuntime) {
     let update = unwrap(&rt, messages(rt.alloc(), &[&UPDATE]));
     let shown = UPDATE_TEXT.as_bytes();
     let needed = calls_needed(&rt, rt.alloc(), "message", &update, shown);

@@ -1,7 +1,7 @@
 //! Refused requests for memory.
 //!
 //! `.ci/refused` runs these tests with their n-th request refused, for each n up to the last of them. A refusal ends a
-//! test with its error, once the test has checked that a front of the output was written.
+//! test with its error, once the test has checked that a prefix of the output was written.
 use super::records::{file, file_text};
 use super::{Command, KEEPALIVE, UPDATE, UPDATE_TEXT, messages};
 use crate::engine::tests::unwrap;
@@ -13,7 +13,7 @@ use std::alloc::{AllocError, Global};
 use std::io;
 use std::process::Abort;
 
-/// Runs a command, which writes its whole output, or a front of it if memory is refused.
+/// Runs a command, which writes its whole output, or a prefix of it if memory is refused.
 fn is_reported(rt: &impl Abort, alloc: Global, word: &str, octets: &[u8], output: &[u8]) {
     let mut writer = Fixed::<512> {
         taken: Array::new(),
@@ -41,7 +41,7 @@ fn message_tells_all_or_nothing(rt: HostRuntime) {
 }
 
 #[test]
-fn stream_tells_a_front(rt: HostRuntime) {
+fn stream_writes_a_prefix(rt: HostRuntime) {
     let octets = unwrap(&rt, messages(rt.alloc(), &[&KEEPALIVE, &[0, 19, 6]]));
     is_reported(
         &rt,
@@ -53,13 +53,13 @@ fn stream_tells_a_front(rt: HostRuntime) {
 }
 
 #[test]
-fn rewrite_tells_a_front(rt: HostRuntime) {
+fn rewrite_writes_a_prefix(rt: HostRuntime) {
     let octets = unwrap(&rt, messages(rt.alloc(), &[&KEEPALIVE, &UPDATE]));
     is_reported(&rt, rt.alloc(), "rewrite", &octets, &octets);
 }
 
 #[test]
-fn records_tell_a_front(rt: HostRuntime) {
+fn records_write_a_prefix(rt: HostRuntime) {
     let octets = unwrap(&rt, file(rt.alloc()));
     let text = unwrap(&rt, file_text(rt.alloc()));
     is_reported(&rt, rt.alloc(), "mrt", &octets, text.as_bytes());

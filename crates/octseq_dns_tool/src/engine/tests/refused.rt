@@ -1,7 +1,7 @@
 //! Refused requests for memory.
 //!
 //! `.ci/refused` runs these tests with their n-th request refused, for each n up to the last of them. A refusal ends a
-//! test with its error, once the test has checked that a front of the output was written.
+//! test with its error, once the test has checked that a prefix of the output was written.
 use super::{REPLY, REPLY_TEXT, engine};
 use crate::engine::Command;
 use crate::engine::tests::unwrap;
@@ -13,7 +13,7 @@ use std::alloc::{AllocError, Global};
 use std::io::{self, Error};
 use std::process::Abort;
 
-/// Runs a command, which writes its whole output, or a front of it if memory is refused.
+/// Runs a command, which writes its whole output, or a prefix of it if memory is refused.
 fn is_reported(
     rt: &impl Abort,
     alloc: Global,
@@ -47,7 +47,7 @@ fn message_tells_all_or_nothing(rt: HostRuntime) {
 }
 
 #[test]
-fn stream_tells_a_front(rt: HostRuntime) {
+fn stream_writes_a_prefix(rt: HostRuntime) {
     let octets = b"\0\x0C\0\0\0\0\0\0\0\0\0\0\0\0\0\x01\0\0\0\x02a";
     let text =
         b"id 0 opcode 0 rcode 0 flags\n\nmalformed\n\nmalformed\n\nunexpected end of input\n";
@@ -55,7 +55,7 @@ fn stream_tells_a_front(rt: HostRuntime) {
 }
 
 #[test]
-fn rewrite_tells_a_front(rt: HostRuntime) {
+fn rewrite_writes_a_prefix(rt: HostRuntime) {
     let alloc = rt.alloc();
     let mut stream = Vec::new(alloc);
     unwrap(&rt, stream.extend_from_slice(&[0, 45]));
@@ -66,7 +66,7 @@ fn rewrite_tells_a_front(rt: HostRuntime) {
 }
 
 #[test]
-fn compose_tells_a_front(rt: HostRuntime) {
+fn compose_writes_a_prefix(rt: HostRuntime) {
     let alloc = rt.alloc();
     let mut stream = Vec::new(alloc);
     unwrap(&rt, stream.extend_from_slice(&[0, 45]));
