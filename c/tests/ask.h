@@ -152,8 +152,8 @@ static inline uint32_t data_text(const struct given *given, uint8_t *out, size_t
 }
 
 static inline uint32_t data_fields(const struct given *given, uint8_t *out, size_t room, size_t *written) {
-    return octseq_dns_data_fields(given->octets, given->len, given->offset, given->data_len, given->rtype, given->rclass,
-                                  (octseq_dns_field *)(void *)out, room, written);
+    return octseq_dns_data_fields(given->octets, given->len, given->offset, given->data_len, given->rtype,
+                                  given->rclass, (octseq_dns_field *)(void *)out, room, written);
 }
 
 static inline uint32_t rtype_text(const struct given *given, uint8_t *out, size_t room, size_t *written) {
